@@ -1,4 +1,4 @@
-// A counted loop of about 10^8 instructions: 33,333,333 turns of three.
+// A counted loop of about 10^8 instructions: 33,333,333 iterations of three.
         .global _start
 _start: mov     x0, #0
         movz    x1, #0xa055

@@ -13,13 +13,13 @@ use Rattle.kernel_meaning.specs.Operators.{word}
 use Rattle.kernel_meaning.specs.Eval.{byte_count}
 use Rattle.machine_model.specs.InstructionTable.{Listed}
 use Rattle.machine_model.specs.Machine.{State}
-use Rattle.label_fix.specs.DraftRun.{Entry, Laid}
+use Rattle.label_fix.specs.DraftRun.{DraftEntry, Laid}
 use Rattle.vector_order.specs.Orders.{Lane, Lanes, Act, Out, go_on, column}
-use Rattle.loop_form.specs.declared.loop_item.Source.{Source}
-use Rattle.loop_form.specs.declared.loop_item.Source.TheVariants.{Outer, Made}
-use Rattle.vector_order.specs.Operands.{nth_value, source_value, with_value}
+use Rattle.loop_form.specs.declared.loop_item.Operand.{Operand}
+use Rattle.loop_form.specs.declared.loop_item.Operand.TheVariants.{Outer, Made}
+use Rattle.vector_order.specs.Operands.{nth_value, operand_value, with_value}
 use Rattle.vector_order.proofs.LaneValues.{value_same, value_other}
-use Rattle.loop_form.specs.LoopItems.{Cast, Store}
+use Rattle.loop_form.specs.LoopItems as ops
 use Rattle.vector_order.specs.Items.{item_act}
 use Rattle.lane_emit.specs.ItemCode.{operand, mask_register}
 use Rattle.lane_emit.proofs.Residues.{held}
@@ -50,13 +50,7 @@ own_width ty.U64 = D
 
 own_bits : (t : Ty) → bits_of t ≡ width_bits (own_width t)
 own_bits ty.I8 = refl
-own_bits ty.U8 = refl
-own_bits ty.I16 = refl
-own_bits ty.U16 = refl
-own_bits ty.I32 = refl
-own_bits ty.U32 = refl
-own_bits ty.I64 = refl
-own_bits ty.U64 = refl
+own_bits other = refl
 
 -- the low bytes of a value are those of the value at the type
 stored-wrap : (t : Ty) (w : Width) (m : Memory) (a : ℕ) (z : ℤ) → bits_of t ≤ width_bits w → stored m a (byte_count t) (word (wrap t z)) ≡ stored m a (byte_count t) (held w z)
@@ -151,27 +145,27 @@ module _ (l : Layout) (q : ℕ) where
       sums = λ x is. let old = h.sums x is in record { before = old.before; alike = old.alike; typed = old.typed; holds = old.holds };
     }
 
-does_again : {l : Layout} {q : ℕ} {f : Setting} {d : Laid} {c rest : List Entry} {s : State} {p most : ℕ} {out : Out} → q < p → l.z_last_use q < p → Does (without l q) f d c s rest p most out → Does l f d c s rest p most out
+does_again : {l : Layout} {q : ℕ} {f : Setting} {d : Laid} {c rest : List DraftEntry} {s : State} {p most : ℕ} {out : Out} → q < p → l.z_last_use q < p → Does (without l q) f d c s rest p most out → Does l f d c s rest p most out
 does_again {l = l} {q = q} lt dead (does_fine end goes holds) = does_fine end goes (holds_again l q lt dead holds)
 does_again lt dead (does_fail kind access stops) = does_fail kind access stops
 
 -- ---- the two items
 
-module _ (l : Layout) (fit : Assigned l) (f : Setting) (d : Laid) (rest : List Entry) (q p : ℕ) (first second : Option ℕ) (own cast : Ty) (x : Source) (a : List ℕ) (place : ℕ) (t : Ty) (c : ℤ) where
+module _ (l : Layout) (fit : Assigned l) (f : Setting) (d : Laid) (rest : List DraftEntry) (q p : ℕ) (first second : Option ℕ) (own cast : Ty) (x : Operand) (a : List ℕ) (place : ℕ) (t : Ty) (c : ℤ) where
   abbrev cast_act : Act
-  cast_act = item_act f.names (record { item = q; mask = first; op = Cast (Some own) cast x })
+  cast_act = item_act f.names (record { item = q; mask = first; op = ops.Cast (Some own) cast x })
 
   abbrev store_act : Act
-  store_act = item_act f.names (record { item = p; mask = second; op = Store a (Outer place) (Some t) c (Made q) })
+  store_act = item_act f.names (record { item = p; mask = second; op = ops.Store a (Outer place) (Some t) c (Made q) })
 
   abbrev words : List Listed
-  words = op_words f.w l p (mask_register l.registers second) (Store a (Outer place) (Some t) c x)
+  words = op_words f.w l p (mask_register l.registers second) (ops.Store a (Outer place) (Some t) c x)
 
   module _ (mask : FitsMask l q first) (following_mask : FitsMask l p second) (operand_fits : FitsOperand l f.w q own x) (makes : MakesValue l q cast) (low : place < 8) (based : slice_index f.x place ≡ word (nth_value f.names place)) (near : IsNear c) (type_is : l.type (Made q) ≡ t) (wide : bits_of t ≤ width_bits f.w) (none : MakesNothing l p) (lt : q < p) (between : NoneBetween l (q + 1) p) (last : l.z_last_use q ≤ p) where
     abbrev new : ℕ → Lane → Lane
-    new j k = with_value k q (wrap cast (source_value f.names j k x))
+    new j k = with_value k q (wrap cast (operand_value f.names j k x))
 
-    store_part : (lanes u : Lanes) (s : State) → Holds l f q lanes s → u.memory ≡ lanes.memory → ((e : ℕ) → e < f.n → u.lane (f.i + e) ≡ with_value (lanes.lane (f.i + e)) q (wrap cast (source_value f.names (f.i + e) (lanes.lane (f.i + e)) x))) → Does l f d (puts words rest) s rest (p + 1) (length words) (column store_act f.n f.i u)
+    store_part : (lanes u : Lanes) (s : State) → Holds l f q lanes s → u.memory ≡ lanes.memory → ((e : ℕ) → e < f.n → u.lane (f.i + e) ≡ with_value (lanes.lane (f.i + e)) q (wrap cast (operand_value f.names (f.i + e) (lanes.lane (f.i + e)) x))) → Does l f d (puts words rest) s rest (p + 1) (length words) (column store_act f.n f.i u)
     store_part lanes u s h mem here =
         let value_of : (e : ℕ) → ℤ = λ e. wrap cast (operand (chunk_of f lanes) x e) in
         let unused : MakesNothing (without l q) q = (own_use l q, makes.0) in
@@ -197,4 +191,4 @@ module _ (l : Layout) (fit : Assigned l) (f : Setting) (d : Laid) (rest : List E
     parts lanes s h (own_fine u mem here before past) = store_part lanes u s h mem here
 
     pub pair_runs : (lanes : Lanes) (s : State) → Holds l f q lanes s → Does l f d (puts words rest) s rest (p + 1) (length words) (go_on (column cast_act f.n f.i lanes) (column store_act f.n f.i))
-    pair_runs lanes s h = parts lanes s h (pure_column l fit f d rest h first mask (Cast (Some own) cast x) new (λ j m k. refl))
+    pair_runs lanes s h = parts lanes s h (pure_column l fit f d rest h first mask (ops.Cast (Some own) cast x) new (λ j m k. refl))

@@ -10,8 +10,8 @@ use Rattle.kernel_tree.specs.Wrap.{residue}
 use Rattle.machine_model.specs.Machine.{State, x_at, z_at, p_at}
 use Rattle.machine_model.specs.States.{IsState}
 use Rattle.vector_order.specs.Orders.{Lanes}
-use Rattle.loop_form.specs.declared.loop_item.Source.{Source}
-use Rattle.loop_form.specs.declared.loop_item.Source.TheVariants.{Constant, Outer, LoopIndex, Made}
+use Rattle.loop_form.specs.declared.loop_item.Operand.{Operand}
+use Rattle.loop_form.specs.declared.loop_item.Operand.TheVariants.{Constant, Outer, LoopIndex, Made}
 use Rattle.kernel_meaning.specs.Operators.{wrapped}
 use Rattle.lane_emit.proofs.Ranges.{wrap-is_of}
 use Rattle.lane_emit.specs.Right.{IsOf, ZRight, PRight, within}
@@ -40,7 +40,7 @@ pub record Moves (l : Layout) (f : Setting) (p : ℕ) (t : Lanes) (s : State) (u
   pub x : (r : ℕ) → r ≢ 26 → x_at v r ≡ x_at s r
   pub active : p_at v 0 ≡ p_at s 0
   pub all : p_at v 1 ≡ p_at s 1
-  pub held : (x : Source) → l.held x ≡ true → z_at v (l.registers.source x) ≡ z_at s (l.registers.source x)
+  pub held : (x : Operand) → l.held x ≡ true → z_at v (l.registers.source x) ≡ z_at s (l.registers.source x)
   pub kept_z : (q : ℕ) → q < p → p < l.z_last_use q → z_at v (z_of l q) ≡ z_at s (z_of l q)
   pub kept_p : (q : ℕ) → q < p → p < l.p_last_use q → p_at v (p_of l q) ≡ p_at s (p_of l q)
   pub values : (q e : ℕ) → q < p → e < f.n → (u.lane (f.i + e)).value q ≡ (t.lane (f.i + e)).value q
@@ -130,13 +130,13 @@ module _ {l : Layout} {f : Setting} {p : ℕ} {t : Lanes} {s : State} (h : Holds
   mask_right mask k = subst (λ v. PRight f.w (lanes v f.w) (p_at s (mask_register l.registers mask)) (within f.n (mask_of (chunk_of f t) mask))) (sym h.vl) (mask_exact mask k)
 
   module _ (fit : Assigned l) where
-    held_operand : (x : Source) → l.held x ≡ true → ZRight f.w f.n (z_at s (l.registers.source x)) (operand (chunk_of f t) x)
+    held_operand : (x : Operand) → l.held x ≡ true → ZRight f.w f.n (z_at s (l.registers.source x)) (operand (chunk_of f t) x)
     held_operand x is e lt = (h.held x is).right (t.lane (f.i + e)) e (omega (arith, lt, h.few))
 
-    held_typed : (ty : Ty) (x : Source) → l.held x ≡ true → l.type x ≡ ty → AllOf ty f.n (operand (chunk_of f t) x)
+    held_typed : (ty : Ty) (x : Operand) → l.held x ≡ true → l.type x ≡ ty → AllOf ty f.n (operand (chunk_of f t) x)
     held_typed ty x is same e lt = subst (λ k. IsOf k (operand (chunk_of f t) x e)) same ((h.held x is).typed (t.lane (f.i + e)) e lt)
 
-    pub operand_right : (ty : Ty) (x : Source) → FitsOperand l f.w p ty x → OperandRight (chunk_of f t) l.registers s ty x
+    pub operand_right : (ty : Ty) (x : Operand) → FitsOperand l f.w p ty x → OperandRight (chunk_of f t) l.registers s ty x
     operand_right ty (Constant u z) k = record {
       number = fit.held_small (Constant u z) k.0.0;
       wide = k.1;

@@ -1,5 +1,5 @@
 -- How many words items have.
-use Rattle.std.proofs.Common.{◌≡◌, ℕ, suc, ◌+◌, ◌≤◌, ℤ, pos, negsuc, zero, Bool, true, false, List, [], ◌∷◌, ◌++◌, length, Option, Some, None, refl, sym, ap, subst, arith}
+use Rattle.std.proofs.Common.{◌≡◌, ℕ, suc, ◌+◌, ◌≤◌, ℤ, pos, zero, Bool, true, false, List, [], ◌∷◌, ◌++◌, length, Option, Some, None, refl, sym, ap, subst, arith}
 use Rattle.std.specs.Prelude.{if◌then◌else◌, nat_eq}
 use Rattle.std.proofs.lemmas.List.{length-append}
 use Rattle.guest_types.specs.declared.length.Width.{Width}
@@ -14,10 +14,11 @@ use Rattle.kernel_tree.specs.declared.ops.CompareOp.TheVariants as compare
 use Rattle.kernel_tree.specs.Wrap.{is_signed}
 use Rattle.sve_code.specs.Table.{Name, m_abs, m_mul}
 use Rattle.machine_model.specs.InstructionTable.{Listed}
-use Rattle.loop_form.specs.LoopItems.{Op, Load, Gather, Apply, Combine, Move, Cast, Copy, Pick, Store, Add, Test, Invert, Same, Any, Quit, Item}
+use Rattle.loop_form.specs.LoopItems.{Op, Item}
+use Rattle.loop_form.specs.LoopItems as ops
 use Rattle.close_bound.specs.CloseBound.{offset_steps, lane_steps, items_steps}
 use Rattle.lane_emit.specs.Right.{fits}
-use Rattle.lane_emit.specs.Stretch.{Word, word}
+use Rattle.lane_emit.specs.Stretch.{VectorInstruction, word}
 use Rattle.lane_emit.specs.LaneCode.{size_of, least_name, greatest_name, unary_leaves, binary_leaves, z_copy, extension, z_extend, z_settle, unary_code, merged, binary_code, shift_by, cast_code, test_code}
 use Rattle.lane_emit.specs.ItemCode.{Registers, op_code, mask_register}
 use Rattle.chunk_emit.specs.Registers.{Layout, z_of, base_of}
@@ -28,7 +29,7 @@ either_few : {A : Type 0} (b : Bool) (xs ys : List A) (n : ℕ) → length xs �
 either_few true xs ys n h k = h
 either_few false xs ys n h k = k
 
-copy_few : (d a n : ℕ) (rest : List Word) → length rest ≤ n → length (z_copy d a rest) ≤ suc n
+copy_few : (d a n : ℕ) (rest : List VectorInstruction) → length rest ≤ n → length (z_copy d a rest) ≤ suc n
 copy_few d a n rest h = either_few (nat_eq d a) _ _ (suc n) (omega (arith, h)) (omega (arith, h))
 
 extension_few : (t : Ty) (w : Width) (d a : ℕ) → length (extension t w d a) ≤ 1
@@ -48,7 +49,7 @@ settle_few : (b : Bool) (w : Width) (t : Ty) (d : ℕ) → length (z_settle b w 
 settle_few true w t d = extend_few w t d d
 settle_few false w t d = omega arith
 
-at_most : (n k : ℕ) (xs : List Word) → length xs ≤ n → n ≤ k → length xs ≤ k
+at_most : (n k : ℕ) (xs : List VectorInstruction) → length xs ≤ n → n ≤ k → length xs ≤ k
 at_most n k xs h le = omega (arith, h, le)
 
 unary_few : (w : Width) (op : UnaryOp) (t : Ty) (d a : ℕ) → length (unary_code w op t d a) ≤ 2
@@ -58,7 +59,7 @@ unary_few w unary.Abs t d a =
     let h = settle_few (unary_leaves unary.Abs t) w t d in
     either_few (is_signed t) (word m_abs (d ∷ a ∷ 1 ∷ size_of w ∷ []) ∷ z_settle (unary_leaves unary.Abs t) w t d) (z_copy d a []) 2 (omega (arith, h)) (at_most 1 2 (z_copy d a []) (copy_few d a 0 [] (omega arith)) (omega arith))
 
-merged_few : (w : Width) (name : Name) (d a b : ℕ) (rest : List Word) → length rest ≤ 1 → length (merged w name d a b rest) ≤ 3
+merged_few : (w : Width) (name : Name) (d a b : ℕ) (rest : List VectorInstruction) → length rest ≤ 1 → length (merged w name d a b rest) ≤ 3
 merged_few w name d a b rest h =
     let second = word name (d ∷ b ∷ 1 ∷ size_of w ∷ []) ∷ rest in
     either_few (nat_eq d b) (word name (d ∷ a ∷ 1 ∷ size_of w ∷ []) ∷ rest) (z_copy d a second) 3 (omega (arith, h)) (copy_few d a 2 second (omega (arith, h)))
@@ -82,43 +83,26 @@ cast_few w s t d a = either_few (fits s t) (z_copy d a []) (z_extend w t d a) 1 
 
 test_few : (w : Width) (op : CompareOp) (t : Ty) (d m a b : ℕ) → length (test_code w op t d m a b) ≤ 1
 test_few w compare.Eq t d m a b = omega arith
-test_few w compare.Ne t d m a b = omega arith
-test_few w compare.Lt t d m a b = omega arith
-test_few w compare.Le t d m a b = omega arith
-test_few w compare.Gt t d m a b = omega arith
-test_few w compare.Ge t d m a b = omega arith
+test_few w other t d m a b = omega arith
 
 -- the code of an operation that is none of a read, a store, an update and a break
 op_few : (w : Width) (r : Registers) (q m : ℕ) (op : Op) → length (op_code w r q m op) ≤ lane_steps op
-op_few w r q m (Apply op (Some t) x) = unary_few w op t (r.z q) (r.source x)
-op_few w r q m (Combine op (Some t) x y) = binary_few w op t (r.z q) (r.source x) (r.source y)
-op_few w r q m (Move left k (Some t) x) = shift_few w left _ t (r.z q) (r.source x)
-op_few w r q m (Cast (Some t) to x) = cast_few w t to (r.z q) (r.source x)
-op_few w r q m (Copy t x) = copy_few (r.z q) (r.source x) 0 [] (omega arith)
-op_few w r q m (Pick t c x y) = omega arith
-op_few w r q m (Test op (Some t) x y) = test_few w op t (r.p q) m (r.source x) (r.source y)
-op_few w r q m (Invert c) = omega arith
-op_few w r q m (Same c) = omega arith
-op_few w r q m (Any c d) = omega arith
-op_few w r q m (Apply op None x) = omega arith
-op_few w r q m (Combine op None x y) = omega arith
-op_few w r q m (Move left k None x) = omega arith
-op_few w r q m (Cast None to x) = omega arith
-op_few w r q m (Test op None x y) = omega arith
-op_few w r q m (Load a base t c) = omega arith
-op_few w r q m (Gather a base t c u x) = omega arith
-op_few w r q m (Store a base t c v) = omega arith
-op_few w r q m (Add x op t v) = omega arith
-op_few w r q m (Quit c) = omega arith
+op_few w r q m (ops.Unary op (Some t) x) = unary_few w op t (r.z q) (r.source x)
+op_few w r q m (ops.Binary op (Some t) x y) = binary_few w op t (r.z q) (r.source x) (r.source y)
+op_few w r q m (ops.Shift left k (Some t) x) = shift_few w left _ t (r.z q) (r.source x)
+op_few w r q m (ops.Cast (Some t) to x) = cast_few w t to (r.z q) (r.source x)
+op_few w r q m (ops.Let t x) = copy_few (r.z q) (r.source x) 0 [] (omega arith)
+op_few w r q m (ops.Select t c x y) = omega arith
+op_few w r q m (ops.Compare op (Some t) x y) = test_few w op t (r.p q) m (r.source x) (r.source y)
+op_few w r q m other = omega arith
 
 -- ---- items
 
 index_few : (c : ℤ) (v : Listed) → length (with_index c (v ∷ [])) ≤ 1 + offset_steps c
 index_few (pos zero) v = omega arith
-index_few (pos (suc k)) v = omega arith
-index_few (negsuc k) v = omega arith
+index_few other v = omega arith
 
-vectors-length : (vs : List Word) → length (vectors vs) ≡ length vs
+vectors-length : (vs : List VectorInstruction) → length (vectors vs) ≡ length vs
 vectors-length [] = refl
 vectors-length (v ∷ vs) = ap suc (vectors-length vs)
 
@@ -135,26 +119,26 @@ gather_few None t d m base index = let few = gather_by_few (memory_size t) t d m
 gather_few (Some n) t d m base index = let few = gather_by_few (memory_size t) t d m base d in omega (arith, few)
 
 words_few : (w : Width) (l : Layout) (q m : ℕ) (op : Op) → length (op_words w l q m op) ≤ lane_steps op
-words_few w l q m (Load a base (Some t) c) = index_few c _
-words_few w l q m (Load a base None c) = used_few w l q m (Load a base None c) _
-words_few w l q m (Gather a base (Some t) c (Some u) x) = gather_few (cut_reach c u) t (z_of l q) m (base_of base) (l.registers.source x)
-words_few w l q m (Gather a base (Some t) c None x) = used_few w l q m (Gather a base (Some t) c None x) _
-words_few w l q m (Gather a base None c u x) = used_few w l q m (Gather a base None c u x) _
-words_few w l q m (Apply op t x) = used_few w l q m (Apply op t x) _
-words_few w l q m (Combine op t x y) = used_few w l q m (Combine op t x y) _
-words_few w l q m (Move left k t x) = used_few w l q m (Move left k t x) _
-words_few w l q m (Cast s t x) = used_few w l q m (Cast s t x) _
-words_few w l q m (Copy t x) = used_few w l q m (Copy t x) _
-words_few w l q m (Pick t c x y) = used_few w l q m (Pick t c x y) _
-words_few w l q m (Store a base (Some t) c v) = index_few c _
-words_few w l q m (Store a base None c v) = used_few w l q m (Store a base None c v) _
-words_few w l q m (Add x op (Some t) v) = omega arith
-words_few w l q m (Add x op None v) = used_few w l q m (Add x op None v) _
-words_few w l q m (Test op t x y) = used_few w l q m (Test op t x y) _
-words_few w l q m (Invert c) = used_few w l q m (Invert c) _
-words_few w l q m (Same c) = used_few w l q m (Same c) _
-words_few w l q m (Any c d) = used_few w l q m (Any c d) _
-words_few w l q m (Quit c) = used_few w l q m (Quit c) _
+words_few w l q m (ops.Load a base (Some t) c) = index_few c _
+words_few w l q m (ops.Load a base None c) = used_few w l q m (ops.Load a base None c) _
+words_few w l q m (ops.Gather a base (Some t) c (Some u) x) = gather_few (cut_reach c u) t (z_of l q) m (base_of base) (l.registers.source x)
+words_few w l q m (ops.Gather a base (Some t) c None x) = used_few w l q m (ops.Gather a base (Some t) c None x) _
+words_few w l q m (ops.Gather a base None c u x) = used_few w l q m (ops.Gather a base None c u x) _
+words_few w l q m (ops.Unary op t x) = used_few w l q m (ops.Unary op t x) _
+words_few w l q m (ops.Binary op t x y) = used_few w l q m (ops.Binary op t x y) _
+words_few w l q m (ops.Shift left k t x) = used_few w l q m (ops.Shift left k t x) _
+words_few w l q m (ops.Cast s t x) = used_few w l q m (ops.Cast s t x) _
+words_few w l q m (ops.Let t x) = used_few w l q m (ops.Let t x) _
+words_few w l q m (ops.Select t c x y) = used_few w l q m (ops.Select t c x y) _
+words_few w l q m (ops.Store a base (Some t) c v) = index_few c _
+words_few w l q m (ops.Store a base None c v) = used_few w l q m (ops.Store a base None c v) _
+words_few w l q m (ops.Update x op (Some t) v) = omega arith
+words_few w l q m (ops.Update x op None v) = used_few w l q m (ops.Update x op None v) _
+words_few w l q m (ops.Compare op t x y) = used_few w l q m (ops.Compare op t x y) _
+words_few w l q m (ops.Not c) = used_few w l q m (ops.Not c) _
+words_few w l q m (ops.And c) = used_few w l q m (ops.And c) _
+words_few w l q m (ops.Or c d) = used_few w l q m (ops.Or c d) _
+words_few w l q m (ops.Break c) = used_few w l q m (ops.Break c) _
 
 -- a store has as many words, whatever it takes from a cast
 abbrev steps_if : Option Op → ℕ
@@ -162,9 +146,9 @@ steps_if None = 0
 steps_if (Some op) = lane_steps op
 
 past_few : (q : ℕ) (op next : Op) → steps_if (past_cast q op next) ≤ lane_steps next
-past_few q (Cast s t x) (Store a base ty c v) = by (is_made q v)
+past_few q (ops.Cast s t x) (ops.Store a base ty c v) = by (is_made q v)
   where
-    by : (b : Bool) → steps_if (if b then Some (Store a base ty c x) else None) ≤ 1 + offset_steps c
+    by : (b : Bool) → steps_if (if b then Some (ops.Store a base ty c x) else None) ≤ 1 + offset_steps c
     by true = omega arith
     by false = omega arith
 past_few q _ _ = omega arith

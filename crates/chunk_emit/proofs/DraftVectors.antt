@@ -2,17 +2,17 @@
 use Rattle.std.proofs.Common.{◌≡◌, ℕ, suc, List, [], ◌∷◌, length, refl, subst, arith}
 use Rattle.machine_model.specs.Machine.{State, Step, Went, Ended, Stopped}
 use Rattle.machine_model.specs.VectorEffects.{do_vector}
-use Rattle.label_fix.specs.DraftRun.{Entry, Laid}
+use Rattle.label_fix.specs.DraftRun.{DraftEntry, Laid}
 use Rattle.label_fix.specs.Stretches.{Goes}
 use Rattle.label_fix.proofs.StretchSteps.{stay, put_goes, chain}
-use Rattle.lane_emit.specs.Stretch.{Word, and_then, do_all}
+use Rattle.lane_emit.specs.Stretch.{VectorInstruction, and_then, do_all}
 use Rattle.chunk_emit.specs.ChunkCode.{vectors, puts}
 
-went_same : {d : Laid} {c e : List Entry} {s t u : State} {most : ℕ} → Went t ≡ Went u → Goes d c s e t most → Goes d c s e u most
+went_same : {d : Laid} {c e : List DraftEntry} {s t u : State} {most : ℕ} → Went t ≡ Went u → Goes d c s e t most → Goes d c s e u most
 went_same {d = d} {c = c} {e = e} {s = s} {t = t} {u = u} {most = most} h g = let same : t ≡ u = cc in subst (λ x. Goes d c s e x most) same g
 
 -- a stretch of vector code that goes through
-pub do_goes : {d : Laid} {rest : List Entry} (c : List Word) (s t : State) → do_all c s ≡ Went t → Goes d (puts (vectors c) rest) s rest t (length (vectors c))
+pub do_goes : {d : Laid} {rest : List DraftEntry} (c : List VectorInstruction) (s t : State) → do_all c s ≡ Went t → Goes d (puts (vectors c) rest) s rest t (length (vectors c))
 do_goes [] s t h = went_same h (stay 0)
 do_goes {d = d} {rest = rest} (v ∷ vs) s t h = by (do_vector v s) refl h (λ u k. do_goes vs u t k)
   where

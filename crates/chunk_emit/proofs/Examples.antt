@@ -10,9 +10,10 @@ use Rattle.kernel_tree.proofs.Names.{bytes_told, bytes_same}
 use Rattle.kernel_meaning.specs.Iterate.{named}
 use Rattle.sve_code.specs.Table.{ld1, st1, cmpne, m_smin, m_add, z_add, z_orr}
 use Rattle.machine_model.specs.InstructionTable.{Scalar, Vector}
-use Rattle.loop_form.specs.declared.loop_item.Source.{Source}
-use Rattle.loop_form.specs.declared.loop_item.Source.TheVariants.{Constant, Outer, LoopIndex, Made}
-use Rattle.loop_form.specs.LoopItems.{Item, item, Load, Combine, Cast, Store, Add, Test}
+use Rattle.loop_form.specs.declared.loop_item.Operand.{Operand}
+use Rattle.loop_form.specs.declared.loop_item.Operand.TheVariants.{Constant, Outer, LoopIndex, Made}
+use Rattle.loop_form.specs.LoopItems.{Item, item}
+use Rattle.loop_form.specs.LoopItems as ops
 use Rattle.lane_emit.specs.Stretch.{word}
 use Rattle.chunk_emit.specs.Registers.{Layout}
 use Rattle.chunk_emit.specs.ChunkCode.{items_words}
@@ -24,7 +25,7 @@ use Rattle.kernel_tree.specs.declared.ops.CompareOp.TheVariants as compare
 use Rattle.kernel_tree.specs.declared.ops.UpdateOp.TheVariants as update
 use Rattle.a64_code.specs.Table as a64
 
-abbrev one : Source
+abbrev one : Operand
 one = Constant (Some ty.I32) (pos 1)
 
 abbrev c : List ℕ
@@ -32,42 +33,40 @@ c = 99 ∷ []
 
 abbrev items : List Item
 items =
-    item 1 None (Load (97 ∷ []) (Outer 0) (Some ty.U8) (pos 0))
-    ∷ item 3 None (Test compare.Ne (Some ty.U8) (Made 1) (Constant (Some ty.U8) (pos 0)))
-    ∷ item 6 (Some 3) (Load (97 ∷ []) (Outer 0) (Some ty.U8) (pos 0))
-    ∷ item 7 (Some 3) (Cast (Some ty.U8) ty.I32 (Made 6))
-    ∷ item 9 (Some 3) (Combine binary.Min (Some ty.I32) (Made 7) (Constant (Some ty.I32) (pos 7)))
-    ∷ item 10 (Some 3) (Store (98 ∷ []) (Outer 1) (Some ty.I32) (negsuc 0) (Made 9))
-    ∷ item 12 (Some 3) (Load (98 ∷ []) (Outer 1) (Some ty.I32) (pos 0))
-    ∷ item 13 (Some 3) (Add c update.Add (Some ty.I32) (Made 12))
-    ∷ item 15 (Some 3) (Load (98 ∷ []) (Outer 1) (Some ty.I32) (pos 0))
-    ∷ item 17 (Some 3) (Combine binary.Add (Some ty.I32) (Made 15) one)
-    ∷ item 18 (Some 3) (Cast (Some ty.I32) ty.I8 (Made 17))
-    ∷ item 19 (Some 3) (Store (100 ∷ []) (Outer 2) (Some ty.I8) (pos 0) (Made 18))
+    item 1 None (ops.Load (97 ∷ []) (Outer 0) (Some ty.U8) (pos 0))
+    ∷ item 3 None (ops.Compare compare.Ne (Some ty.U8) (Made 1) (Constant (Some ty.U8) (pos 0)))
+    ∷ item 6 (Some 3) (ops.Load (97 ∷ []) (Outer 0) (Some ty.U8) (pos 0))
+    ∷ item 7 (Some 3) (ops.Cast (Some ty.U8) ty.I32 (Made 6))
+    ∷ item 9 (Some 3) (ops.Binary binary.Min (Some ty.I32) (Made 7) (Constant (Some ty.I32) (pos 7)))
+    ∷ item 10 (Some 3) (ops.Store (98 ∷ []) (Outer 1) (Some ty.I32) (negsuc 0) (Made 9))
+    ∷ item 12 (Some 3) (ops.Load (98 ∷ []) (Outer 1) (Some ty.I32) (pos 0))
+    ∷ item 13 (Some 3) (ops.Update c update.Add (Some ty.I32) (Made 12))
+    ∷ item 15 (Some 3) (ops.Load (98 ∷ []) (Outer 1) (Some ty.I32) (pos 0))
+    ∷ item 17 (Some 3) (ops.Binary binary.Add (Some ty.I32) (Made 15) one)
+    ∷ item 18 (Some 3) (ops.Cast (Some ty.I32) ty.I8 (Made 17))
+    ∷ item 19 (Some 3) (ops.Store (100 ∷ []) (Outer 2) (Some ty.I8) (pos 0) (Made 18))
     ∷ []
 
 -- Z0 to Z2 hold 0, 7 and 1, Z3 the sum, and the register of each item's value is four more than its number
 abbrev own : ℕ → ℕ
 own q = 4 + min q 20
 
-abbrev register : Source → ℕ
+abbrev register : Operand → ℕ
 register (Constant t (pos n)) = if nat_eq n 7 then 1 else if nat_eq n 1 then 2 else 0
 register (Constant t (negsuc n)) = 0
 register (Outer p) = 31
 register LoopIndex = 31
 register (Made q) = own q
 
-abbrev is_held : Source → Bool
+abbrev is_held : Operand → Bool
 is_held (Constant t z) = true
-is_held (Outer p) = false
-is_held LoopIndex = false
-is_held (Made q) = false
+is_held other = false
 
 -- by item
 abbrev types : ℕ → Ty
 types q = if nat_eq q 1 || nat_eq q 6 then ty.U8 else if nat_eq q 18 then ty.I8 else ty.I32
 
-abbrev type_of : Source → Ty
+abbrev type_of : Operand → Ty
 type_of (Constant t z) = ty.I32
 type_of (Outer p) = ty.I32
 type_of LoopIndex = ty.U64
@@ -132,7 +131,7 @@ own_apart p q lt le e = absurd (omega (arith, lt, le, e))
 own_low : (q : ℕ) (z : ℕ) → z ≤ 3 → own q ≢ z
 own_low q z le e = absurd (omega (arith, le, e))
 
-held_low : (x : Source) → is_held x ≡ true → register x ≤ 2
+held_low : (x : Operand) → is_held x ≡ true → register x ≤ 2
 held_low (Constant t (pos n)) h = either (nat_eq n 7) (nat_eq n 1)
   where
     either : (a b : Bool) → (if a then 1 else if b then 2 else 0) ≤ 2
@@ -140,9 +139,7 @@ held_low (Constant t (pos n)) h = either (nat_eq n 7) (nat_eq n 1)
     either false true = omega arith
     either false false = omega arith
 held_low (Constant t (negsuc n)) h = omega arith
-held_low (Outer p) h = absurd cc
-held_low LoopIndex h = absurd cc
-held_low (Made q) h = absurd cc
+held_low other h = absurd cc
 
 late : (p : ℕ) → 3 < p → slice_index truth_uses p ≡ 0
 late zero lt = absurd (omega (arith, lt))

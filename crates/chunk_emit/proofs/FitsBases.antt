@@ -2,7 +2,7 @@
 use Rattle.std.proofs.Common.{◌≡◌, ℕ, zero, suc, ◌<◌, ◌≤◌, List, [], ◌∷◌, length, Some, arith}
 use Rattle.kernel_tree.specs.declared.ops.Ty.{Ty}
 use Rattle.kernel_tree.specs.Plain.{Parameter, Program}
-use Rattle.loop_form.specs.declared.loop_item.Source.TheVariants.{Outer}
+use Rattle.loop_form.specs.declared.loop_item.Operand.TheVariants.{Outer}
 use Rattle.loop_form.specs.Streams.{type_of_place}
 use Rattle.chunk_emit.specs.Chunk.{Setting}
 use Rattle.chunk_emit.specs.Fits.{FitsBase}

@@ -13,8 +13,8 @@ use Rattle.kernel_tree.proofs.Names.{bytes_told, bytes_same}
 use Rattle.kernel_tree.proofs.NoFault.{no_mismatch}
 use Rattle.reg_assign.specs.declared.interval.RegClass.{RegClass}
 use Rattle.reg_assign.specs.declared.interval.RegClass.TheVariants.{Z, P}
-use Rattle.loop_form.specs.declared.loop_item.Source.TheVariants.{Constant, Outer, LoopIndex}
-use Rattle.loop_form.specs.Entries.{Content, IsLiteral, IsName, IsRead, IsLet, IsStore, IsUpdate, IsPlain, Entry, entries_of, loop_entries}
+use Rattle.loop_form.specs.declared.loop_item.Operand.TheVariants.{Constant, Outer, LoopIndex}
+use Rattle.loop_form.specs.Entries.{Content, IsLiteral, IsName, IsUpdate, Entry, entries_of, loop_entries}
 use Rattle.loop_form.specs.Lanes.{var_type}
 use Rattle.loop_form.specs.Listing.{is_named, names}
 use Rattle.loop_form.specs.Needs.{Throughout, scalar_of, scalars, is_named_scalar, constants, new_constant, is_constant, is_literal, same_type, same_number, index_held, is_update, updates, is_updated, accumulating_of, throughout}
@@ -98,11 +98,7 @@ constant_at before t u n (IsLiteral m) e f =
     subst (λ (o : Option Ty). (list_any (same_as (needs.Constant t n)) (new_constant before o (IsLiteral m)) ≡ true) ⊎ (list_any (is_constant t n) before ≡ true)) (sym (same_type-told u t e))
     (subst (λ (i : ℤ). (list_any (same_as (needs.Constant t n)) (new_constant before t (IsLiteral i)) ≡ true) ⊎ (list_any (is_constant t n) before ≡ true)) (sym (same_number-told m n f)) (constant_here before t n))
 constant_at before t u n (IsName x) e f = absurd cc
-constant_at before t u n (IsRead a i) e f = absurd cc
-constant_at before t u n (IsLet x) e f = absurd cc
-constant_at before t u n (IsStore a i) e f = absurd cc
-constant_at before t u n (IsUpdate x op) e f = absurd cc
-constant_at before t u n (IsPlain k) e f = absurd cc
+constant_at before t u n other e f = absurd cc
 
 -- a literal among some items is among the constants, or stands before them
 constant_held : (before es : List Entry) (t : Option Ty) (n : ℤ) → list_any (is_constant t n) es ≡ true → (list_any (same_as (needs.Constant t n)) (constants before es) ≡ true) ⊎ (list_any (is_constant t n) before ≡ true)
@@ -249,10 +245,7 @@ content_given k t (IsName x) xs e ys kind is split =
     let named : list_any (names x) (loop_entries k) ≡ true = ap (list_any (names x)) (sym split) ∙ any_here (names x) xs e ys (ap (is_named x) is ∙ bytes_same x) in
     ((λ p u h. scalar_held k p x u h named), (λ h. index_is_held k x h named))
 content_given k t (IsUpdate x op) xs e ys kind is split = λ u h. sum_is_held k x u h (ap (list_any (updates x)) (sym split) ∙ any_here (updates x) xs e ys (ap (is_update x) is ∙ bytes_same x))
-content_given k t (IsRead a i) xs e ys kind is split = tt
-content_given k t (IsLet x) xs e ys kind is split = tt
-content_given k t (IsStore a i) xs e ys kind is split = tt
-content_given k t (IsPlain c) xs e ys kind is split = tt
+content_given k t other xs e ys kind is split = tt
 
 rest_give : (k : Program) (xs es : List Entry) → xs ++ es ≡ loop_entries k → Numbered (loop_start k + length xs) es → AllGive k es
 rest_give k xs [] split h = tt

@@ -9,7 +9,7 @@ use Rattle.kernel_tree.specs.Items.{size_of, loop_start}
 use Rattle.reg_assign.specs.declared.interval.Interval.{Interval}
 use Rattle.reg_assign.specs.declared.interval.RegClass.{RegClass}
 use Rattle.reg_assign.specs.declared.interval.RegClass.TheVariants.{Z, P, X}
-use Rattle.loop_form.specs.Entries.{Entry, entries_of, turns_entries, loop_entries}
+use Rattle.loop_form.specs.Entries.{Entry, entries_of, for_loop_entries, loop_entries}
 use Rattle.loop_form.specs.Listing.{last_use_in}
 use Rattle.loop_form.specs.Needs.{throughout, span, spans_of, counted, intervals}
 use Rattle.loop_form.specs.Numbers.{Numbered}
@@ -74,15 +74,15 @@ pub record IsPlaced (k : Program) (class : RegClass) (q : ℕ) : Type 0 where
 
 -- the number 0 is that of `for`, which makes nothing
 pub first_nothing : (k : Program) (class : RegClass) → OfVectors class → slice_index (map (last_in class (entries_of k)) (loop_entries k)) 0 ≡ 0
-first_nothing k Z of_z = by k.turns
+first_nothing k Z of_z = by k.for_loop
   where
-    by : (o : Option PlainLoop) → slice_index (map (last_in Z (entries_of k)) (turns_entries k (loop_start k) o)) 0 ≡ 0
+    by : (o : Option PlainLoop) → slice_index (map (last_in Z (entries_of k)) (for_loop_entries k (loop_start k) o)) 0 ≡ 0
     by None = refl
     by (Some l) = refl
 first_nothing k X c = elim c [ ]
-first_nothing k P of_p = by k.turns
+first_nothing k P of_p = by k.for_loop
   where
-    by : (o : Option PlainLoop) → slice_index (map (last_in P (entries_of k)) (turns_entries k (loop_start k) o)) 0 ≡ 0
+    by : (o : Option PlainLoop) → slice_index (map (last_in P (entries_of k)) (for_loop_entries k (loop_start k) o)) 0 ≡ 0
     by None = refl
     by (Some l) = refl
 

@@ -8,8 +8,8 @@ use Rattle.kernel_tree.specs.Plain.{Term, Literal, Variable, Element, Unary, Ope
 use Rattle.kernel_tree.specs.Items.{stream_offset, index_size, index_items, term_size, action_size, block_size, otherwise_size, loop_start}
 use Rattle.kernel_tree.specs.Typing.{Scope, own, first, index_type, side_type, after_action, after_block, left, in_loop, var_scope, array_type}
 use Rattle.kernel_tree.proofs.Scopes.{index_after}
-use Rattle.loop_form.specs.declared.loop_item.Source.{Source}
-use Rattle.loop_form.specs.LoopItems.{Bound, Item, accumulator_of, truth_home, load_item, store_item, term_items, cond_items, after_env, quit_items, leave_items, action_items, block_items, otherwise_items, loop_env, loop_items}
+use Rattle.loop_form.specs.declared.loop_item.Operand.{Operand}
+use Rattle.loop_form.specs.LoopItems.{Bound, Item, accumulator_of, truth_home, load_item, store_item, term_items, cond_items, after_env, break_items, leave_items, action_items, block_items, otherwise_items, loop_env, loop_items}
 use Rattle.lane_emit.specs.ItemCode.{made_type, makes_truth}
 use Rattle.chunk_emit.specs.KernelLayout.{type_in, tests_in}
 
@@ -29,7 +29,7 @@ load_ascends : (scope : Scope) (mask : Option ℕ) (p q n : ℕ) (env : List Bou
 load_ascends scope mask p q n env a None gathered rest le lt g h = g refl
 load_ascends scope mask p q n env a (Some c) gathered rest le lt g h = step p q n rest le lt h
 
-store_ascends : (scope : Scope) (mask : Option ℕ) (p q n : ℕ) (env : List Bound) (a : List ℕ) (o : Option ℤ) (v : Source) (rest : List Item) → p ≤ q → q + 1 ≤ n → Ascends n rest → Ascends p (store_item scope mask q env a o v rest)
+store_ascends : (scope : Scope) (mask : Option ℕ) (p q n : ℕ) (env : List Bound) (a : List ℕ) (o : Option ℤ) (v : Operand) (rest : List Item) → p ≤ q → q + 1 ≤ n → Ascends n rest → Ascends p (store_item scope mask q env a o v rest)
 store_ascends scope mask p q n env a None v rest le lt h = sooner p n rest (omega (arith, le, lt)) h
 store_ascends scope mask p q n env a (Some c) v rest le lt h = step p q n rest le lt h
 
@@ -88,14 +88,14 @@ term_ascends (Not e) = record {
 
 -- ---- statements
 
-quit_ascends : (c : Term) (s : Scope) (mask : Option ℕ) (b : ℕ) (env : List Bound) (rest : List Item) → Ascends (b + (term_size s.index c + 1)) rest → Ascends b (quit_items s mask b env c rest)
-quit_ascends c s mask b env rest h = (term_ascends c).as_cond s mask b env _ (step _ _ (b + (term_size s.index c + 1)) rest (omega arith) (omega arith) h)
+break_ascends : (c : Term) (s : Scope) (mask : Option ℕ) (b : ℕ) (env : List Bound) (rest : List Item) → Ascends (b + (term_size s.index c + 1)) rest → Ascends b (break_items s mask b env c rest)
+break_ascends c s mask b env rest h = (term_ascends c).as_cond s mask b env _ (step _ _ (b + (term_size s.index c + 1)) rest (omega arith) (omega arith) h)
 
 leave_ascends : (c : Term) (s : Scope) (mask : Option ℕ) (b : ℕ) (env : List Bound) (rest : List Item) → Ascends (b + (term_size s.index c + 1)) rest → Ascends b (leave_items s mask b env c rest)
 leave_ascends (Either x y) s mask b env rest h =
     let next = b + term_size s.index x + 1 in
-    leave_ascends x s mask b env _ (sooner (b + (term_size s.index x + 1)) next _ (omega arith) (quit_ascends y s mask next env rest (sooner (next + (term_size s.index y + 1)) (b + (term_size s.index (Either x y) + 1)) rest (omega arith) h)))
-leave_ascends c s mask b env rest h = quit_ascends c s mask b env rest h
+    leave_ascends x s mask b env _ (sooner (b + (term_size s.index x + 1)) next _ (omega arith) (break_ascends y s mask next env rest (sooner (next + (term_size s.index y + 1)) (b + (term_size s.index (Either x y) + 1)) rest (omega arith) h)))
+leave_ascends c s mask b env rest h = break_ascends c s mask b env rest h
 
 mutual
   action_ascends : (a : Action) (s : Scope) (mask : Option ℕ) (b : ℕ) (env : List Bound) (rest : List Item) → Ascends (b + action_size s.index a) rest → Ascends b (action_items s mask b env a rest)

@@ -1,6 +1,7 @@
 -- What fits a list of items fits each part of it.
 use Rattle.std.proofs.Common.{ℕ, ◌+◌, List, [], ◌∷◌, ◌++◌}
-use Rattle.loop_form.specs.LoopItems.{Op, Load, Gather, Apply, Combine, Move, Cast, Copy, Pick, Store, Add, Test, Invert, Same, Any, Quit, Item}
+use Rattle.loop_form.specs.LoopItems.{Op, Item}
+use Rattle.loop_form.specs.LoopItems as ops
 use Rattle.chunk_emit.specs.Registers.{Layout}
 use Rattle.chunk_emit.specs.Chunk.{Setting}
 use Rattle.chunk_emit.specs.Fits.{FitsOp, FitsCast, FitsItems, following_items}
@@ -20,21 +21,8 @@ second_part l f p [] ys h = h
 second_part l f p (x ∷ xs) ys h = second_part l f (x.item + 1) xs ys h.5
 
 step_fits : (l : Layout) (f : Setting) (p : ℕ) (op : Op) → IsNoBreak op → FitsStep l f p op → FitsOp l f p op
-step_fits l f p (Quit c) n h = elim n [ ]
-step_fits l f p (Load a base t c) n h = h
-step_fits l f p (Gather a base t r u x) n h = h
-step_fits l f p (Apply op t x) n h = h
-step_fits l f p (Combine op t x y) n h = h
-step_fits l f p (Move left k t x) n h = h
-step_fits l f p (Cast s t x) n h = h
-step_fits l f p (Copy t x) n h = h
-step_fits l f p (Pick t c x y) n h = h
-step_fits l f p (Store a base t c v) n h = h
-step_fits l f p (Add x op t v) n h = h
-step_fits l f p (Test op t x y) n h = h
-step_fits l f p (Invert c) n h = h
-step_fits l f p (Same c) n h = h
-step_fits l f p (Any c d) n h = h
+step_fits l f p (ops.Break c) n h = elim n [ ]
+step_fits l f p other n h = h
 
 -- without a break
 pub items_fit : (l : Layout) (f : Setting) (p : ℕ) (items : List Item) → AreNoBreaks items → FitsSteps l f p items → FitsItems l f p items

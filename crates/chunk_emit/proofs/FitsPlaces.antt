@@ -5,7 +5,8 @@ use Rattle.kernel_tree.specs.declared.ops.Ty.{Ty}
 use Rattle.kernel_tree.specs.Plain.{Term, Literal, Variable, Element, Unary, Operation, Shift, Conversion, Choice, Comparison, Both, Either, Not}
 use Rattle.kernel_tree.specs.Items.{stream_offset}
 use Rattle.kernel_tree.specs.Typing.{Scope, own, index_type, side_type}
-use Rattle.loop_form.specs.LoopItems.{Op, Load, Gather, Apply, Combine, Move, Cast, Copy, Pick, Store, Add, Test, Invert, Same, Any, Quit, Item, item, Bound, truth_home, load_item, term_items, cond_items}
+use Rattle.loop_form.specs.LoopItems.{Op, Item, item, Bound, truth_home, load_item, term_items, cond_items}
+use Rattle.loop_form.specs.LoopItems as ops
 use Rattle.chunk_emit.specs.Registers.{Layout}
 use Rattle.chunk_emit.specs.ChunkCode.{past_cast}
 use Rattle.chunk_emit.specs.Chunk.{Setting}
@@ -51,39 +52,39 @@ pub plain_step : (l : Layout) (f : Setting) (q p : ℕ) (mask : Option ℕ) (op 
 plain_step l f q p mask op rest e m s c h = step l f q p mask op rest e m s (no_cast l (item q mask op) rest c) h
 
 abbrev stores : Op → Bool
-stores (Store a base t c v) = true
+stores (ops.Store a base t c v) = true
 stores _ = false
 
 past_none : (q : ℕ) (op next : Op) → stores next ≡ false → past_cast q op next ≡ None
-past_none q (Cast s t x) (Store a base ty c v) e = absurd cc
-past_none q (Cast s t x) (Load a base ty c) e = refl
-past_none q (Cast s t x) (Gather a base ty r u y) e = refl
-past_none q (Cast s t x) (Apply op ty y) e = refl
-past_none q (Cast s t x) (Combine op ty y z) e = refl
-past_none q (Cast s t x) (Move left n ty y) e = refl
-past_none q (Cast s t x) (Cast u ty y) e = refl
-past_none q (Cast s t x) (Copy ty y) e = refl
-past_none q (Cast s t x) (Pick ty c y z) e = refl
-past_none q (Cast s t x) (Add y op ty v) e = refl
-past_none q (Cast s t x) (Test op ty y z) e = refl
-past_none q (Cast s t x) (Invert c) e = refl
-past_none q (Cast s t x) (Same c) e = refl
-past_none q (Cast s t x) (Any c d) e = refl
-past_none q (Cast s t x) (Quit c) e = refl
-past_none q (Load a base ty c) next e = refl
-past_none q (Gather a base ty r u y) next e = refl
-past_none q (Apply op ty y) next e = refl
-past_none q (Combine op ty y z) next e = refl
-past_none q (Move left n ty y) next e = refl
-past_none q (Copy ty y) next e = refl
-past_none q (Pick ty c y z) next e = refl
-past_none q (Store a base ty c v) next e = refl
-past_none q (Add y op ty v) next e = refl
-past_none q (Test op ty y z) next e = refl
-past_none q (Invert c) next e = refl
-past_none q (Same c) next e = refl
-past_none q (Any c d) next e = refl
-past_none q (Quit c) next e = refl
+past_none q (ops.Cast s t x) (ops.Store a base ty c v) e = absurd cc
+past_none q (ops.Cast s t x) (ops.Load a base ty c) e = refl
+past_none q (ops.Cast s t x) (ops.Gather a base ty r u y) e = refl
+past_none q (ops.Cast s t x) (ops.Unary op ty y) e = refl
+past_none q (ops.Cast s t x) (ops.Binary op ty y z) e = refl
+past_none q (ops.Cast s t x) (ops.Shift left n ty y) e = refl
+past_none q (ops.Cast s t x) (ops.Cast u ty y) e = refl
+past_none q (ops.Cast s t x) (ops.Let ty y) e = refl
+past_none q (ops.Cast s t x) (ops.Select ty c y z) e = refl
+past_none q (ops.Cast s t x) (ops.Update y op ty v) e = refl
+past_none q (ops.Cast s t x) (ops.Compare op ty y z) e = refl
+past_none q (ops.Cast s t x) (ops.Not c) e = refl
+past_none q (ops.Cast s t x) (ops.And c) e = refl
+past_none q (ops.Cast s t x) (ops.Or c d) e = refl
+past_none q (ops.Cast s t x) (ops.Break c) e = refl
+past_none q (ops.Load a base ty c) next e = refl
+past_none q (ops.Gather a base ty r u y) next e = refl
+past_none q (ops.Unary op ty y) next e = refl
+past_none q (ops.Binary op ty y z) next e = refl
+past_none q (ops.Shift left n ty y) next e = refl
+past_none q (ops.Let ty y) next e = refl
+past_none q (ops.Select ty c y z) next e = refl
+past_none q (ops.Store a base ty c v) next e = refl
+past_none q (ops.Update y op ty v) next e = refl
+past_none q (ops.Compare op ty y z) next e = refl
+past_none q (ops.Not c) next e = refl
+past_none q (ops.And c) next e = refl
+past_none q (ops.Or c d) next e = refl
+past_none q (ops.Break c) next e = refl
 
 -- the first item is no store
 abbrev pub NoStore : List Item → Type 0

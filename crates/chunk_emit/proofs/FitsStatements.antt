@@ -9,10 +9,11 @@ use Rattle.kernel_tree.proofs.Faultless.{nil-left, nil-right}
 use Rattle.kernel_tree.proofs.NoFault.{untyped_some, target_some, update_some, stream_some}
 use Rattle.reg_assign.specs.declared.interval.RegClass.TheVariants.{Z}
 use Rattle.reg_assign.specs.Registers.{Assignment}
-use Rattle.loop_form.specs.declared.loop_item.Source.{Source}
-use Rattle.loop_form.specs.declared.loop_item.Source.TheVariants.{Made}
+use Rattle.loop_form.specs.declared.loop_item.Operand.{Operand}
+use Rattle.loop_form.specs.declared.loop_item.Operand.TheVariants.{Made}
 use Rattle.loop_form.specs.Entries.{IsLet, IsStore, IsUpdate, IsPlain, term_entries, action_entries, block_entries, otherwise_entries}
-use Rattle.loop_form.specs.LoopItems.{Copy, Add, Invert, Quit, Item, item, Bound, bound, with_bound, accumulator_of, home, truth_home, term_items, store_item, after_env, quit_items, leave_items, action_items, block_items, otherwise_items}
+use Rattle.loop_form.specs.LoopItems.{Item, item, Bound, bound, with_bound, accumulator_of, home, truth_home, term_items, store_item, after_env, break_items, leave_items, action_items, block_items, otherwise_items}
+use Rattle.loop_form.specs.LoopItems as ops
 use Rattle.loop_form.proofs.ItemTypes.{term_matches, action_matches, block_matches, otherwise_matches}
 use Rattle.chunk_emit.specs.Chunk.{Setting}
 use Rattle.chunk_emit.specs.Registers.{Layout}
@@ -23,7 +24,7 @@ use Rattle.chunk_emit.proofs.FitsKnown.{Part, part_left, part_right, part_follow
 use Rattle.chunk_emit.proofs.FitsNumbers.{IsBefore}
 use Rattle.chunk_emit.proofs.FitsNames.{LetHome, Names, names_later, names_more}
 use Rattle.chunk_emit.proofs.FitsTrees.{KnownTruth, IsStream, is_stream, value_known, truth_known}
-use Rattle.chunk_emit.proofs.FitsSources.{AllTyped, value_following, truth_following, made_is, truth_same, truth_none, truth_is, truth_lasts}
+use Rattle.chunk_emit.proofs.FitsOperands.{AllTyped, value_following, truth_following, made_is, truth_same, truth_none, truth_is, truth_lasts}
 use Rattle.chunk_emit.proofs.FitsPlaces.{moved, skip, plain_step, IsMasked, plain_casts}
 use Rattle.chunk_emit.proofs.FitsTerms.{value_makes, truth_makes, nothing_made, operand, value_steps, truth_steps}
 use Rattle.chunk_emit.proofs.FitsWrites.{store_ends, store_steps, update_steps}
@@ -32,16 +33,16 @@ use Rattle.loop_form.specs.declared.item.ItemKind.TheVariants as kind
 
 -- ---- the types of the items after
 
-store_following : (k : Program) (s : Scope) (mask : Option ℕ) (q : ℕ) (env : List Bound) (a : List ℕ) (o : Option ℤ) (v : Source) (rest : List Item) → AllTyped k (store_item s mask q env a o v rest) → AllTyped k rest
+store_following : (k : Program) (s : Scope) (mask : Option ℕ) (q : ℕ) (env : List Bound) (a : List ℕ) (o : Option ℤ) (v : Operand) (rest : List Item) → AllTyped k (store_item s mask q env a o v rest) → AllTyped k rest
 store_following k s mask q env a None v rest h = h
 store_following k s mask q env a (Some c) v rest h = h.1
 
-quit_following : (k : Program) (c : Term) (s : Scope) (mask : Option ℕ) (b : ℕ) (env : List Bound) (rest : List Item) → AllTyped k (quit_items s mask b env c rest) → AllTyped k rest
-quit_following k c s mask b env rest h = (truth_following k c s mask b env _ h).1
+break_following : (k : Program) (c : Term) (s : Scope) (mask : Option ℕ) (b : ℕ) (env : List Bound) (rest : List Item) → AllTyped k (break_items s mask b env c rest) → AllTyped k rest
+break_following k c s mask b env rest h = (truth_following k c s mask b env _ h).1
 
 leave_following : (k : Program) (c : Term) (s : Scope) (mask : Option ℕ) (b : ℕ) (env : List Bound) (rest : List Item) → AllTyped k (leave_items s mask b env c rest) → AllTyped k rest
-leave_following k (Either x y) s mask b env rest h = quit_following k y s mask (b + term_size s.index x + 1) env rest (leave_following k x s mask b env _ h)
-leave_following k c s mask b env rest h = quit_following k c s mask b env rest h
+leave_following k (Either x y) s mask b env rest h = break_following k y s mask (b + term_size s.index x + 1) env rest (leave_following k x s mask b env _ h)
+leave_following k c s mask b env rest h = break_following k c s mask b env rest h
 
 mutual
   action_following : (k : Program) (a : Action) (s : Scope) (mask : Option ℕ) (b : ℕ) (env : List Bound) (rest : List Item) → AllTyped k (action_items s mask b env a rest) → AllTyped k rest
@@ -93,7 +94,7 @@ module _ (k : Program) (zs ps : Assignment) (f : Setting) (setting : FitsSetting
       let w = untyped_some (g + term_size i e) want (nil-right (twice (g + term_size i e) S x) _ (nil-right (faults S g (Value want) e) _ none)) in
       let T = w.0 in
       let at = at_head k q (IsLet x) q [] want [] (part_right k (term_entries k b q e) _ (term_types S (Value want) e) _ (term_matches k e S (Value want) b q refl) part) in
-      let ti = value_following k e S want mask b env (item q mask (Copy want (home i want b env e)) ∷ rest) types in
+      let ti = value_following k e S want mask b env (item q mask (ops.Let want (home i want b env e)) ∷ rest) types in
       let new : LetHome k (b + action_size i (Define x t e)) x T (Made q) = record { item = q; is = refl; before = omega arith; type = made_is k q T (ti.0.type ∙ w.1); from = q; last_use = at.known.gives.value_last_use } in
       record {
         visible = v ++ local x (binding.Value T) ∷ [];
@@ -117,13 +118,13 @@ module _ (k : Program) (zs ps : Assignment) (f : Setting) (setting : FitsSetting
     S = scope v tk ins
 
     let_steps : (x : List ℕ) (e : Term) (mask : Option ℕ) (g p : ℕ) (rest : List Item) (o : Option Ty) (T : Ty) → o ≡ Some T → faults S g (Value o) e ≡ [] → Part k (term_entries k b (b + term_size i e) e) (term_types S (Value o) e) → At k (b + term_size i e) (IsLet x) (b + term_size i e) o → p ≡ b + term_size i e + 1
-        → AllTyped k (term_items S o mask b env e (item (b + term_size i e) mask (Copy o (home i o b env e)) ∷ rest)) → IsMasked (layout_of_loop k zs ps) b p mask → FitsSteps (layout_of_loop k zs ps) f p rest
-        → FitsSteps (layout_of_loop k zs ps) f b (term_items S o mask b env e (item (b + term_size i e) mask (Copy o (home i o b env e)) ∷ rest))
+        → AllTyped k (term_items S o mask b env e (item (b + term_size i e) mask (ops.Let o (home i o b env e)) ∷ rest)) → IsMasked (layout_of_loop k zs ps) b p mask → FitsSteps (layout_of_loop k zs ps) f p rest
+        → FitsSteps (layout_of_loop k zs ps) f b (term_items S o mask b env e (item (b + term_size i e) mask (ops.Let o (home i o b env e)) ∷ rest))
     let_steps x e mask g p rest None U same none part at number types masked following = absurd cc
     let_steps x e mask g p rest (Some T) U same none part at number types masked following =
         let L = layout_of_loop k zs ps in
         let q = b + term_size i e in
-        let act = Copy (Some T) (home i (Some T) b env e) in
+        let act = ops.Let (Some T) (home i (Some T) b env e) in
         let last = item q mask act ∷ rest in
         let known = value_known k v tk ins e T g b q none part in
         let ti = value_following k e S (Some T) mask b env last types in
@@ -147,28 +148,28 @@ module _ (k : Program) (zs ps : Assignment) (f : Setting) (setting : FitsSetting
         (store_ends k zs ps f setting few v tk ins b env names e T a j mask b q rest stream known (omega arith)) here
 
     add_steps : (x : List ℕ) (op : UpdateOp) (e : Term) (mask : Option ℕ) (g p : ℕ) (rest : List Item) (o : Option Ty) (T : Ty) → accumulator_of S x ≡ o → o ≡ Some T → faults S g (Value o) e ≡ [] → Part k (term_entries k b (b + term_size i e) e) (term_types S (Value o) e)
-        → At k (b + term_size i e) (IsUpdate x op) (b + term_size i e) None → p ≡ b + term_size i e + 1 → AllTyped k (term_items S o mask b env e (item (b + term_size i e) mask (Add x op o (home i o b env e)) ∷ rest)) → IsMasked (layout_of_loop k zs ps) b p mask → FitsSteps (layout_of_loop k zs ps) f p rest
-        → FitsSteps (layout_of_loop k zs ps) f b (term_items S o mask b env e (item (b + term_size i e) mask (Add x op o (home i o b env e)) ∷ rest))
+        → At k (b + term_size i e) (IsUpdate x op) (b + term_size i e) None → p ≡ b + term_size i e + 1 → AllTyped k (term_items S o mask b env e (item (b + term_size i e) mask (ops.Update x op o (home i o b env e)) ∷ rest)) → IsMasked (layout_of_loop k zs ps) b p mask → FitsSteps (layout_of_loop k zs ps) f p rest
+        → FitsSteps (layout_of_loop k zs ps) f b (term_items S o mask b env e (item (b + term_size i e) mask (ops.Update x op o (home i o b env e)) ∷ rest))
     add_steps x op e mask g p rest None U is same none part at number types masked following = absurd cc
     add_steps x op e mask g p rest (Some T) U is same none part at number types masked following =
         let L = layout_of_loop k zs ps in
         let q = b + term_size i e in
-        let last = item q mask (Add x op (Some T) (home i (Some T) b env e)) ∷ rest in
+        let last = item q mask (ops.Update x op (Some T) (home i (Some T) b env e)) ∷ rest in
         let known = value_known k v tk ins e T g b q none part in
         let value = operand k zs ps f setting few v tk ins b env names e T mask b q last known (omega arith) (omega arith) types in
         let here = update_steps k zs ps f setting few v tk ins b env names x op T mask q p (home i (Some T) b env e) rest at is value (masked q (omega arith) (omega (arith, number))) number following in
         value_steps k zs ps f setting few v tk ins b env names e T mask b q last known (omega arith) (omega arith) types (λ r lo hi. masked r lo (omega (arith, hi, number))) (plain_casts L b last refl) here
 
     -- a break on one condition, whose items begin at b1 and which item u uses in the listing
-    quit_steps : (c : Term) (mask : Option ℕ) (b1 u p : ℕ) (rest : List Item) → KnownTruth k S b1 u c → b ≤ b1 → item_last_use k Z (b1 + term_size i c) ≡ 0 → b1 + term_size i c ≤ u → p ≡ b1 + term_size i c + 1 → AllTyped k (quit_items S mask b1 env c rest) → IsMasked (layout_of_loop k zs ps) b1 p mask
-        → FitsSteps (layout_of_loop k zs ps) f p rest → FitsSteps (layout_of_loop k zs ps) f b1 (quit_items S mask b1 env c rest)
-    quit_steps c mask b1 u p rest known from value le number types masked following =
+    one_break_steps : (c : Term) (mask : Option ℕ) (b1 u p : ℕ) (rest : List Item) → KnownTruth k S b1 u c → b ≤ b1 → item_last_use k Z (b1 + term_size i c) ≡ 0 → b1 + term_size i c ≤ u → p ≡ b1 + term_size i c + 1 → AllTyped k (break_items S mask b1 env c rest) → IsMasked (layout_of_loop k zs ps) b1 p mask
+        → FitsSteps (layout_of_loop k zs ps) f p rest → FitsSteps (layout_of_loop k zs ps) f b1 (break_items S mask b1 env c rest)
+    one_break_steps c mask b1 u p rest known from value le number types masked following =
         let L = layout_of_loop k zs ps in
         let q = b1 + term_size i c in
-        let last = item q mask (Quit (truth_home i b1 c)) ∷ rest in
+        let last = item q mask (ops.Break (truth_home i b1 c)) ∷ rest in
         let truth : truth_last_use k q ≡ 0 = truth_none k q (truth_following k c S mask b1 env last types).0.truth in
         let used = truth_lasts k zs ps c b1 u q (truth_is k v tk ins c mask b1 u env last known types) (omega arith) le in
-        let here = plain_step L f q p mask (Quit (truth_home i b1 c)) rest number (masked q (omega arith) (omega (arith, number))) (used, (omega (arith, value), omega (arith, truth))) (λ r next. refl) following in
+        let here = plain_step L f q p mask (ops.Break (truth_home i b1 c)) rest number (masked q (omega arith) (omega (arith, number))) (used, (omega (arith, value), omega (arith, truth))) (λ r next. refl) following in
         truth_steps k zs ps f setting few v tk ins b env names c mask b1 u last known from types (λ r lo hi. masked r lo (omega (arith, hi, number))) here
 
     -- a number before that of the first item makes no condition where none stands there
@@ -181,16 +182,16 @@ module _ (k : Program) (zs ps : Assignment) (f : Setting) (setting : FitsSetting
     leave_steps (Either x y) mask b1 u p rest known from value le number types masked following =
         let L = layout_of_loop k zs ps in
         let mark = b1 + term_size i x in let q = mark + 1 + term_size i y in
-        let second = quit_items S mask (mark + 1) env y rest in
+        let second = break_items S mask (mark + 1) env y rest in
         let typed : AllTyped k second = leave_following k x S mask b1 env second types in
-        let quit = (truth_following k y S mask (mark + 1) env (item q mask (Quit (truth_home i (mark + 1) y)) ∷ rest) typed).0 in
+        let quit = (truth_following k y S mask (mark + 1) env (item q mask (ops.Break (truth_home i (mark + 1) y)) ∷ rest) typed).0 in
         let same : b1 + term_size i (Either x y) ≡ q + 1 = omega arith in
         let past : item_last_use k Z (q + 1) ≡ 0 = ap (item_last_use k Z) (sym same) ∙ value in
         let truth : truth_last_use k (q + 1) ≡ 0 = truth_none k (q + 1) (quit.gap (q + 1) (omega arith) (starts L p (q + 1) rest (omega (arith, number)) following)) in
         let later : FitsSteps L f (q + 1) rest = skip L f (q + 1) rest (omega (arith, past), omega (arith, truth)) (moved L f p (q + 1 + 1) rest (omega (arith, number)) following) in
-        let steps = quit_steps y mask (mark + 1) q (q + 1) rest known.2 (omega (arith, from)) known.3.known.gives.value_last_use (omega arith) refl typed (λ r lo hi. masked r (omega (arith, lo)) (omega (arith, hi, number))) later in
+        let steps = one_break_steps y mask (mark + 1) q (q + 1) rest known.2 (omega (arith, from)) known.3.known.gives.value_last_use (omega arith) refl typed (λ r lo hi. masked r (omega (arith, lo)) (omega (arith, hi, number))) later in
         leave_steps x mask b1 q (mark + 1) second known.0 from known.1.known.gives.value_last_use (omega arith) refl types (λ r lo hi. masked r lo (omega (arith, hi, number))) steps
-    leave_steps c mask b1 u p rest known from value le number types masked following = quit_steps c mask b1 u p rest known from value le number types masked following
+    leave_steps c mask b1 u p rest known from value le number types masked following = one_break_steps c mask b1 u p rest known from value le number types masked following
 
   -- ---- statements and blocks
 
@@ -298,4 +299,4 @@ module _ (k : Program) (zs ps : Assignment) (f : Setting) (setting : FitsSetting
         let steps_t =
         block_steps t v tk ins env (Some b) (b + 1) (g + 1) rest (names_later k b (b + 1) v env (omega arith) names) none (part_following k _ _ None _ part) types.1 (λ r lo hi. (omega (arith, lo), omega (arith, hi, last_use, number)))
         (moved L f end (b + 1 + block_size i t) rest (omega (arith, number)) following) in
-        plain_step L f b (b + 1) mask (Invert c) later refl (masked b (omega arith) (omega arith)) (picked, truth_makes k zs ps f setting few b at.known.gives.value_last_use) (λ r next. refl) steps_t
+        plain_step L f b (b + 1) mask (ops.Not c) later refl (masked b (omega arith) (omega arith)) (picked, truth_makes k zs ps f setting few b at.known.gives.value_last_use) (λ r next. refl) steps_t

@@ -15,10 +15,11 @@ use Rattle.kernel_tree.specs.Typing.{Scope, Local, own, element_type, index_type
 use Rattle.kernel_meaning.specs.Operators.{shift_count}
 use Rattle.reg_assign.specs.declared.interval.RegClass.TheVariants.{Z, P}
 use Rattle.reg_assign.specs.Registers.{Assignment}
-use Rattle.loop_form.specs.declared.loop_item.Source.{Source}
+use Rattle.loop_form.specs.declared.loop_item.Operand.{Operand}
 use Rattle.loop_form.specs.declared.item.ItemKind.TheVariants as kind
 use Rattle.loop_form.specs.Entries.{IsRead, IsPlain}
-use Rattle.loop_form.specs.LoopItems.{Load, Gather, Apply, Combine, Move, Cast, Pick, Test, Invert, Same, Any, Item, item, Bound, source_at, home, truth_home, index_source, gather_item, load_item, term_items, cond_items, loop_items_of}
+use Rattle.loop_form.specs.LoopItems.{Item, item, Bound, operand_at, home, truth_home, index_source, gather_item, load_item, term_items, cond_items, loop_items_of}
+use Rattle.loop_form.specs.LoopItems as ops
 use Rattle.chunk_emit.specs.Chunk.{Setting}
 use Rattle.loop_form.specs.Lanes.{lane_width_of}
 use Rattle.loop_form.specs.Reaches.{reach_of_type}
@@ -30,7 +31,7 @@ use Rattle.chunk_emit.proofs.FitsBases.{base_fits}
 use Rattle.chunk_emit.proofs.FitsKnown.{At}
 use Rattle.chunk_emit.proofs.FitsNames.{binding_at, HomeIs, Names}
 use Rattle.chunk_emit.proofs.FitsTrees.{IndexBy, KnownValue, KnownTruth}
-use Rattle.chunk_emit.proofs.FitsSources.{AllTyped, value_following, truth_following, made_is, at_width, operand_fits, truth_less, truth_same, truth_is, truth_lasts}
+use Rattle.chunk_emit.proofs.FitsOperands.{AllTyped, value_following, truth_following, made_is, at_width, operand_fits, truth_less, truth_same, truth_is, truth_lasts}
 use Rattle.chunk_emit.proofs.FitsPlaces.{NoStore, moved, skip, step, plain_step, IsMasked, CastsEnd, plain_casts, value_plain, truth_plain}
 
 -- a count of a shift that the type allows
@@ -55,18 +56,18 @@ module _ (k : Program) (zs ps : Assignment) (f : Setting) (setting : FitsSetting
     abbrev S : Scope
     S = record { visible = v; taken = tk; index = loop_index k; inside = ins }
 
-    array_home : (a : List ℕ) (T : Ty) (bd : Binding) (s : Source) → element_type bd ≡ Some T → HomeIs k b0 a bd s → FitsBase f s
+    array_home : (a : List ℕ) (T : Ty) (bd : Binding) (s : Operand) → element_type bd ≡ Some T → HomeIs k b0 a bd s → FitsBase f s
     array_home a T (binding.Scalar t) s e h = absurd cc
     array_home a T (binding.Array t) s e h = subst (FitsBase f) (sym h.1) (base_fits k f h.0 t setting few h.2)
     array_home a T (binding.Accumulator t) s e h = absurd cc
     array_home a T (binding.Value t) s e h = absurd cc
     array_home a T binding.Index s e h = absurd cc
 
-    array_in : (a : List ℕ) (T : Ty) (o : Option Binding) → binding_at v a ≡ o → option_and_then element_type o ≡ Some T → FitsBase f (source_at env a)
+    array_in : (a : List ℕ) (T : Ty) (o : Option Binding) → binding_at v a ≡ o → option_and_then element_type o ≡ Some T → FitsBase f (operand_at env a)
     array_in a T None e g = absurd cc
-    array_in a T (Some bd) e g = array_home a T bd (source_at env a) g (names.home a bd e)
+    array_in a T (Some bd) e g = array_home a T bd (operand_at env a) g (names.home a bd e)
 
-    pub array_fits : (a : List ℕ) (T : Ty) → array_type S a ≡ Some T → FitsBase f (source_at env a)
+    pub array_fits : (a : List ℕ) (T : Ty) → array_type S a ≡ Some T → FitsBase f (operand_at env a)
     array_fits a T e = array_in a T (binding_at v a) refl e
 
     -- an operand of item u
@@ -79,9 +80,9 @@ module _ (k : Program) (zs ps : Assignment) (f : Setting) (setting : FitsSetting
         let L = layout_of_loop k zs ps in
         let last_use : item_last_use k Z q ≡ u = at.known.gives.value_last_use in
         let here =
-        plain_step L f q p mask (Load a (source_at env a) (Some T) c) rest number (masked q (omega arith) (omega (arith, number)))
+        plain_step L f q p mask (ops.Load a (operand_at env a) (Some T) c) rest number (masked q (omega arith) (omega (arith, number)))
         (array_fits a T (same ∙ e), near, at_width k zs ps f setting q (IsRead a j) u T at, omega (arith, last_use, lt), value_makes q T at.known.gives.truth_last_use (typed.0.type ∙ same ∙ e)) (λ r next. refl) following in
-        subst (λ z. FitsSteps L f q (item q mask (Load a (source_at env a) z c) ∷ rest)) (sym (same ∙ e)) here
+        subst (λ z. FitsSteps L f q (item q mask (ops.Load a (operand_at env a) z c) ∷ rest)) (sym (same ∙ e)) here
 
     -- a read at a computed index, whose index fits
     gather_step : (a : List ℕ) (j : Term) (T U : Ty) (mask : Option ℕ) (b q p u : ℕ) (rest : List Item) → At k q (IsRead a j) u (Some T) → array_type S a ≡ Some T → index_type S j ≡ Some U → lane_width_of k ≡ D → q < u → p ≡ q + 1
@@ -91,10 +92,10 @@ module _ (k : Program) (zs ps : Assignment) (f : Setting) (setting : FitsSetting
         let last_use : item_last_use k Z q ≡ u = at.known.gives.value_last_use in
         let wide : f.w ≡ D = setting.width ∙ lane in
         let reach : Option ℕ = reach_of_type (index_source S j) in
-        let here = plain_step L f q p mask (Gather a (source_at env a) (Some T) reach (Some U) (home i (Some U) b env j)) rest number masked
+        let here = plain_step L f q p mask (ops.Gather a (operand_at env a) (Some T) reach (Some U) (home i (Some U) b env j)) rest number masked
         (array_fits a T array, wide, (index_source S j, refl), fits, omega (arith, last_use, lt), value_makes q T at.known.gives.truth_last_use (typed ∙ array)) (λ r next. refl) following in
-        subst (λ z. FitsSteps L f q (item q mask (Gather a (source_at env a) z reach (index_type S j) (home i (index_type S j) b env j)) ∷ rest)) (sym array)
-        (subst (λ z. FitsSteps L f q (item q mask (Gather a (source_at env a) (Some T) reach z (home i z b env j)) ∷ rest)) (sym index) here)
+        subst (λ z. FitsSteps L f q (item q mask (ops.Gather a (operand_at env a) z reach (index_type S j) (home i (index_type S j) b env j)) ∷ rest)) (sym array)
+        (subst (λ z. FitsSteps L f q (item q mask (ops.Gather a (operand_at env a) (Some T) reach z (home i z b env j)) ∷ rest)) (sym index) here)
 
     -- what fits before the items of an operand
     abbrev Before : (x : Term) (U : Ty) (mask : Option ℕ) (b : ℕ) → Type 0
@@ -102,38 +103,38 @@ module _ (k : Program) (zs ps : Assignment) (f : Setting) (setting : FitsSetting
         (last : List Item) → AllTyped k (term_items S (Some U) mask b env x last) → CastsEnd (layout_of_loop k zs ps) b last × FitsSteps (layout_of_loop k zs ps) f (b + term_size i x) last → FitsSteps (layout_of_loop k zs ps) f b (term_items S (Some U) mask b env x last)
 
     cast_steps : (x : Term) (t T : Ty) (mask : Option ℕ) (b u p : ℕ) (rest : List Item) (o : Option Ty) (U : Ty) → o ≡ Some U → KnownValue k S U b (b + term_size i x) x → At k (b + term_size i x) (IsPlain kind.Cast) u (Some T) → T ≡ t → b0 ≤ b + term_size i x → p ≡ b + term_size i x + 1
-        → AllTyped k (term_items S o mask b env x (item (b + term_size i x) mask (Cast o t (home i o b env x)) ∷ rest)) → IsMasked (layout_of_loop k zs ps) b p mask → CastsEnd (layout_of_loop k zs ps) b rest → FitsSteps (layout_of_loop k zs ps) f p rest → Before x U mask b
-        → FitsSteps (layout_of_loop k zs ps) f b (term_items S o mask b env x (item (b + term_size i x) mask (Cast o t (home i o b env x)) ∷ rest))
+        → AllTyped k (term_items S o mask b env x (item (b + term_size i x) mask (ops.Cast o t (home i o b env x)) ∷ rest)) → IsMasked (layout_of_loop k zs ps) b p mask → CastsEnd (layout_of_loop k zs ps) b rest → FitsSteps (layout_of_loop k zs ps) f p rest → Before x U mask b
+        → FitsSteps (layout_of_loop k zs ps) f b (term_items S o mask b env x (item (b + term_size i x) mask (ops.Cast o t (home i o b env x)) ∷ rest))
     cast_steps x t T mask b u p rest o U e h at same from number typed masked casts following before =
         let L = layout_of_loop k zs ps in
         let q = b + term_size i x in
-        let act = Cast (Some U) t (home i (Some U) b env x) in
+        let act = ops.Cast (Some U) t (home i (Some U) b env x) in
         let last = item q mask act ∷ rest in
-        let typed2 : AllTyped k (term_items S (Some U) mask b env x last) = subst (λ z. AllTyped k (term_items S z mask b env x (item q mask (Cast z t (home i z b env x)) ∷ rest))) e typed in
+        let typed2 : AllTyped k (term_items S (Some U) mask b env x last) = subst (λ z. AllTyped k (term_items S z mask b env x (item q mask (ops.Cast z t (home i z b env x)) ∷ rest))) e typed in
         let ti = value_following k x S (Some U) mask b env last typed2 in
         let wide = subst (λ z. bits_of z ≤ width_bits f.w) same (at_width k zs ps f setting q (IsPlain kind.Cast) u T at) in
         let here =
         step L f q p mask act rest number (masked q (omega arith) (omega (arith, number))) (operand x U mask b q last h from (omega arith) typed2, wide, value_makes q t at.known.gives.truth_last_use ti.0.type) (casts (item q mask act) (omega arith)) following in
-        subst (λ z. FitsSteps L f b (term_items S z mask b env x (item q mask (Cast z t (home i z b env x)) ∷ rest))) (sym e) (before last typed2 (plain_casts L b last refl, here))
+        subst (λ z. FitsSteps L f b (term_items S z mask b env x (item q mask (ops.Cast z t (home i z b env x)) ∷ rest))) (sym e) (before last typed2 (plain_casts L b last refl, here))
 
     test_steps : (op : CompareOp) (x y : Term) (mask : Option ℕ) (b u p : ℕ) (rest : List Item) (o : Option Ty) (U : Ty) → o ≡ Some U → KnownValue k S U b (b + term_size i x + term_size i y) x → KnownValue k S U (b + term_size i x) (b + term_size i x + term_size i y) y
         → At k (b + term_size i x + term_size i y) (IsPlain kind.Compare) u None → b0 ≤ b + term_size i x + term_size i y → p ≡ b + term_size i x + term_size i y + 1
-        → AllTyped k (term_items S o mask b env x (term_items S o mask (b + term_size i x) env y (item (b + term_size i x + term_size i y) mask (Test op o (home i o b env x) (home i o (b + term_size i x) env y)) ∷ rest)))
+        → AllTyped k (term_items S o mask b env x (term_items S o mask (b + term_size i x) env y (item (b + term_size i x + term_size i y) mask (ops.Compare op o (home i o b env x) (home i o (b + term_size i x) env y)) ∷ rest)))
         → IsMasked (layout_of_loop k zs ps) b p mask → FitsSteps (layout_of_loop k zs ps) f p rest → Before x U mask b → Before y U mask (b + term_size i x)
-        → FitsSteps (layout_of_loop k zs ps) f b (term_items S o mask b env x (term_items S o mask (b + term_size i x) env y (item (b + term_size i x + term_size i y) mask (Test op o (home i o b env x) (home i o (b + term_size i x) env y)) ∷ rest)))
+        → FitsSteps (layout_of_loop k zs ps) f b (term_items S o mask b env x (term_items S o mask (b + term_size i x) env y (item (b + term_size i x + term_size i y) mask (ops.Compare op o (home i o b env x) (home i o (b + term_size i x) env y)) ∷ rest)))
     test_steps op x y mask b u p rest o U e hx hy at from number typed masked following first second =
         let L = layout_of_loop k zs ps in
         let b1 = b + term_size i x in let q = b1 + term_size i y in
-        let act = Test op (Some U) (home i (Some U) b env x) (home i (Some U) b1 env y) in
+        let act = ops.Compare op (Some U) (home i (Some U) b env x) (home i (Some U) b1 env y) in
         let last = item q mask act ∷ rest in
         let later = term_items S (Some U) mask b1 env y last in
-        let typed2 : AllTyped k (term_items S (Some U) mask b env x later) = subst (λ z. AllTyped k (term_items S z mask b env x (term_items S z mask b1 env y (item q mask (Test op z (home i z b env x) (home i z b1 env y)) ∷ rest)))) e typed in
+        let typed2 : AllTyped k (term_items S (Some U) mask b env x later) = subst (λ z. AllTyped k (term_items S z mask b env x (term_items S z mask b1 env y (item q mask (ops.Compare op z (home i z b env x) (home i z b1 env y)) ∷ rest)))) e typed in
         let ty = value_following k x S (Some U) mask b env later typed2 in
         let ox = operand x U mask b q later hx from (omega arith) typed2 in
         let oy = operand y U mask b1 q last hy from (omega arith) ty in
         let here = plain_step L f q p mask act rest number (masked q (omega arith) (omega (arith, number))) (ox, oy, truth_makes q at.known.gives.value_last_use) (λ r next. refl) following in
         let there = second last ty (plain_casts L b1 last refl, here) in
-        subst (λ z. FitsSteps L f b (term_items S z mask b env x (term_items S z mask b1 env y (item q mask (Test op z (home i z b env x) (home i z b1 env y)) ∷ rest)))) (sym e)
+        subst (λ z. FitsSteps L f b (term_items S z mask b env x (term_items S z mask b1 env y (item q mask (ops.Compare op z (home i z b env x) (home i z b1 env y)) ∷ rest)))) (sym e)
         (first later typed2 (plain_casts L b later (value_plain y S (Some U) mask b1 env last refl), there))
 
     element_steps : (a : List ℕ) (j : Term) (T : Ty) (mask : Option ℕ) (b u p : ℕ) (rest : List Item) (o : Option ℤ)
@@ -168,7 +169,7 @@ module _ (k : Program) (zs ps : Assignment) (f : Setting) (setting : FitsSetting
       value_steps (Unary op x) T mask b u rest h from le typed masked casts following =
           let L = layout_of_loop k zs ps in
           let q = b + term_size i x in
-          let act = Apply op (Some T) (home i (Some T) b env x) in
+          let act = ops.Unary op (Some T) (home i (Some T) b env x) in
           let last = item q mask act ∷ rest in
           let ti = value_following k x S (Some T) mask b env last typed in
           let here = plain_step L f q (b + term_size i (Unary op x)) mask act rest (omega arith) (masked q (omega arith) (omega arith)) (operand x T mask b q last h.0 (omega (arith, from)) (omega arith) typed, value_makes q T h.1.known.gives.truth_last_use ti.0.type) (λ r next. refl) following in
@@ -176,7 +177,7 @@ module _ (k : Program) (zs ps : Assignment) (f : Setting) (setting : FitsSetting
       value_steps (Operation op x y) T mask b u rest h from le typed masked casts following =
           let L = layout_of_loop k zs ps in
           let b1 = b + term_size i x in let q = b1 + term_size i y in
-          let act = Combine op (Some T) (home i (Some T) b env x) (home i (Some T) b1 env y) in
+          let act = ops.Binary op (Some T) (home i (Some T) b env x) (home i (Some T) b1 env y) in
           let last = item q mask act ∷ rest in
           let later = term_items S (Some T) mask b1 env y last in
           let ty = value_following k x S (Some T) mask b env later typed in
@@ -189,7 +190,7 @@ module _ (k : Program) (zs ps : Assignment) (f : Setting) (setting : FitsSetting
       value_steps (Shift to_left x n) T mask b u rest h from le typed masked casts following =
           let L = layout_of_loop k zs ps in
           let q = b + term_size i x in
-          let act = Move to_left n (Some T) (home i (Some T) b env x) in
+          let act = ops.Shift to_left n (Some T) (home i (Some T) b env x) in
           let last = item q mask act ∷ rest in
           let ti = value_following k x S (Some T) mask b env last typed in
           let wide = at_width k zs ps f setting q (IsPlain kind.Shift) u T h.1 in
@@ -203,7 +204,7 @@ module _ (k : Program) (zs ps : Assignment) (f : Setting) (setting : FitsSetting
       value_steps (Choice c x y) T mask b u rest h from le typed masked casts following =
           let L = layout_of_loop k zs ps in
           let b1 = b + term_size i x in let b2 = b1 + term_size i y in let q = b2 + term_size i c in
-          let act = Pick (Some T) (truth_home i b2 c) (home i (Some T) b env x) (home i (Some T) b1 env y) in
+          let act = ops.Select (Some T) (truth_home i b2 c) (home i (Some T) b env x) (home i (Some T) b1 env y) in
           let last = item q mask act ∷ rest in
           let chosen = cond_items S mask b2 env c last in
           let later = term_items S (Some T) mask b1 env y chosen in
@@ -231,7 +232,7 @@ module _ (k : Program) (zs ps : Assignment) (f : Setting) (setting : FitsSetting
       truth_steps (Both x y) mask b u rest h from typed masked following =
           let L = layout_of_loop k zs ps in
           let b1 = b + term_size i x in let q = b1 + term_size i y in
-          let act = Same (truth_home i b1 y) in
+          let act = ops.And (truth_home i b1 y) in
           let last = item q mask act ∷ rest in
           let later = cond_items S (Some (truth_home i b x)) b1 env y last in
           let ty = truth_following k x S mask b env later typed in
@@ -243,23 +244,23 @@ module _ (k : Program) (zs ps : Assignment) (f : Setting) (setting : FitsSetting
       truth_steps (Either x y) mask b u rest h from typed masked following =
           let L = layout_of_loop k zs ps in
           let mark = b + term_size i x in let q = mark + 1 + term_size i y in
-          let act = Any (truth_home i b x) (truth_home i (mark + 1) y) in
+          let act = ops.Or (truth_home i b x) (truth_home i (mark + 1) y) in
           let last = item q mask act ∷ rest in
           let later = cond_items S (Some mark) (mark + 1) env y last in
-          let tm = truth_following k x S mask b env (item mark mask (Invert (truth_home i b x)) ∷ later) typed in
-          let tx = truth_is k v tk ins x mask b q env (item mark mask (Invert (truth_home i b x)) ∷ later) h.0 typed in
+          let tm = truth_following k x S mask b env (item mark mask (ops.Not (truth_home i b x)) ∷ later) typed in
+          let tx = truth_is k v tk ins x mask b q env (item mark mask (ops.Not (truth_home i b x)) ∷ later) h.0 typed in
           let ox = truth_lasts k zs ps x b q q tx (omega arith) (omega arith) in
           let om = truth_lasts k zs ps x b q mark tx (omega arith) (omega arith) in
           let oy = truth_lasts k zs ps y (mark + 1) q q (truth_is k v tk ins y (Some mark) (mark + 1) q env last h.2 tm.1) (omega arith) (omega arith) in
           let last_use : truth_last_use k mark ≡ q = truth_same k mark tm.0.truth ∙ h.1.known.gives.truth_last_use in
           let here = plain_step L f q (b + term_size i (Either x y)) mask act rest (omega arith) (masked q (omega arith) (omega arith)) (ox, oy, truth_makes q h.3.known.gives.value_last_use) (λ r next. refl) following in
           let second = truth_steps y (Some mark) (mark + 1) q last h.2 (omega (arith, from)) tm.1 (λ r lo hi. (omega (arith, lo), omega (arith, hi, last_use))) here in
-          let marked = plain_step L f mark (mark + 1) mask (Invert (truth_home i b x)) later refl (masked mark (omega arith) (omega arith)) (om, truth_makes mark h.1.known.gives.value_last_use) (λ r next. refl) second in
-          truth_steps x mask b q (item mark mask (Invert (truth_home i b x)) ∷ later) h.0 from typed (λ r lo hi. masked r lo (omega (arith, hi))) marked
+          let marked = plain_step L f mark (mark + 1) mask (ops.Not (truth_home i b x)) later refl (masked mark (omega arith) (omega arith)) (om, truth_makes mark h.1.known.gives.value_last_use) (λ r next. refl) second in
+          truth_steps x mask b q (item mark mask (ops.Not (truth_home i b x)) ∷ later) h.0 from typed (λ r lo hi. masked r lo (omega (arith, hi))) marked
       truth_steps (Not x) mask b u rest h from typed masked following =
           let L = layout_of_loop k zs ps in
           let q = b + term_size i x in
-          let act = Invert (truth_home i b x) in
+          let act = ops.Not (truth_home i b x) in
           let ox = truth_lasts k zs ps x b q q (truth_is k v tk ins x mask b q env (item q mask act ∷ rest) h.0 typed) (omega arith) (omega arith) in
           let here = plain_step L f q (b + term_size i (Not x)) mask act rest (omega arith) (masked q (omega arith) (omega arith)) (ox, truth_makes q h.1.known.gives.value_last_use) (λ r next. refl) following in
           truth_steps x mask b q (item q mask act ∷ rest) h.0 from typed (λ r lo hi. masked r lo (omega (arith, hi))) here

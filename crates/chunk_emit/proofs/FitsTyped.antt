@@ -9,14 +9,14 @@ use Rattle.kernel_tree.specs.Plain.{Parameter, Program}
 use Rattle.kernel_meaning.specs.Eval.{Names}
 use Rattle.kernel_meaning.specs.ScalarRun.{argument_names, argument, started}
 use Rattle.kernel_meaning.proofs.Started.{started_names}
-use Rattle.loop_form.specs.declared.loop_item.Source.TheVariants.{LoopIndex}
+use Rattle.loop_form.specs.declared.loop_item.Operand.TheVariants.{LoopIndex}
 use Rattle.vector_order.specs.Orders.{Lane}
-use Rattle.vector_order.specs.Operands.{nth_value, source_value}
+use Rattle.vector_order.specs.Operands.{nth_value, operand_value}
 use Rattle.lane_emit.specs.Right.{IsOf}
 use Rattle.lane_emit.proofs.Ranges.{is_of, wrap-is_of}
 
-pub turn_typed : (names : Names) (i : ℕ) (a : Lane) → i < 2 ^ 64 → IsOf U64 (source_value names i a LoopIndex)
-turn_typed names i a h = is_of U64 (pos i) h
+pub loop_index_typed : (names : Names) (i : ℕ) (a : Lane) → i < 2 ^ 64 → IsOf U64 (operand_value names i a LoopIndex)
+loop_index_typed names i a h = is_of U64 (pos i) h
 
 -- a scalar parameter, whose argument was wrapped to its type
 given_typed : (ps : List Parameter) (args : List ℕ) (more : Names) (p : ℕ) (x : List ℕ) (t : Ty) → slice_get ps p ≡ Some (record { name = x; shape = shape.Scalar t }) → IsOf t (nth_value (argument_names ps args ++ more) p)

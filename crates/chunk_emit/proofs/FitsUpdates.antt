@@ -5,7 +5,7 @@ use Rattle.std.specs.List.{list_any, find}
 use Rattle.std.proofs.lemmas.Bool.{eqb-true}
 use Rattle.kernel_tree.specs.declared.ops.UpdateOp.{UpdateOp}
 use Rattle.kernel_tree.specs.Plain.{Program}
-use Rattle.loop_form.specs.Entries.{Content, IsLiteral, IsName, IsRead, IsLet, IsStore, IsUpdate, IsPlain, Entry, loop_entries}
+use Rattle.loop_form.specs.Entries.{Content, IsLiteral, IsUpdate, Entry, loop_entries}
 use Rattle.loop_form.specs.Needs.{is_update, updates}
 use Rattle.dependence.specs.Classes.{number_of_update, other_update, updates_otherwise, mixed_content, is_mixed, class_of}
 use Rattle.dependence.specs.declared.reason.Class.TheVariants.{Vector}
@@ -25,11 +25,7 @@ update_from (suc (suc (suc (suc (suc n))))) = update.Max
 update_back : (op : UpdateOp) → update_from (number_of_update op) ≡ op
 unfolding update_from
 update_back update.Add = refl
-update_back update.And = refl
-update_back update.Or = refl
-update_back update.Xor = refl
-update_back update.Min = refl
-update_back update.Max = refl
+update_back other = refl
 
 no_other : (x : List ℕ) (op : UpdateOp) (c : Content) → is_update x c ≡ true → other_update x op c ≡ false → operator_in c ≡ op
 no_other x op (IsUpdate y o) e f = sym (update_back o) ∙ ap update_from (eqb-true _ _ (by (bytes_eq y x) (nat_eq (number_of_update o) (number_of_update op)) e f)) ∙ update_back op
@@ -39,11 +35,7 @@ no_other x op (IsUpdate y o) e f = sym (update_back o) ∙ ap update_from (eqb-t
     by true false e f = absurd cc
     by false b e f = absurd cc
 no_other x op (IsLiteral n) e f = absurd cc
-no_other x op (IsName y) e f = absurd cc
-no_other x op (IsRead a i) e f = absurd cc
-no_other x op (IsLet y) e f = absurd cc
-no_other x op (IsStore a i) e f = absurd cc
-no_other x op (IsPlain c) e f = absurd cc
+no_other x op other e f = absurd cc
 
 first_operator : (x : List ℕ) (op : UpdateOp) (es : List Entry) → list_any (updates x) es ≡ true → list_any (updates_otherwise x op) es ≡ false → operator_of (find (updates x) es) ≡ op
 first_operator x op [] e f = absurd cc

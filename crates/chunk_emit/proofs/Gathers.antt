@@ -27,18 +27,18 @@ use Rattle.machine_model.specs.Machine.{State, Step, x_at, x_or_sp, z_at, with_z
 use Rattle.machine_model.specs.States.{IsState}
 use Rattle.machine_model.specs.VectorEffects.{do_vector, after_load}
 use Rattle.machine_model.proofs.StateSteps.{load_put}
-use Rattle.label_fix.specs.DraftRun.{Entry, Laid}
+use Rattle.label_fix.specs.DraftRun.{DraftEntry, Laid}
 use Rattle.label_fix.specs.Stretches.{Stops}
 use Rattle.label_fix.proofs.StretchSteps.{put_goes, put_stops}
 use Rattle.vector_order.specs.Orders.{Lane, Lanes, Act, Out, column}
-use Rattle.loop_form.specs.declared.loop_item.Source.{Source}
-use Rattle.loop_form.specs.declared.loop_item.Source.TheVariants.{Outer}
-use Rattle.loop_form.specs.LoopItems.{Gather}
+use Rattle.loop_form.specs.declared.loop_item.Operand.{Operand}
+use Rattle.loop_form.specs.declared.loop_item.Operand.TheVariants.{Outer}
+use Rattle.loop_form.specs.LoopItems as ops
 use Rattle.loop_form.specs.Reaches.{reach_of_type}
-use Rattle.vector_order.specs.Operands.{nth_value, source_value, with_value, on_mask, index_value}
+use Rattle.vector_order.specs.Operands.{nth_value, operand_value, with_value, on_mask, index_value}
 use Rattle.vector_order.specs.Items.{item_act}
 use Rattle.lane_emit.specs.Right.{IsOf, ZRight, fits}
-use Rattle.lane_emit.specs.Stretch.{Word, do_all, OnlyZ, Ready, MakesZ}
+use Rattle.lane_emit.specs.Stretch.{OnlyZ, Ready, MakesZ}
 use Rattle.lane_emit.specs.Stretch as stretch
 use Rattle.lane_emit.specs.LaneCode.{size_of, shift_word}
 use Rattle.lane_emit.specs.ItemCode.{mask_register, operand, OperandRight}
@@ -66,44 +66,20 @@ gathered t u d m base offsets =
 
 gather_does : (t : Ty) (u : State) (d m base offsets : ℕ) → do_vector (gather_word t d m base offsets) u ≡ gathered t u d m base offsets
 gather_does ty.I8 u d m base offsets = refl
-gather_does ty.U8 u d m base offsets = refl
-gather_does ty.I16 u d m base offsets = refl
-gather_does ty.U16 u d m base offsets = refl
-gather_does ty.I32 u d m base offsets = refl
-gather_does ty.U32 u d m base offsets = refl
-gather_does ty.I64 u d m base offsets = refl
-gather_does ty.U64 u d m base offsets = refl
+gather_does other u d m base offsets = refl
 
 -- the bytes of an element, as a shift
 byte_shift : (t : Ty) → 2 ^ memory_size t ≡ byte_count t
 byte_shift ty.I8 = refl
-byte_shift ty.U8 = refl
-byte_shift ty.I16 = refl
-byte_shift ty.U16 = refl
-byte_shift ty.I32 = refl
-byte_shift ty.U32 = refl
-byte_shift ty.I64 = refl
-byte_shift ty.U64 = refl
+byte_shift other = refl
 
 most_bits : (t : Ty) → bits_of t ≤ 64
 most_bits ty.I8 = omega arith
-most_bits ty.U8 = omega arith
-most_bits ty.I16 = omega arith
-most_bits ty.U16 = omega arith
-most_bits ty.I32 = omega arith
-most_bits ty.U32 = omega arith
-most_bits ty.I64 = omega arith
-most_bits ty.U64 = omega arith
+most_bits other = omega arith
 
 few_shift : (t : Ty) → memory_size t < 64
 few_shift ty.I8 = omega arith
-few_shift ty.U8 = omega arith
-few_shift ty.I16 = omega arith
-few_shift ty.U16 = omega arith
-few_shift ty.I32 = omega arith
-few_shift ty.U32 = omega arith
-few_shift ty.I64 = omega arith
-few_shift ty.U64 = omega arith
+few_shift other = omega arith
 
 -- ---- the reach of an index
 
@@ -165,18 +141,18 @@ times_one v = omega (arith, ints)
 offset_is : (t : Ty) (v : ℤ) → v *ℤ pos (2 ^ memory_size t) ≡ pos (byte_count t) *ℤ v
 offset_is t v = ap (λ n. v *ℤ pos n) (byte_shift t) ∙ *ℤ_comm v (pos (byte_count t))
 
-module _ (l : Layout) (fit : Assigned l) (f : Setting) (d : Laid) (rest : List Entry) (p : ℕ) (t : Lanes) (mask : Option ℕ) (fm : FitsMask l p mask) (a : List ℕ) (x : ℕ) (ty : Ty) (reach : Option ℕ) (U : Ty) (y : Source) (low : x < 8) (based : slice_index f.x x ≡ word (nth_value f.names x)) (wide : f.w ≡ D) (makes : MakesValue l p ty) (used : IsValueUsed l p) where
+module _ (l : Layout) (fit : Assigned l) (f : Setting) (d : Laid) (rest : List DraftEntry) (p : ℕ) (t : Lanes) (mask : Option ℕ) (fm : FitsMask l p mask) (a : List ℕ) (x : ℕ) (ty : Ty) (reach : Option ℕ) (U : Ty) (y : Operand) (low : x < 8) (based : slice_index f.x x ≡ word (nth_value f.names x)) (wide : f.w ≡ D) (makes : MakesValue l p ty) (used : IsValueUsed l p) where
   abbrev m : ℕ
   m = mask_register l.registers mask
 
   abbrev act : Act
-  act = item_act f.names (record { item = p; mask = mask; op = Gather a (Outer x) (Some ty) reach (Some U) y })
+  act = item_act f.names (record { item = p; mask = mask; op = ops.Gather a (Outer x) (Some ty) reach (Some U) y })
 
   abbrev form : LoadForm
   form = load_form (dtype_of ty D)
 
   abbrev place : ℕ → Lane → ℕ
-  place j k = address ty (nth_value f.names x) (index_value reach (source_value f.names j k y))
+  place j k = address ty (nth_value f.names x) (index_value reach (operand_value f.names j k y))
 
   abbrev fault : ℕ → Lane → Option ℕ
   fault j k = first_fault (can_read t.memory) (place j k) (byte_count ty)
@@ -315,7 +291,7 @@ module _ (l : Layout) (fit : Assigned l) (f : Setting) (d : Laid) (rest : List E
       (gather_from s h first.end first.is (only_then only first.only) (z_of l p) (λ j lt. first.right j lt ∙ ap (held D) (ap (λ n. element j *ℤ pos (2 ^ n)) (sym e) ∙ offset_is ty (element j))))
 
   pub gather_runs : IsReach reach → FitsOperand l f.w p U y → {s : State} → Holds l f p t s
-      → Does l f d (puts (op_words f.w l p m (Gather a (Outer x) (Some ty) reach (Some U) y)) rest) s rest (p + 1) (length (op_words f.w l p m (Gather a (Outer x) (Some ty) reach (Some U) y))) (column act f.n f.i t)
+      → Does l f d (puts (op_words f.w l p m (ops.Gather a (Outer x) (Some ty) reach (Some U) y)) rest) s rest (p + 1) (length (op_words f.w l p m (ops.Gather a (Outer x) (Some ty) reach (Some U) y))) (column act f.n f.i t)
   gather_runs reached k {s = s} h = by (cut_reach reach U) refl
     where
       right : OperandRight (chunk_of f t) l.registers s U y

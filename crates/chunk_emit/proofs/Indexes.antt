@@ -10,7 +10,7 @@ use Rattle.kernel_meaning.proofs.Residues.{word-add, word-mul}
 use Rattle.machine_model.specs.InstructionTable.{Listed}
 use Rattle.machine_model.specs.Machine.{State, x_at, with_x, next}
 use Rattle.machine_model.proofs.StateSteps.{x_put}
-use Rattle.label_fix.specs.DraftRun.{Entry, Laid}
+use Rattle.label_fix.specs.DraftRun.{DraftEntry, Laid}
 use Rattle.label_fix.specs.Stretches.{Goes}
 use Rattle.label_fix.proofs.StretchSteps.{stay, put_goes}
 use Rattle.vector_order.specs.Orders.{Lanes}
@@ -50,7 +50,7 @@ module _ {l : Layout} {f : Setting} {p : ℕ} {t : Lanes} {s : State} (h : Holds
   x_below r lt = All-get_or (λ v. v < 2 ^ 64) s.x r 0 (omega (arith, lt, h.is.x_count)) h.is.x_small
 
   -- a state in which the index register holds the iteration of the first lane and the offset
-  pub record Indexed (d : Laid) (rest : List Entry) (c : ℤ) (inner : List Listed) : Type 0 where
+  pub record Indexed (d : Laid) (rest : List DraftEntry) (c : ℤ) (inner : List Listed) : Type 0 where
     pub state : State
     pub words : ℕ
     pub counted : length (with_index c inner) ≡ words + length inner
@@ -59,7 +59,7 @@ module _ {l : Layout} {f : Setting} {p : ℕ} {t : Lanes} {s : State} (h : Holds
     pub z : state.z ≡ s.z
     pub place : x_at state (index_of c) ≡ word (pos f.i +ℤ c)
 
-  pub indexed : (d : Laid) (rest : List Entry) (c : ℤ) (inner : List Listed) → IsNear c → Indexed d rest c inner
+  pub indexed : (d : Laid) (rest : List DraftEntry) (c : ℤ) (inner : List Listed) → IsNear c → Indexed d rest c inner
   indexed d rest (pos zero) inner near = record {
     state = s;
     words = 0;

@@ -9,13 +9,14 @@ use Rattle.kernel_meaning.specs.Eval.{choose_value}
 use Rattle.kernel_tree.specs.Wrap.{wrap}
 use Rattle.machine_model.specs.InstructionTable.{Listed}
 use Rattle.machine_model.specs.Machine.{State}
-use Rattle.label_fix.specs.DraftRun.{Entry, Put, Laid}
+use Rattle.label_fix.specs.DraftRun.{DraftEntry, Put, Laid}
 use Rattle.label_fix.proofs.StretchSteps.{stay, chain, stop_after, stop_more}
 use Rattle.vector_order.specs.Orders.{Lanes, Out, Fine, Fail, go_on, column, by_item}
-use Rattle.loop_form.specs.declared.loop_item.Source.{Source}
-use Rattle.loop_form.specs.declared.loop_item.Source.TheVariants.{Constant, Outer, LoopIndex, Made}
-use Rattle.loop_form.specs.LoopItems.{Op, Load, Gather, Apply, Combine, Move, Cast, Copy, Pick, Store, Add, Test, Invert, Same, Any, Quit}
-use Rattle.vector_order.specs.Operands.{source_value, on_mask}
+use Rattle.loop_form.specs.declared.loop_item.Operand.{Operand}
+use Rattle.loop_form.specs.declared.loop_item.Operand.TheVariants.{Constant, Outer, LoopIndex, Made}
+use Rattle.loop_form.specs.LoopItems.{Op}
+use Rattle.loop_form.specs.LoopItems as ops
+use Rattle.vector_order.specs.Operands.{operand_value, on_mask}
 use Rattle.vector_order.specs.Items.{item_act, acts_of}
 use Rattle.lane_emit.specs.ItemCode.{mask_register}
 use Rattle.chunk_emit.specs.Registers.{Layout}
@@ -31,7 +32,7 @@ use Rattle.chunk_emit.proofs.StoreRuns.{store_runs}
 use Rattle.chunk_emit.proofs.Updates.{update_runs}
 use Rattle.chunk_emit.proofs.CastStores.{pair_runs}
 
-module _ (l : Layout) (fit : Assigned l) (f : Setting) (d : Laid) (rest : List Entry) {p : ℕ} {t : Lanes} {s : State} (h : Holds l f p t s) (mask : Option ℕ) (fm : FitsMask l p mask) where
+module _ (l : Layout) (fit : Assigned l) (f : Setting) (d : Laid) (rest : List DraftEntry) {p : ℕ} {t : Lanes} {s : State} (h : Holds l f p t s) (mask : Option ℕ) (fm : FitsMask l p mask) where
   abbrev m : ℕ
   m = mask_register l.registers mask
 
@@ -39,59 +40,59 @@ module _ (l : Layout) (fit : Assigned l) (f : Setting) (d : Laid) (rest : List E
   OpDoes op = Does l f d (puts (op_words f.w l p m op) rest) s rest (p + 1) (length (op_words f.w l p m op)) (column (item_act f.names (record { item = p; mask = mask; op = op })) f.n f.i t)
 
   pub op_runs : (op : Op) → FitsOp l f p op → OpDoes op
-  op_runs (Load a (Outer x) (Some ty) c) k = load_runs l fit f d rest p t mask fm a x ty c k.0.0 k.0.1 k.2 k.4 k.3 h k.1
-  op_runs (Load a (Constant u z) (Some ty) c) k = absurd k.0
-  op_runs (Load a LoopIndex (Some ty) c) k = absurd k.0
-  op_runs (Load a (Made q) (Some ty) c) k = absurd k.0
-  op_runs (Load a base None c) k = absurd k
-  op_runs (Gather a (Outer x) (Some ty) r (Some u) y) k = gather_runs l fit f d rest p t mask fm a x ty r u y k.0.0 k.0.1 k.1 k.5 k.4 k.2 k.3 h
-  op_runs (Gather a (Constant v z) (Some ty) r (Some u) y) k = absurd k.0
-  op_runs (Gather a LoopIndex (Some ty) r (Some u) y) k = absurd k.0
-  op_runs (Gather a (Made q) (Some ty) r (Some u) y) k = absurd k.0
-  op_runs (Gather a base (Some ty) r None y) k = absurd k
-  op_runs (Gather a base None r u y) k = absurd k
-  op_runs (Apply op (Some ty) x) k =
-      value_runs l fit f d rest h mask fm (Apply op (Some ty) x) (λ j a. unary_value op (Some ty) (source_value f.names j a x)) ty refl refl k.1 (operand_right h fit ty x k.0) (λ j mem a. refl) refl
-  op_runs (Apply op None x) k = absurd k
-  op_runs (Combine op (Some ty) x y) k =
-      value_runs l fit f d rest h mask fm (Combine op (Some ty) x y) (λ j a. binary_value op (Some ty) (source_value f.names j a x) (source_value f.names j a y)) ty refl refl k.2
+  op_runs (ops.Load a (Outer x) (Some ty) c) k = load_runs l fit f d rest p t mask fm a x ty c k.0.0 k.0.1 k.2 k.4 k.3 h k.1
+  op_runs (ops.Load a (Constant u z) (Some ty) c) k = absurd k.0
+  op_runs (ops.Load a LoopIndex (Some ty) c) k = absurd k.0
+  op_runs (ops.Load a (Made q) (Some ty) c) k = absurd k.0
+  op_runs (ops.Load a base None c) k = absurd k
+  op_runs (ops.Gather a (Outer x) (Some ty) r (Some u) y) k = gather_runs l fit f d rest p t mask fm a x ty r u y k.0.0 k.0.1 k.1 k.5 k.4 k.2 k.3 h
+  op_runs (ops.Gather a (Constant v z) (Some ty) r (Some u) y) k = absurd k.0
+  op_runs (ops.Gather a LoopIndex (Some ty) r (Some u) y) k = absurd k.0
+  op_runs (ops.Gather a (Made q) (Some ty) r (Some u) y) k = absurd k.0
+  op_runs (ops.Gather a base (Some ty) r None y) k = absurd k
+  op_runs (ops.Gather a base None r u y) k = absurd k
+  op_runs (ops.Unary op (Some ty) x) k =
+      value_runs l fit f d rest h mask fm (ops.Unary op (Some ty) x) (λ j a. unary_value op (Some ty) (operand_value f.names j a x)) ty refl refl k.1 (operand_right h fit ty x k.0) (λ j mem a. refl) refl
+  op_runs (ops.Unary op None x) k = absurd k
+  op_runs (ops.Binary op (Some ty) x y) k =
+      value_runs l fit f d rest h mask fm (ops.Binary op (Some ty) x y) (λ j a. binary_value op (Some ty) (operand_value f.names j a x) (operand_value f.names j a y)) ty refl refl k.2
       (operand_right h fit ty x k.0, operand_right h fit ty y k.1) (λ j mem a. refl) refl
-  op_runs (Combine op None x y) k = absurd k
-  op_runs (Move left n (Some ty) x) k =
-      value_runs l fit f d rest h mask fm (Move left n (Some ty) x) (λ j a. shift_value left n (Some ty) (source_value f.names j a x)) ty refl refl k.2 (operand_right h fit ty x k.0, k.1) (λ j mem a. refl) refl
-  op_runs (Move left n None x) k = absurd k
-  op_runs (Cast (Some own) ty x) k =
-      value_runs l fit f d rest h mask fm (Cast (Some own) ty x) (λ j a. wrap ty (source_value f.names j a x)) ty refl refl k.2 (operand_right h fit own x k.0, k.1) (λ j mem a. refl) refl
-  op_runs (Cast None ty x) k = absurd k
-  op_runs (Copy (Some ty) x) k = value_runs l fit f d rest h mask fm (Copy (Some ty) x) (λ j a. source_value f.names j a x) ty refl refl k.1 (operand_right h fit ty x k.0) (λ j mem a. refl) refl
-  op_runs (Copy None x) k = absurd k
-  op_runs (Pick (Some ty) c x y) k =
-      value_runs l fit f d rest h mask fm (Pick (Some ty) c x y) (λ j a. choose_value (a.truth c) (source_value f.names j a x) (source_value f.names j a y)) ty refl refl k.3
+  op_runs (ops.Binary op None x y) k = absurd k
+  op_runs (ops.Shift left n (Some ty) x) k =
+      value_runs l fit f d rest h mask fm (ops.Shift left n (Some ty) x) (λ j a. shift_value left n (Some ty) (operand_value f.names j a x)) ty refl refl k.2 (operand_right h fit ty x k.0, k.1) (λ j mem a. refl) refl
+  op_runs (ops.Shift left n None x) k = absurd k
+  op_runs (ops.Cast (Some own) ty x) k =
+      value_runs l fit f d rest h mask fm (ops.Cast (Some own) ty x) (λ j a. wrap ty (operand_value f.names j a x)) ty refl refl k.2 (operand_right h fit own x k.0, k.1) (λ j mem a. refl) refl
+  op_runs (ops.Cast None ty x) k = absurd k
+  op_runs (ops.Let (Some ty) x) k = value_runs l fit f d rest h mask fm (ops.Let (Some ty) x) (λ j a. operand_value f.names j a x) ty refl refl k.1 (operand_right h fit ty x k.0) (λ j mem a. refl) refl
+  op_runs (ops.Let None x) k = absurd k
+  op_runs (ops.Select (Some ty) c x y) k =
+      value_runs l fit f d rest h mask fm (ops.Select (Some ty) c x y) (λ j a. choose_value (a.truth c) (operand_value f.names j a x) (operand_value f.names j a y)) ty refl refl k.3
       (truth_right h c k.0, operand_right h fit ty x k.1, operand_right h fit ty y k.2) (λ j mem a. refl) refl
-  op_runs (Pick None c x y) k = absurd k
-  op_runs (Store a (Outer x) (Some ty) c v) k = store_runs l fit f d rest p t mask fm a x ty c v k.0.0 k.0.1 k.2 k.3 h k.1
-  op_runs (Store a (Constant u z) (Some ty) c v) k = absurd k.0
-  op_runs (Store a LoopIndex (Some ty) c v) k = absurd k.0
-  op_runs (Store a (Made q) (Some ty) c v) k = absurd k.0
-  op_runs (Store a base None c v) k = absurd k
-  op_runs (Add x op (Some ty) v) k = update_runs l fit f d rest h mask fm x op ty v k.0 k.1 k.2 k.3 k.4
-  op_runs (Add x op None v) k = absurd k
-  op_runs (Test op (Some ty) x y) k =
-      truth_runs l fit f d rest h mask fm (Test op (Some ty) x y) (λ j a. on_mask mask a && compare_on op (source_value f.names j a x) (source_value f.names j a y)) refl k.2
+  op_runs (ops.Select None c x y) k = absurd k
+  op_runs (ops.Store a (Outer x) (Some ty) c v) k = store_runs l fit f d rest p t mask fm a x ty c v k.0.0 k.0.1 k.2 k.3 h k.1
+  op_runs (ops.Store a (Constant u z) (Some ty) c v) k = absurd k.0
+  op_runs (ops.Store a LoopIndex (Some ty) c v) k = absurd k.0
+  op_runs (ops.Store a (Made q) (Some ty) c v) k = absurd k.0
+  op_runs (ops.Store a base None c v) k = absurd k
+  op_runs (ops.Update x op (Some ty) v) k = update_runs l fit f d rest h mask fm x op ty v k.0 k.1 k.2 k.3 k.4
+  op_runs (ops.Update x op None v) k = absurd k
+  op_runs (ops.Compare op (Some ty) x y) k =
+      truth_runs l fit f d rest h mask fm (ops.Compare op (Some ty) x y) (λ j a. on_mask mask a && compare_on op (operand_value f.names j a x) (operand_value f.names j a y)) refl k.2
       (operand_right h fit ty x k.0, operand_right h fit ty y k.1) (λ j mem a. refl) refl
-  op_runs (Test op None x y) k = absurd k
-  op_runs (Invert c) k = truth_runs l fit f d rest h mask fm (Invert c) (λ j a. on_mask mask a && not (a.truth c)) refl k.1 (truth_right h c k.0) (λ j mem a. refl) refl
-  op_runs (Same c) k = truth_runs l fit f d rest h mask fm (Same c) (λ j a. on_mask mask a && a.truth c) refl k.1 (truth_right h c k.0) (λ j mem a. refl) refl
-  op_runs (Any b c) k = truth_runs l fit f d rest h mask fm (Any b c) (λ j a. on_mask mask a && (a.truth b || a.truth c)) refl k.2 (truth_right h b k.0, truth_right h c k.1) (λ j mem a. refl) refl
-  op_runs (Quit c) k = absurd k
+  op_runs (ops.Compare op None x y) k = absurd k
+  op_runs (ops.Not c) k = truth_runs l fit f d rest h mask fm (ops.Not c) (λ j a. on_mask mask a && not (a.truth c)) refl k.1 (truth_right h c k.0) (λ j mem a. refl) refl
+  op_runs (ops.And c) k = truth_runs l fit f d rest h mask fm (ops.And c) (λ j a. on_mask mask a && a.truth c) refl k.1 (truth_right h c k.0) (λ j mem a. refl) refl
+  op_runs (ops.Or b c) k = truth_runs l fit f d rest h mask fm (ops.Or b c) (λ j a. on_mask mask a && (a.truth b || a.truth c)) refl k.2 (truth_right h b k.0, truth_right h c k.1) (λ j mem a. refl) refl
+  op_runs (ops.Break c) k = absurd k
 
 -- ---- a list of items
 
-pub puts-append : (is js : List Listed) (rest : List Entry) → puts (is ++ js) rest ≡ puts is (puts js rest)
+pub puts-append : (is js : List Listed) (rest : List DraftEntry) → puts (is ++ js) rest ≡ puts is (puts js rest)
 puts-append [] js rest = refl
 puts-append (i ∷ is) js rest = ap (λ es. Put i ∷ es) (puts-append is js rest)
 
-then_does : {l : Layout} {f : Setting} {d : Laid} {c e rest : List Entry} {s : State} {p q m n : ℕ} {out : Out} (most : ℕ) (next : Lanes → Out) → most ≡ m + n → Does l f d c s e p m out → ((t : Lanes) (u : State) → Holds l f p t u → Does l f d e u rest q n (next t)) → Does l f d c s rest q most (go_on out next)
+then_does : {l : Layout} {f : Setting} {d : Laid} {c e rest : List DraftEntry} {s : State} {p q m n : ℕ} {out : Out} (most : ℕ) (next : Lanes → Out) → most ≡ m + n → Does l f d c s e p m out → ((t : Lanes) (u : State) → Holds l f p t u → Does l f d e u rest q n (next t)) → Does l f d c s rest q most (go_on out next)
 then_does {l = l} {f = f} {d = d} {c = c} {e = e} {rest = rest} {s = s} {q = q} {n = n} most next total (does_fine {t = t} end goes holds) more = after (more t end holds)
   where
     after : {out : Out} → Does l f d e end rest q n out → Does l f d c s rest q most out
@@ -103,16 +104,16 @@ then_does most next total (does_fail kind access stops) more = does_fail kind ac
 pub record Taken (q : ℕ) (op next joined : Op) : Type 0 where
   pub own : Option Ty
   pub cast : Ty
-  pub x : Source
+  pub x : Operand
   pub a : List ℕ
-  pub base : Source
+  pub base : Operand
   pub ty : Option Ty
   pub c : ℤ
-  pub op_is : op ≡ Cast own cast x
-  pub next_is : next ≡ Store a base ty c (Made q)
-  pub joined_is : joined ≡ Store a base ty c x
+  pub op_is : op ≡ ops.Cast own cast x
+  pub next_is : next ≡ ops.Store a base ty c (Made q)
+  pub joined_is : joined ≡ ops.Store a base ty c x
 
-made_taken : (q r : ℕ) (own : Option Ty) (cast : Ty) (x : Source) (a : List ℕ) (base : Source) (ty : Option Ty) (c : ℤ) (joined : Op) (b : Bool) → nat_eq q r ≡ b → (if b then Some (Store a base ty c x) else None) ≡ Some joined → Taken q (Cast own cast x) (Store a base ty c (Made r)) joined
+made_taken : (q r : ℕ) (own : Option Ty) (cast : Ty) (x : Operand) (a : List ℕ) (base : Operand) (ty : Option Ty) (c : ℤ) (joined : Op) (b : Bool) → nat_eq q r ≡ b → (if b then Some (ops.Store a base ty c x) else None) ≡ Some joined → Taken q (ops.Cast own cast x) (ops.Store a base ty c (Made r)) joined
 made_taken q r own cast x a base ty c joined true e h = record {
   own = own;
   cast = cast;
@@ -122,53 +123,53 @@ made_taken q r own cast x a base ty c joined true e h = record {
   ty = ty;
   c = c;
   op_is = refl;
-  next_is = ap (λ k. Store a base ty c (Made k)) (sym (eqb-true q r e));
-  joined_is = let same : Store a base ty c x ≡ joined = cc in sym same;
+  next_is = ap (λ k. ops.Store a base ty c (Made k)) (sym (eqb-true q r e));
+  joined_is = let same : ops.Store a base ty c x ≡ joined = cc in sym same;
 }
 made_taken q r own cast x a base ty c joined false e h = absurd cc
 
 pub taken : (q : ℕ) (op next joined : Op) → past_cast q op next ≡ Some joined → Taken q op next joined
-taken q (Cast s t x) (Store a base ty c (Made r)) joined h = made_taken q r s t x a base ty c joined (nat_eq q r) refl h
-taken q (Cast s t x) (Store a base ty c (Constant u z)) joined h = absurd cc
-taken q (Cast s t x) (Store a base ty c (Outer p)) joined h = absurd cc
-taken q (Cast s t x) (Store a base ty c LoopIndex) joined h = absurd cc
-taken q (Cast s t x) (Load a base ty c) joined h = absurd cc
-taken q (Cast s t x) (Gather a base ty r u y) joined h = absurd cc
-taken q (Cast s t x) (Apply op ty y) joined h = absurd cc
-taken q (Cast s t x) (Combine op ty y z) joined h = absurd cc
-taken q (Cast s t x) (Move left n ty y) joined h = absurd cc
-taken q (Cast s t x) (Cast own ty y) joined h = absurd cc
-taken q (Cast s t x) (Copy ty y) joined h = absurd cc
-taken q (Cast s t x) (Pick ty c y z) joined h = absurd cc
-taken q (Cast s t x) (Add v op ty y) joined h = absurd cc
-taken q (Cast s t x) (Test op ty y z) joined h = absurd cc
-taken q (Cast s t x) (Invert c) joined h = absurd cc
-taken q (Cast s t x) (Same c) joined h = absurd cc
-taken q (Cast s t x) (Any c d) joined h = absurd cc
-taken q (Cast s t x) (Quit c) joined h = absurd cc
-taken q (Load a base ty c) next joined h = absurd cc
-taken q (Gather a base ty r u y) next joined h = absurd cc
-taken q (Apply op ty y) next joined h = absurd cc
-taken q (Combine op ty y z) next joined h = absurd cc
-taken q (Move left n ty y) next joined h = absurd cc
-taken q (Copy ty y) next joined h = absurd cc
-taken q (Pick ty c y z) next joined h = absurd cc
-taken q (Store a base ty c v) next joined h = absurd cc
-taken q (Add v op ty y) next joined h = absurd cc
-taken q (Test op ty y z) next joined h = absurd cc
-taken q (Invert c) next joined h = absurd cc
-taken q (Same c) next joined h = absurd cc
-taken q (Any c d) next joined h = absurd cc
-taken q (Quit c) next joined h = absurd cc
+taken q (ops.Cast s t x) (ops.Store a base ty c (Made r)) joined h = made_taken q r s t x a base ty c joined (nat_eq q r) refl h
+taken q (ops.Cast s t x) (ops.Store a base ty c (Constant u z)) joined h = absurd cc
+taken q (ops.Cast s t x) (ops.Store a base ty c (Outer p)) joined h = absurd cc
+taken q (ops.Cast s t x) (ops.Store a base ty c LoopIndex) joined h = absurd cc
+taken q (ops.Cast s t x) (ops.Load a base ty c) joined h = absurd cc
+taken q (ops.Cast s t x) (ops.Gather a base ty r u y) joined h = absurd cc
+taken q (ops.Cast s t x) (ops.Unary op ty y) joined h = absurd cc
+taken q (ops.Cast s t x) (ops.Binary op ty y z) joined h = absurd cc
+taken q (ops.Cast s t x) (ops.Shift left n ty y) joined h = absurd cc
+taken q (ops.Cast s t x) (ops.Cast own ty y) joined h = absurd cc
+taken q (ops.Cast s t x) (ops.Let ty y) joined h = absurd cc
+taken q (ops.Cast s t x) (ops.Select ty c y z) joined h = absurd cc
+taken q (ops.Cast s t x) (ops.Update v op ty y) joined h = absurd cc
+taken q (ops.Cast s t x) (ops.Compare op ty y z) joined h = absurd cc
+taken q (ops.Cast s t x) (ops.Not c) joined h = absurd cc
+taken q (ops.Cast s t x) (ops.And c) joined h = absurd cc
+taken q (ops.Cast s t x) (ops.Or c d) joined h = absurd cc
+taken q (ops.Cast s t x) (ops.Break c) joined h = absurd cc
+taken q (ops.Load a base ty c) next joined h = absurd cc
+taken q (ops.Gather a base ty r u y) next joined h = absurd cc
+taken q (ops.Unary op ty y) next joined h = absurd cc
+taken q (ops.Binary op ty y z) next joined h = absurd cc
+taken q (ops.Shift left n ty y) next joined h = absurd cc
+taken q (ops.Let ty y) next joined h = absurd cc
+taken q (ops.Select ty c y z) next joined h = absurd cc
+taken q (ops.Store a base ty c v) next joined h = absurd cc
+taken q (ops.Update v op ty y) next joined h = absurd cc
+taken q (ops.Compare op ty y z) next joined h = absurd cc
+taken q (ops.Not c) next joined h = absurd cc
+taken q (ops.And c) next joined h = absurd cc
+taken q (ops.Or c d) next joined h = absurd cc
+taken q (ops.Break c) next joined h = absurd cc
 
 -- both items as one step
-module _ (l : Layout) (fit : Assigned l) (f : Setting) (d : Laid) (rest : List Entry) {q p : ℕ} {t : Lanes} {s : State} (h : Holds l f q t s) (first second : Option ℕ) (mask : FitsMask l q first) (following_mask : FitsMask l p second) (lt : q + 1 ≤ p) (between : NoneBetween l (q + 1) p) (last : l.z_last_use q ≤ p) where
+module _ (l : Layout) (fit : Assigned l) (f : Setting) (d : Laid) (rest : List DraftEntry) {q p : ℕ} {t : Lanes} {s : State} (h : Holds l f q t s) (first second : Option ℕ) (mask : FitsMask l q first) (following_mask : FitsMask l p second) (lt : q + 1 ≤ p) (between : NoneBetween l (q + 1) p) (last : l.z_last_use q ≤ p) where
   abbrev PairDoes : (op next joined : Op) → Type 0
   PairDoes op next joined =
       Does l f d (puts (op_words f.w l p (mask_register l.registers second) joined) rest) s rest (p + 1) (length (op_words f.w l p (mask_register l.registers second) joined))
       (go_on (column (item_act f.names (record { item = q; mask = first; op = op })) f.n f.i t) (column (item_act f.names (record { item = p; mask = second; op = next })) f.n f.i))
 
-  cast_store : (own : Option Ty) (cast : Ty) (x : Source) (a : List ℕ) (base : Source) (ty : Option Ty) (c : ℤ) → FitsOp l f q (Cast own cast x) → FitsOp l f p (Store a base ty c (Made q)) → PairDoes (Cast own cast x) (Store a base ty c (Made q)) (Store a base ty c x)
+  cast_store : (own : Option Ty) (cast : Ty) (x : Operand) (a : List ℕ) (base : Operand) (ty : Option Ty) (c : ℤ) → FitsOp l f q (ops.Cast own cast x) → FitsOp l f p (ops.Store a base ty c (Made q)) → PairDoes (ops.Cast own cast x) (ops.Store a base ty c (Made q)) (ops.Store a base ty c x)
   cast_store (Some own) cast x a (Outer place) (Some ty) c k j =
       pair_runs l fit f d rest q p first second own cast x a place ty c mask following_mask k.0 k.2 j.0.0 j.0.1 j.1 j.2.0.1 j.2.1 j.3 (omega (arith, lt)) between last t s h
   cast_store (Some own) cast x a (Constant u z) (Some ty) c k j = absurd j.0
@@ -180,8 +181,8 @@ module _ (l : Layout) (fit : Assigned l) (f : Setting) (d : Laid) (rest : List E
   pair_does : (op next joined : Op) → Taken q op next joined → FitsOp l f q op → FitsOp l f p next → PairDoes op next joined
   pair_does op next joined is k j =
       subst (λ o. PairDoes o next joined) (sym is.op_is)
-      (subst (λ o. PairDoes (Cast is.own is.cast is.x) o joined) (sym is.next_is)
-      (subst (λ o. PairDoes (Cast is.own is.cast is.x) (Store is.a is.base is.ty is.c (Made q)) o) (sym is.joined_is)
+      (subst (λ o. PairDoes (ops.Cast is.own is.cast is.x) o joined) (sym is.next_is)
+      (subst (λ o. PairDoes (ops.Cast is.own is.cast is.x) (ops.Store is.a is.base is.ty is.c (Made q)) o) (sym is.joined_is)
       (cast_store is.own is.cast is.x is.a is.base is.ty is.c (subst (FitsOp l f q) is.op_is k) (subst (FitsOp l f p) is.next_is j))))
 
 in_turn : (o : Out) (g h : Lanes → Out) → go_on (go_on o g) h ≡ go_on o (λ s. go_on (g s) h)

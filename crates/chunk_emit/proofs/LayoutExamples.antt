@@ -7,7 +7,7 @@ use Rattle.reg_assign.specs.Registers.{Assignment, assignment}
 use Rattle.loop_form.specs.Entries.{item_type}
 use Rattle.loop_form.specs.Listing.{last_use_from}
 use Rattle.loop_form.specs.Needs.{constants, intervals}
-use Rattle.loop_form.specs.declared.loop_item.Source.TheVariants.{Constant, Outer, LoopIndex, Made}
+use Rattle.loop_form.specs.declared.loop_item.Operand.TheVariants.{Constant, Outer, LoopIndex, Made}
 use Rattle.loop_form.proofs.Kernels.{a, f, i, m, n, s}
 use Rattle.chunk_emit.specs.Registers.{Layout}
 use Rattle.chunk_emit.specs.KernelLayout.{layout_of_loop}
@@ -23,7 +23,7 @@ masked = record {
   name = f;
   params = record { name = a; shape = shape.Array ty.U8 } ∷ record { name = m; shape = shape.Scalar ty.U8 } ∷ record { name = n; shape = shape.Scalar ty.U64 } ∷ [];
   vars = record { name = s; type = ty.U8; init = (Literal (pos 0)) } ∷ [];
-  turns = Some (record { index = i; bound = n; body = (Then (Choose (Comparison compare.Gt (Element a (Variable i)) (Variable m)) (Then (Update s update.Xor (Operation binary.And (Element a (Variable i)) (Literal (pos 7)))) Done) Nothing) Done) });
+  for_loop = Some (record { index = i; bound = n; body = (Then (Choose (Comparison compare.Gt (Element a (Variable i)) (Variable m)) (Then (Update s update.Xor (Operation binary.And (Element a (Variable i)) (Literal (pos 7)))) Done) Nothing) Done) });
   answer = None;
 }
 

@@ -25,7 +25,7 @@ pub mod FitsBases
 pub mod FitsKnown
 pub mod FitsNames
 pub mod FitsTrees
-pub mod FitsSources
+pub mod FitsOperands
 pub mod FitsPlaces
 pub mod FitsTerms
 pub mod FitsWrites

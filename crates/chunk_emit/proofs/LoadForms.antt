@@ -80,10 +80,4 @@ is_form ty.I64 D le = record { memory = refl; element = refl; reads = λ v lt. s
 
 pub bytes_power : (t : Ty) → 256 ^ byte_count t ≡ 2 ^ bits_of t
 bytes_power ty.I8 = refl
-bytes_power ty.U8 = refl
-bytes_power ty.I16 = refl
-bytes_power ty.U16 = refl
-bytes_power ty.I32 = refl
-bytes_power ty.U32 = refl
-bytes_power ty.I64 = refl
-bytes_power ty.U64 = refl
+bytes_power other = refl

@@ -22,13 +22,13 @@ use Rattle.machine_model.specs.Machine.{State, Step, x_at, x_or_sp, z_at, with_z
 use Rattle.machine_model.specs.States.{IsState}
 use Rattle.machine_model.specs.VectorEffects.{do_vector, after_load}
 use Rattle.machine_model.proofs.StateSteps.{load_put}
-use Rattle.label_fix.specs.DraftRun.{Entry, Laid}
+use Rattle.label_fix.specs.DraftRun.{DraftEntry, Laid}
 use Rattle.label_fix.specs.Stretches.{Goes, Stops}
 use Rattle.label_fix.proofs.StretchSteps.{put_goes, put_stops, chain, stop_after}
 use Rattle.vector_order.specs.Orders.{Lane, Lanes, Keeps, Act, Out, done, column}
-use Rattle.loop_form.specs.declared.loop_item.Source.TheVariants.{Outer}
+use Rattle.loop_form.specs.declared.loop_item.Operand.TheVariants.{Outer}
 use Rattle.vector_order.specs.Operands.{nth_value, with_value, on_mask, load_effect}
-use Rattle.loop_form.specs.LoopItems.{Load}
+use Rattle.loop_form.specs.LoopItems as ops
 use Rattle.vector_order.specs.Items.{item_act}
 use Rattle.lane_emit.specs.Right.{IsOf}
 use Rattle.lane_emit.specs.ItemCode.{mask_register}
@@ -80,17 +80,17 @@ lane_value t w true v form lt = ap (λ m. m % modulus w) (form.reads v lt) ∙ h
 lane_value t w false v form lt = zero-mod (modulus w) ∙ sym (zero-mod (2 ^ width_bits w))
 
 -- words before code that does what it should
-pub does_after : {l : Layout} {f : Setting} {d : Laid} {c e rest : List Entry} {s u : State} {p m n : ℕ} {out : Out} (most : ℕ) → most ≡ m + n → Goes d c s e u m → Does l f d e u rest p n out → Does l f d c s rest p most out
+pub does_after : {l : Layout} {f : Setting} {d : Laid} {c e rest : List DraftEntry} {s u : State} {p m n : ℕ} {out : Out} (most : ℕ) → most ≡ m + n → Goes d c s e u m → Does l f d e u rest p n out → Does l f d c s rest p most out
 does_after most total goes (does_fine end on holds) = does_fine end (chain most (omega (arith, total)) goes on) holds
 does_after most total goes (does_fail kind access stops) = does_fail kind access (stop_after most (omega (arith, total)) goes stops)
 
 -- the lane of a load, in the state after the word that adds the offset
-module _ (l : Layout) (fit : Assigned l) (f : Setting) (d : Laid) (rest : List Entry) (p : ℕ) (t : Lanes) (mask : Option ℕ) (fm : FitsMask l p mask) (a : List ℕ) (x : ℕ) (ty : Ty) (c : ℤ) (low : x < 8) (based : slice_index f.x x ≡ word (nth_value f.names x)) (wide : bits_of ty ≤ width_bits f.w) (makes : MakesValue l p ty) (used : IsValueUsed l p) where
+module _ (l : Layout) (fit : Assigned l) (f : Setting) (d : Laid) (rest : List DraftEntry) (p : ℕ) (t : Lanes) (mask : Option ℕ) (fm : FitsMask l p mask) (a : List ℕ) (x : ℕ) (ty : Ty) (c : ℤ) (low : x < 8) (based : slice_index f.x x ≡ word (nth_value f.names x)) (wide : bits_of ty ≤ width_bits f.w) (makes : MakesValue l p ty) (used : IsValueUsed l p) where
   abbrev m : ℕ
   m = mask_register l.registers mask
 
   abbrev act : Act
-  act = item_act f.names (record { item = p; mask = mask; op = Load a (Outer x) (Some ty) c })
+  act = item_act f.names (record { item = p; mask = mask; op = ops.Load a (Outer x) (Some ty) c })
 
   abbrev form : LoadForm
   form = load_form (dtype_of ty f.w)
@@ -202,7 +202,7 @@ module _ (l : Layout) (fit : Assigned l) (f : Setting) (d : Laid) (rest : List E
     pub read_does_from : Does l f d (puts (Vector (load_word f.w ty (z_of l p) m x (index_of c)) ∷ []) rest) u rest (p + 1) 1 (column act f.n f.i t)
     read_does_from = ends (first_true test f.n 0) short cols
 
-  pub load_runs : {s : State} → Holds l f p t s → IsNear c → Does l f d (puts (op_words f.w l p m (Load a (Outer x) (Some ty) c)) rest) s rest (p + 1) (length (op_words f.w l p m (Load a (Outer x) (Some ty) c))) (column act f.n f.i t)
+  pub load_runs : {s : State} → Holds l f p t s → IsNear c → Does l f d (puts (op_words f.w l p m (ops.Load a (Outer x) (Some ty) c)) rest) s rest (p + 1) (length (op_words f.w l p m (ops.Load a (Outer x) (Some ty) c))) (column act f.n f.i t)
   load_runs h near =
       let ix = indexed h d rest c (Vector (load_word f.w ty (z_of l p) m x (index_of c)) ∷ []) near in
-      does_after (length (op_words f.w l p m (Load a (Outer x) (Some ty) c))) ix.counted ix.goes (read_does_from ix.state ix.holds ix.place)
+      does_after (length (op_words f.w l p m (ops.Load a (Outer x) (Some ty) c))) ix.counted ix.goes (read_does_from ix.state ix.holds ix.place)

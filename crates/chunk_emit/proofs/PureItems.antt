@@ -11,11 +11,11 @@ use Rattle.guest_types.specs.declared.length.Width.{Width}
 use Rattle.kernel_tree.specs.Wrap.{residue}
 use Rattle.machine_model.specs.Machine.{State, z_at, p_at}
 use Rattle.machine_model.specs.States.{IsState}
-use Rattle.label_fix.specs.DraftRun.{Entry, Laid}
+use Rattle.label_fix.specs.DraftRun.{DraftEntry, Laid}
 use Rattle.label_fix.specs.Stretches.{Goes}
 use Rattle.label_fix.proofs.StretchSteps.{stay}
 use Rattle.vector_order.specs.Orders.{Lane, Lanes, Keeps, Act, Out, done, column}
-use Rattle.loop_form.specs.declared.loop_item.Source.TheVariants.{Made}
+use Rattle.loop_form.specs.declared.loop_item.Operand.TheVariants.{Made}
 use Rattle.vector_order.specs.Operands.{with_value, on_mask}
 use Rattle.vector_order.proofs.LaneValues.{value_same, value_other}
 use Rattle.loop_form.specs.LoopItems.{Op}
@@ -144,7 +144,7 @@ module _ {l : Layout} {f : Setting} {p : ℕ} {t : Lanes} {s : State} (h : Holds
 
 -- ---- the code of such an item
 
-module _ (l : Layout) (fit : Assigned l) (f : Setting) (d : Laid) (rest : List Entry) {p : ℕ} {t : Lanes} {s : State} (h : Holds l f p t s) (mask : Option ℕ) (fm : FitsMask l p mask) where
+module _ (l : Layout) (fit : Assigned l) (f : Setting) (d : Laid) (rest : List DraftEntry) {p : ℕ} {t : Lanes} {s : State} (h : Holds l f p t s) (mask : Option ℕ) (fm : FitsMask l p mask) where
   abbrev c : Chunk
   c = chunk_of f t
 
@@ -159,7 +159,7 @@ module _ (l : Layout) (fit : Assigned l) (f : Setting) (d : Laid) (rest : List E
       subst (λ o. OwnColumn new f.n f.i t o (column (act_of op) f.n f.i t)) (first_none (λ e. false) f.n 0 (λ j le lt. refl))
       (own_column (act_of op) (λ j a. false) new (λ e. false) f.i f.n 0 f.i t (omega arith) (record { does = λ j u e. ap (λ o. done o j u) (does j u.memory (u.lane j)) }) (λ e le lt. refl))
 
-  ends : (new : ℕ → Lane → Lane) {code : List Entry} {most : ℕ} (end : State) {out : Out} → OwnColumn new f.n f.i t None out → Goes d code s rest end most
+  ends : (new : ℕ → Lane → Lane) {code : List DraftEntry} {most : ℕ} (end : State) {out : Out} → OwnColumn new f.n f.i t None out → Goes d code s rest end most
       → ((u : Lanes) → u.memory ≡ t.memory → ((e : ℕ) → e < f.n → u.lane (f.i + e) ≡ new (f.i + e) (t.lane (f.i + e))) → Moves l f p t s u end) → Does l f d code s rest (p + 1) most out
   ends new end (own_fine u mem here before past) goes moves = does_fine end goes (holds_on h (moves u mem here))
 

@@ -4,13 +4,14 @@ use Rattle.std.specs.Prelude.{slice_get, slice_index_or, option_map}
 use Rattle.std.proofs.lemmas.List.{append-nil, drop_all}
 use Rattle.guest_types.specs.declared.length.Width.{Width}
 use Rattle.kernel_tree.specs.declared.ops.Ty.{Ty}
-use Rattle.label_fix.specs.DraftRun.{Entry}
+use Rattle.label_fix.specs.DraftRun.{DraftEntry}
 use Rattle.loop_form.specs.declared.loop_item.LoopItem.{LoopItem}
 use Rattle.loop_form.specs.declared.loop_item.LoopOp.TheVariants as op
 use Rattle.loop_form.specs.LoopView.{view_of, view}
-use Rattle.loop_form.specs.LoopItems.{Op, Store, Item}
-use Rattle.loop_form.specs.declared.loop_item.Source.{Source}
-use Rattle.loop_form.specs.declared.loop_item.Source.TheVariants.{Constant, Made}
+use Rattle.loop_form.specs.LoopItems.{Op, Item}
+use Rattle.loop_form.specs.LoopItems as ops
+use Rattle.loop_form.specs.declared.loop_item.Operand.{Operand}
+use Rattle.loop_form.specs.declared.loop_item.Operand.TheVariants.{Constant, Made}
 use Rattle.chunk_emit.specs.Registers.{Layout}
 use Rattle.chunk_emit.specs.ChunkCode.{past_cast, item_words, items_words, puts}
 use Rattle.chunk_emit.specs.Steps.{chosen, takes_next, left_words}
@@ -31,11 +32,11 @@ step_words w l it (next ∷ items) = by (past_cast it.item it.op next.op) refl
     by (Some op) e = rw e refl
 
 -- one more item
-pub step_puts : (w : Width) (l : Layout) (it : Item) (items : List Item) (rest : List Entry) → puts (items_words w l (it ∷ items)) rest ≡ puts (item_words w l (chosen it (first_of items))) (puts (left_words w l (takes_next it (first_of items)) items) rest)
+pub step_puts : (w : Width) (l : Layout) (it : Item) (items : List Item) (rest : List DraftEntry) → puts (items_words w l (it ∷ items)) rest ≡ puts (item_words w l (chosen it (first_of items))) (puts (left_words w l (takes_next it (first_of items)) items) rest)
 step_puts w l it items rest = ap (λ words. puts words rest) (step_words w l it items) ∙ puts-append (item_words w l (chosen it (first_of items))) (left_words w l (takes_next it (first_of items)) items) rest
 
 -- a store of a cast's operand can be written where that of the cast can
-store_writable : (w : Width) (a : List ℕ) (base : Source) (ty : Option Ty) (c : ℤ) (u v : Source) → IsWritable w (Store a base ty c u) → IsWritable w (Store a base ty c v)
+store_writable : (w : Width) (a : List ℕ) (base : Operand) (ty : Option Ty) (c : ℤ) (u v : Operand) → IsWritable w (ops.Store a base ty c u) → IsWritable w (ops.Store a base ty c v)
 store_writable w a base None c u v h = tt
 store_writable w a base (Some t) c u v h = h
 
@@ -78,11 +79,11 @@ drop_one (x ∷ xs) zero = refl
 drop_one (x ∷ xs) (suc p) = let next : suc p + 1 ≡ suc (p + 1) = omega arith in drop_one xs p ∙ ap (λ n. view (drop n (x ∷ xs))) (sym next)
 
 -- after an item that is done
-pub done_puts : (w : Width) (l : Layout) (done : Bool) (items : List LoopItem) (p : ℕ) (rest : List Entry) → done ≡ true → puts (items_words w l (view (drop (p + 1) items))) rest ≡ puts (left_words w l done (view (drop p items))) rest
+pub done_puts : (w : Width) (l : Layout) (done : Bool) (items : List LoopItem) (p : ℕ) (rest : List DraftEntry) → done ≡ true → puts (items_words w l (view (drop (p + 1) items))) rest ≡ puts (left_words w l done (view (drop p items))) rest
 done_puts w l done items p rest e = ap (λ its. puts (items_words w l its) rest) (sym (drop_one items p)) ∙ ap (λ b. puts (left_words w l b (view (drop p items))) rest) (sym e)
 
 -- an item that is written
-pub written_puts : (w : Width) (l : Layout) (done took : Bool) (items : List LoopItem) (p : ℕ) (it made : Item) (o : Option LoopItem) (other : LoopItem) (rest : List Entry) → done ≡ false → p < length items → view_of (slice_index_or items p other) ≡ it → o ≡ slice_get items (p + 1)
+pub written_puts : (w : Width) (l : Layout) (done took : Bool) (items : List LoopItem) (p : ℕ) (it made : Item) (o : Option LoopItem) (other : LoopItem) (rest : List DraftEntry) → done ≡ false → p < length items → view_of (slice_index_or items p other) ≡ it → o ≡ slice_get items (p + 1)
     → made ≡ chosen it (option_map view_of o) → took ≡ takes_next it (option_map view_of o)
     → puts (item_words w l made) (puts (left_words w l took (view (drop (p + 1) items))) rest) ≡ puts (left_words w l done (view (drop p items))) rest
 written_puts w l done took items p it made o other rest e h is get m t =
@@ -107,7 +108,7 @@ pub writable_following : (w : Width) (items : List LoopItem) (p : ℕ) → AreWr
 writable_following w items p all = subst (AreWritable w) (drop_one items p) (tail_writable w (view (drop p items)) all)
 
 -- after the last item
-pub none_left : (w : Width) (l : Layout) (done : Bool) (items : List LoopItem) (p : ℕ) (rest : List Entry) → length items ≤ p → rest ≡ puts (left_words w l done (view (drop p items))) rest
+pub none_left : (w : Width) (l : Layout) (done : Bool) (items : List LoopItem) (p : ℕ) (rest : List DraftEntry) → length items ≤ p → rest ≡ puts (left_words w l done (view (drop p items))) rest
 none_left w l done items p rest h = sym (nothing done) ∙ ap (λ its. puts (left_words w l done (view its)) rest) (sym (drop_all p items h))
   where
     nothing : (b : Bool) → puts (left_words w l b []) rest ≡ rest

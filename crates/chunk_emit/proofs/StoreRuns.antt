@@ -17,17 +17,18 @@ use Rattle.machine_model.specs.Machine.{State, x_at, x_or_sp, z_at, p_at, next}
 use Rattle.machine_model.specs.States.{IsState}
 use Rattle.machine_model.specs.VectorEffects.{do_vector, after_store}
 use Rattle.machine_model.proofs.StateSteps.{stored_memory, store_put}
-use Rattle.label_fix.specs.DraftRun.{Entry, Laid}
+use Rattle.label_fix.specs.DraftRun.{DraftEntry, Laid}
 use Rattle.label_fix.proofs.StretchSteps.{put_goes, put_stops}
 use Rattle.vector_order.specs.Orders.{Lane, Lanes, Keeps, Writes, Act, Out, column}
-use Rattle.loop_form.specs.declared.loop_item.Source.{Source}
-use Rattle.loop_form.specs.declared.loop_item.Source.TheVariants.{Outer}
+use Rattle.loop_form.specs.declared.loop_item.Operand.{Operand}
+use Rattle.loop_form.specs.declared.loop_item.Operand.TheVariants.{Outer}
 use Rattle.vector_order.specs.Operands.{nth_value, on_mask}
-use Rattle.loop_form.specs.LoopItems.{Op, Store}
+use Rattle.loop_form.specs.LoopItems.{Op}
+use Rattle.loop_form.specs.LoopItems as ops
 use Rattle.vector_order.specs.Items.{item_act}
 use Rattle.lane_emit.specs.Right.{ZRight}
 use Rattle.lane_emit.specs.LaneCode.{size_of}
-use Rattle.lane_emit.specs.Stretch.{Word}
+use Rattle.lane_emit.specs.Stretch.{VectorInstruction}
 use Rattle.lane_emit.specs.ItemCode.{operand, mask_register}
 use Rattle.lane_emit.proofs.Residues.{held}
 use Rattle.lane_emit.proofs.Stretches.{width-size}
@@ -45,13 +46,7 @@ use Rattle.chunk_emit.proofs.StoredBits.{stored-held}
 
 memory-bytes : (t : Ty) → width_bytes (width_of_size (memory_size t)) ≡ byte_count t
 memory-bytes ty.I8 = refl
-memory-bytes ty.U8 = refl
-memory-bytes ty.I16 = refl
-memory-bytes ty.U16 = refl
-memory-bytes ty.I32 = refl
-memory-bytes ty.U32 = refl
-memory-bytes ty.I64 = refl
-memory-bytes ty.U64 = refl
+memory-bytes other = refl
 
 -- the state after a store
 store_moves : {l : Layout} {f : Setting} {p : ℕ} {t : Lanes} {s : State} → Holds l f p t s → MakesNothing l p → (m : Memory) (v : Lanes) → v.memory ≡ m → ((j : ℕ) → v.lane j ≡ t.lane j) → IsState (next (record s { memory = m })) → Moves l f p t s v (next (record s { memory = m }))
@@ -73,12 +68,12 @@ store_moves {f = f} {t = t} {s = s} h none m v mem lanes is = record {
   sums = sums_kept h v (next (record s { memory = m })) (λ x is. refl) (λ e el. ap (λ (k : Lane). k.shares) (lanes (f.i + e)));
 }
 
-module _ (l : Layout) (fit : Assigned l) (f : Setting) (d : Laid) (rest : List Entry) (p : ℕ) (t : Lanes) (mask : Option ℕ) (fm : FitsMask l p mask) (a : List ℕ) (x : ℕ) (ty : Ty) (c : ℤ) (y : Source) (low : x < 8) (based : slice_index f.x x ≡ word (nth_value f.names x)) (none : MakesNothing l p) (src : ℕ) (gives : ℕ → ℤ) where
+module _ (l : Layout) (fit : Assigned l) (f : Setting) (d : Laid) (rest : List DraftEntry) (p : ℕ) (t : Lanes) (mask : Option ℕ) (fm : FitsMask l p mask) (a : List ℕ) (x : ℕ) (ty : Ty) (c : ℤ) (y : Operand) (low : x < 8) (based : slice_index f.x x ≡ word (nth_value f.names x)) (none : MakesNothing l p) (src : ℕ) (gives : ℕ → ℤ) where
   abbrev m : ℕ
   m = mask_register l.registers mask
 
   abbrev op : Op
-  op = Store a (Outer x) (Some ty) c y
+  op = ops.Store a (Outer x) (Some ty) c y
 
   abbrev act : Act
   act = item_act f.names (record { item = p; mask = mask; op = op })
@@ -86,7 +81,7 @@ module _ (l : Layout) (fit : Assigned l) (f : Setting) (d : Laid) (rest : List E
   abbrev place : ℕ → ℕ
   place j = address ty (nth_value f.names x) (pos j +ℤ c)
 
-  abbrev the_word : Word
+  abbrev the_word : VectorInstruction
   the_word = store_word f.w ty src m x (index_of c)
 
   -- what is stored is what the lanes of the register give
@@ -173,8 +168,8 @@ module _ (l : Layout) (fit : Assigned l) (f : Setting) (d : Laid) (rest : List E
       (write_does_from given ix.state ix.holds ix.place (subst (λ zs. ZRight f.w f.n (slice_index_or zs src []) gives) (sym ix.z) right))
 
 -- a store of its operand's own register
-pub store_runs : (l : Layout) (fit : Assigned l) (f : Setting) (d : Laid) (rest : List Entry) (p : ℕ) (t : Lanes) (mask : Option ℕ) (fm : FitsMask l p mask) (a : List ℕ) (x : ℕ) (ty : Ty) (c : ℤ) (y : Source) → x < 8 → slice_index f.x x ≡ word (nth_value f.names x) → FitsOperand l f.w p ty y → MakesNothing l p → {s : State} → Holds l f p t s → IsNear c
-    → Does l f d (puts (op_words f.w l p (mask_register l.registers mask) (Store a (Outer x) (Some ty) c y)) rest) s rest (p + 1) (length (op_words f.w l p (mask_register l.registers mask) (Store a (Outer x) (Some ty) c y))) (column (item_act f.names (record { item = p; mask = mask; op = Store a (Outer x) (Some ty) c y })) f.n f.i t)
+pub store_runs : (l : Layout) (fit : Assigned l) (f : Setting) (d : Laid) (rest : List DraftEntry) (p : ℕ) (t : Lanes) (mask : Option ℕ) (fm : FitsMask l p mask) (a : List ℕ) (x : ℕ) (ty : Ty) (c : ℤ) (y : Operand) → x < 8 → slice_index f.x x ≡ word (nth_value f.names x) → FitsOperand l f.w p ty y → MakesNothing l p → {s : State} → Holds l f p t s → IsNear c
+    → Does l f d (puts (op_words f.w l p (mask_register l.registers mask) (ops.Store a (Outer x) (Some ty) c y)) rest) s rest (p + 1) (length (op_words f.w l p (mask_register l.registers mask) (ops.Store a (Outer x) (Some ty) c y))) (column (item_act f.names (record { item = p; mask = mask; op = ops.Store a (Outer x) (Some ty) c y })) f.n f.i t)
 store_runs l fit f d rest p t mask fm a x ty c y low based fits none h near =
     store_from l fit f d rest p t mask fm a x ty c y low based none (l.registers.source y) (operand (chunk_of f t) y) h near
     (λ e lt mem z. stored-held ty f.w mem z (operand (chunk_of f t) y e) fits.1) (operand_right h fit ty y fits).right

@@ -10,11 +10,12 @@ use Rattle.kernel_tree.specs.Wrap.{residue}
 use Rattle.kernel_tree.proofs.Names.{bytes_told, bytes_same}
 use Rattle.kernel_meaning.specs.Operators.{operator_of}
 use Rattle.machine_model.specs.Machine.{State, z_at}
-use Rattle.label_fix.specs.DraftRun.{Entry, Laid}
-use Rattle.loop_form.specs.declared.loop_item.Source.{Source}
-use Rattle.loop_form.specs.LoopItems.{Op, Add}
+use Rattle.label_fix.specs.DraftRun.{DraftEntry, Laid}
+use Rattle.loop_form.specs.declared.loop_item.Operand.{Operand}
+use Rattle.loop_form.specs.LoopItems.{Op}
+use Rattle.loop_form.specs.LoopItems as ops
 use Rattle.vector_order.specs.Orders.{Share, Lane, Lanes, Act, Out, column}
-use Rattle.vector_order.specs.Operands.{source_value, on_mask}
+use Rattle.vector_order.specs.Operands.{operand_value, on_mask}
 use Rattle.vector_order.specs.Items.{item_act, with_share, share}
 use Rattle.lane_emit.specs.Right.{IsOf, within}
 use Rattle.lane_emit.specs.ItemCode.{operand, mask_of, mask_register}
@@ -93,7 +94,7 @@ own_of false a s x t e h k = h
 
 -- ---- the code of an update
 
-module _ (l : Layout) (fit : Assigned l) (f : Setting) (d : Laid) (rest : List Entry) {p : ℕ} {t : Lanes} {s : State} (h : Holds l f p t s) (mask : Option ℕ) (fm : FitsMask l p mask) (x : List ℕ) (op : UpdateOp) (ty : Ty) (y : Source) (updated : l.updated x ≡ true) (op_is : l.update x ≡ op) (ty_is : l.sum_type x ≡ ty) (fits : FitsOperand l f.w p ty y) (none : MakesNothing l p) where
+module _ (l : Layout) (fit : Assigned l) (f : Setting) (d : Laid) (rest : List DraftEntry) {p : ℕ} {t : Lanes} {s : State} (h : Holds l f p t s) (mask : Option ℕ) (fm : FitsMask l p mask) (x : List ℕ) (op : UpdateOp) (ty : Ty) (y : Operand) (updated : l.updated x ≡ true) (op_is : l.update x ≡ op) (ty_is : l.sum_type x ≡ ty) (fits : FitsOperand l f.w p ty y) (none : MakesNothing l p) where
   abbrev m : ℕ
   m = mask_register l.registers mask
 
@@ -101,13 +102,13 @@ module _ (l : Layout) (fit : Assigned l) (f : Setting) (d : Laid) (rest : List E
   src = l.registers.source y
 
   abbrev the_op : Op
-  the_op = Add x op (Some ty) y
+  the_op = ops.Update x op (Some ty) y
 
   abbrev act : Act
   act = item_act f.names (record { item = p; mask = mask; op = the_op })
 
   abbrev gift : ℕ → Lane → Share
-  gift j a = share x (operator_of op) (Some ty) (source_value f.names j a y)
+  gift j a = share x (operator_of op) (Some ty) (operand_value f.names j a y)
 
   abbrev new : ℕ → Lane → Lane
   new j a = given_share (on_mask mask a) a (gift j a)

@@ -9,9 +9,9 @@ use Rattle.kernel_meaning.specs.Eval.{Names}
 use Rattle.machine_model.specs.Machine.{State, x_at, z_at, p_at}
 use Rattle.machine_model.specs.States.{IsState}
 use Rattle.vector_order.specs.Orders.{Lane, Lanes}
-use Rattle.loop_form.specs.declared.loop_item.Source.{Source}
-use Rattle.loop_form.specs.declared.loop_item.Source.TheVariants.{Made}
-use Rattle.vector_order.specs.Operands.{source_value}
+use Rattle.loop_form.specs.declared.loop_item.Operand.{Operand}
+use Rattle.loop_form.specs.declared.loop_item.Operand.TheVariants.{Made}
+use Rattle.vector_order.specs.Operands.{operand_value}
 use Rattle.lane_emit.specs.Right.{IsOf, ZRight, PRight, within}
 use Rattle.lane_emit.specs.ItemCode.{Chunk, AllOf, operand, truth_of}
 use Rattle.reductions.specs.Folds.{after_all, AreOf, given_to, ShareAlike}
@@ -42,9 +42,9 @@ abbrev pub count_of : Setting → ℕ
 count_of f = lanes f.vl f.w
 
 -- a value from before the loop: right in all elements, and of its type in the lanes of the chunk
-pub record HeldRight (l : Layout) (f : Setting) (s : State) (x : Source) : Type 0 where
-  pub right : (a : Lane) → ZRight f.w (count_of f) (z_at s (l.registers.source x)) (λ e. source_value f.names (f.i + e) a x)
-  pub typed : (a : Lane) → AllOf (l.type x) f.n (λ e. source_value f.names (f.i + e) a x)
+pub record HeldRight (l : Layout) (f : Setting) (s : State) (x : Operand) : Type 0 where
+  pub right : (a : Lane) → ZRight f.w (count_of f) (z_at s (l.registers.source x)) (λ e. operand_value f.names (f.i + e) a x)
+  pub typed : (a : Lane) → AllOf (l.type x) f.n (λ e. operand_value f.names (f.i + e) a x)
 
 -- the value of an item: right in the lanes of the chunk, and of its type
 pub record ValueRight (l : Layout) (f : Setting) (t : Lanes) (s : State) (q : ℕ) : Type 0 where
@@ -85,7 +85,7 @@ pub record Holds (l : Layout) (f : Setting) (p : ℕ) (t : Lanes) (s : State) : 
   pub active : TruthExact f (p_at s 0) all_at
   pub top : IsTop f.w f.n (p_at s 0)
   pub all : PRight f.w (count_of f) (p_at s 1) all_at
-  pub held : (x : Source) → l.held x ≡ true → HeldRight l f s x
+  pub held : (x : Operand) → l.held x ≡ true → HeldRight l f s x
   pub values : (q : ℕ) → q < p → p ≤ l.z_last_use q → ValueRight l f t s q
   pub truths : (q : ℕ) → q < p → p ≤ l.p_last_use q → TruthExact f (p_at s (p_of l q)) (truth_of (chunk_of f t) q)
   pub sums : (x : List ℕ) → l.updated x ≡ true → SumRight l f t x (z_at s (l.sum x))

@@ -9,10 +9,11 @@ use Rattle.a64_code.specs.Table as a64
 use Rattle.sve_code.specs.Table.{Name, ld1, gld1b, gld1h, gld1w, gld1d, gld1sb, gld1sh, gld1sw, st1, lsl_imm, uxtb, uxth}
 use Rattle.machine_model.specs.InstructionTable.{Listed, Scalar, Vector}
 use Rattle.kernel_meaning.specs.TypeValues.{fits}
-use Rattle.loop_form.specs.declared.loop_item.Source.{Source}
-use Rattle.loop_form.specs.declared.loop_item.Source.TheVariants.{Constant, Outer, LoopIndex, Made}
-use Rattle.loop_form.specs.LoopItems.{Op, Load, Gather, Cast, Store, Add, Item}
-use Rattle.lane_emit.specs.Stretch.{Word, word}
+use Rattle.loop_form.specs.declared.loop_item.Operand.{Operand}
+use Rattle.loop_form.specs.declared.loop_item.Operand.TheVariants.{Constant, Outer, LoopIndex, Made}
+use Rattle.loop_form.specs.LoopItems.{Op, Item}
+use Rattle.loop_form.specs.LoopItems as ops
+use Rattle.lane_emit.specs.Stretch.{VectorInstruction, word}
 use Rattle.lane_emit.specs.LaneCode.{size_of, shift_word}
 use Rattle.lane_emit.specs.ItemCode.{mask_register, op_code}
 use Rattle.reductions.specs.AccumulatorLanes.{update_code}
@@ -71,11 +72,11 @@ dtype_of ty.I64 w = 15
 dtype_of ty.U64 w = 15
 
 -- LD1 d, m/Z, [base, index, lsl]
-abbrev pub load_word : Width → Ty → (d m base index : ℕ) → Word
+abbrev pub load_word : Width → Ty → (d m base index : ℕ) → VectorInstruction
 load_word w t d m base index = word ld1 (d ∷ base ∷ m ∷ index ∷ dtype_of t w ∷ [])
 
 -- ST1 v, m, [base, index, lsl]
-abbrev pub store_word : Width → Ty → (v m base index : ℕ) → Word
+abbrev pub store_word : Width → Ty → (v m base index : ℕ) → VectorInstruction
 store_word w t v m base index = word st1 (v ∷ base ∷ m ∷ index ∷ size_of w ∷ memory_size t ∷ [])
 
 -- ---- reads at computed indexes, in lanes of 64 bits
@@ -91,11 +92,11 @@ gather_name ty.I64 = gld1d
 gather_name ty.U64 = gld1d
 
 -- LD1 d, m/Z, [base, offsets]
-abbrev pub gather_word : Ty → (d m base offsets : ℕ) → Word
+abbrev pub gather_word : Ty → (d m base offsets : ℕ) → VectorInstruction
 gather_word t d m base offsets = word (gather_name t) (d ∷ base ∷ m ∷ offsets ∷ [])
 
 -- The offsets are the indexes shifted by the size of an element, which are made where the elements then go.
-abbrev pub gather_by : (shift : ℕ) → Ty → (d m base index : ℕ) → List Word
+abbrev pub gather_by : (shift : ℕ) → Ty → (d m base index : ℕ) → List VectorInstruction
 gather_by zero t d m base index = gather_word t d m base index ∷ []
 gather_by (suc k) t d m base index = shift_word lsl_imm d index (64 + suc k) ∷ gather_word t d m base d ∷ []
 
@@ -109,25 +110,25 @@ cut_reach None u = None
 cut_reach (Some n) u = if fits u (reach_type n) then None else Some n
 
 -- d = a modulo a reach: UXTB or UXTH d, P1/M, a
-abbrev pub cut_word : (reach d a : ℕ) → Word
+abbrev pub cut_word : (reach d a : ℕ) → VectorInstruction
 cut_word n d a = word (if nat_eq n 256 then uxtb else uxth) (d ∷ a ∷ 1 ∷ size_of D ∷ [])
 
-abbrev pub gather_code : Ty → (cut : Option ℕ) → (d m base index : ℕ) → List Word
+abbrev pub gather_code : Ty → (cut : Option ℕ) → (d m base index : ℕ) → List VectorInstruction
 gather_code t None d m base index = gather_by (memory_size t) t d m base index
 gather_code t (Some n) d m base index = cut_word n d index ∷ gather_by (memory_size t) t d m base d
 
 -- ---- items
 
-abbrev pub vectors : List Word → List Listed
+abbrev pub vectors : List VectorInstruction → List Listed
 vectors [] = []
 vectors (v ∷ vs) = Vector v ∷ vectors vs
 
 -- an item under the mask in predicate register m; one whose value is not used has no code
 abbrev pub op_words : Width → Layout → (q m : ℕ) → Op → List Listed
-op_words w l q m (Load a base (Some t) c) = with_index c (Vector (load_word w t (z_of l q) m (base_of base) (index_of c)) ∷ [])
-op_words w l q m (Gather a base (Some t) r (Some u) x) = vectors (gather_code t (cut_reach r u) (z_of l q) m (base_of base) (l.registers.source x))
-op_words w l q m (Store a base (Some t) c v) = with_index c (Vector (store_word w t (l.registers.source v) m (base_of base) (index_of c)) ∷ [])
-op_words w l q m (Add x op (Some t) v) = vectors (update_code w op t (l.sum x) m (l.registers.source v))
+op_words w l q m (ops.Load a base (Some t) c) = with_index c (Vector (load_word w t (z_of l q) m (base_of base) (index_of c)) ∷ [])
+op_words w l q m (ops.Gather a base (Some t) r (Some u) x) = vectors (gather_code t (cut_reach r u) (z_of l q) m (base_of base) (l.registers.source x))
+op_words w l q m (ops.Store a base (Some t) c v) = with_index c (Vector (store_word w t (l.registers.source v) m (base_of base) (index_of c)) ∷ [])
+op_words w l q m (ops.Update x op (Some t) v) = vectors (update_code w op t (l.sum x) m (l.registers.source v))
 op_words w l q m op = if is_used l op q then vectors (op_code w l.registers q m op) else []
 
 abbrev pub item_words : Width → Layout → Item → List Listed
@@ -136,7 +137,7 @@ item_words w l it = op_words w l it.item (mask_register l.registers it.mask) it.
 -- ---- a cast that a store takes
 
 -- whether an operand is the value of item q
-abbrev pub is_made : ℕ → Source → Bool
+abbrev pub is_made : ℕ → Operand → Bool
 is_made q (Made r) = nat_eq q r
 is_made q (Constant t z) = false
 is_made q (Outer p) = false
@@ -145,7 +146,7 @@ is_made q LoopIndex = false
 -- The store after item q, where it takes the item's value and the item is a cast: it stores the cast's operand, since it keeps
 -- the low bytes alone.
 abbrev pub past_cast : (q : ℕ) → (op next : Op) → Option Op
-past_cast q (Cast s t x) (Store a base ty c v) = if is_made q v then Some (Store a base ty c x) else None
+past_cast q (ops.Cast s t x) (ops.Store a base ty c v) = if is_made q v then Some (ops.Store a base ty c x) else None
 past_cast q _ _ = None
 
 -- the code of the store alone, where there is one, or that of both items, and that of the items after it

@@ -6,11 +6,12 @@ use Rattle.guest_types.specs.Length.{width_bits}
 use Rattle.kernel_tree.specs.declared.ops.Ty.{Ty}
 use Rattle.kernel_tree.specs.Wrap.{bits_of}
 use Rattle.kernel_meaning.specs.Operators.{word, shift_count}
-use Rattle.loop_form.specs.declared.loop_item.Source.{Source}
-use Rattle.loop_form.specs.declared.loop_item.Source.TheVariants.{Constant, Outer, LoopIndex, Made}
+use Rattle.loop_form.specs.declared.loop_item.Operand.{Operand}
+use Rattle.loop_form.specs.declared.loop_item.Operand.TheVariants.{Constant, Outer, LoopIndex, Made}
 use Rattle.loop_form.specs.Reaches.{reach_of_type}
 use Rattle.vector_order.specs.Operands.{nth_value}
-use Rattle.loop_form.specs.LoopItems.{Op, Load, Gather, Apply, Combine, Move, Cast, Copy, Pick, Store, Add, Test, Invert, Same, Any, Item}
+use Rattle.loop_form.specs.LoopItems.{Op, Item}
+use Rattle.loop_form.specs.LoopItems as ops
 use Rattle.chunk_emit.specs.Registers.{Layout, z_of, p_of, IsValueUsed, IsTruthUsed}
 use Rattle.chunk_emit.specs.ChunkCode.{past_cast}
 use Rattle.chunk_emit.specs.Chunk.{Setting}
@@ -21,14 +22,14 @@ pub record Assigned (l : Layout) : Type 0 where
   pub z_small : (q : ℕ) → z_of l q < 32
   pub p_small : (q : ℕ) → p_of l q < 16
   pub p_low : (q : ℕ) → IsTruthUsed l q → 2 ≤ p_of l q
-  pub held_small : (x : Source) → l.held x ≡ true → l.registers.source x < 32
+  pub held_small : (x : Operand) → l.held x ≡ true → l.registers.source x < 32
   pub sum_small : (x : List ℕ) → l.updated x ≡ true → l.sum x < 32
   pub z_apart : (p q : ℕ) → q < p → p < l.z_last_use q → IsValueUsed l p → z_of l p ≢ z_of l q
   pub p_apart : (p q : ℕ) → q < p → p < l.p_last_use q → IsTruthUsed l p → p_of l p ≢ p_of l q
-  pub held_apart : (x : Source) (q : ℕ) → l.held x ≡ true → IsValueUsed l q → z_of l q ≢ l.registers.source x
+  pub held_apart : (x : Operand) (q : ℕ) → l.held x ≡ true → IsValueUsed l q → z_of l q ≢ l.registers.source x
   pub sum_apart : (x : List ℕ) (q : ℕ) → l.updated x ≡ true → IsValueUsed l q → z_of l q ≢ l.sum x
   pub sum_made : (x : List ℕ) (p q : ℕ) → l.updated x ≡ true → q < p → p < l.z_last_use q → l.sum x ≢ z_of l q
-  pub sum_held : (x : List ℕ) (y : Source) → l.updated x ≡ true → l.held y ≡ true → l.sum x ≢ l.registers.source y
+  pub sum_held : (x : List ℕ) (y : Operand) → l.updated x ≡ true → l.held y ≡ true → l.sum x ≢ l.registers.source y
   pub sums_apart : (x y : List ℕ) → l.updated x ≡ true → l.updated y ≡ true → bytes_eq x y ≡ false → l.sum x ≢ l.sum y
 
 -- the value of an item is made before item p, and needed there
@@ -36,15 +37,15 @@ abbrev pub IsLive : Layout → (q p : ℕ) → Type 0
 IsLive l q p = (q < p) × (p ≤ l.z_last_use q)
 
 -- an operand of item p is in a register, and of a type
-abbrev pub FitsSource : Layout → ℕ → Ty → Source → Type 0
-FitsSource l p t (Constant s z) = (l.held (Constant s z) ≡ true) × (s ≡ Some t)
-FitsSource l p t (Outer x) = (l.held (Outer x) ≡ true) × (l.type (Outer x) ≡ t)
-FitsSource l p t LoopIndex = (l.held LoopIndex ≡ true) × (l.type LoopIndex ≡ t)
-FitsSource l p t (Made q) = IsLive l q p × (l.type (Made q) ≡ t)
+abbrev pub FitsInRegister : Layout → ℕ → Ty → Operand → Type 0
+FitsInRegister l p t (Constant s z) = (l.held (Constant s z) ≡ true) × (s ≡ Some t)
+FitsInRegister l p t (Outer x) = (l.held (Outer x) ≡ true) × (l.type (Outer x) ≡ t)
+FitsInRegister l p t LoopIndex = (l.held LoopIndex ≡ true) × (l.type LoopIndex ≡ t)
+FitsInRegister l p t (Made q) = IsLive l q p × (l.type (Made q) ≡ t)
 
 -- the same of a type that is no wider than the lanes
-abbrev pub FitsOperand : Layout → Width → ℕ → Ty → Source → Type 0
-FitsOperand l w p t x = FitsSource l p t x × (bits_of t ≤ width_bits w)
+abbrev pub FitsOperand : Layout → Width → ℕ → Ty → Operand → Type 0
+FitsOperand l w p t x = FitsInRegister l p t x × (bits_of t ≤ width_bits w)
 
 abbrev pub FitsTruth : Layout → ℕ → ℕ → Type 0
 FitsTruth l p q = (q < p) × (p ≤ l.p_last_use q)
@@ -54,7 +55,7 @@ FitsMask l p None = Unit {0}
 FitsMask l p (Some q) = FitsTruth l p q
 
 -- the address of an array is in the general register of its parameter
-abbrev pub FitsBase : Setting → Source → Type 0
+abbrev pub FitsBase : Setting → Operand → Type 0
 FitsBase f (Outer p) = (p < 8) × (slice_index f.x p ≡ word (nth_value f.names p))
 FitsBase f (Constant t z) = ⊥
 FitsBase f LoopIndex = ⊥
@@ -79,20 +80,20 @@ abbrev pub MakesNothing : Layout → ℕ → Type 0
 MakesNothing l p = (l.z_last_use p ≤ p) × (l.p_last_use p ≤ p)
 
 abbrev pub FitsOp : Layout → Setting → ℕ → Op → Type 0
-FitsOp l f p (Load a base (Some t) c) = FitsBase f base × IsNear c × (bits_of t ≤ width_bits f.w) × IsValueUsed l p × MakesValue l p t
-FitsOp l f p (Gather a base (Some t) r (Some u) x) = FitsBase f base × (f.w ≡ D) × IsReach r × FitsOperand l f.w p u x × IsValueUsed l p × MakesValue l p t
-FitsOp l f p (Apply op (Some t) x) = FitsOperand l f.w p t x × MakesValue l p t
-FitsOp l f p (Combine op (Some t) x y) = FitsOperand l f.w p t x × FitsOperand l f.w p t y × MakesValue l p t
-FitsOp l f p (Move left k (Some t) x) = FitsOperand l f.w p t x × (shift_count k < width_bits f.w) × MakesValue l p t
-FitsOp l f p (Cast (Some s) t x) = FitsOperand l f.w p s x × (bits_of t ≤ width_bits f.w) × MakesValue l p t
-FitsOp l f p (Copy (Some t) x) = FitsOperand l f.w p t x × MakesValue l p t
-FitsOp l f p (Pick (Some t) c x y) = FitsTruth l p c × FitsOperand l f.w p t x × FitsOperand l f.w p t y × MakesValue l p t
-FitsOp l f p (Store a base (Some t) c v) = FitsBase f base × IsNear c × FitsOperand l f.w p t v × MakesNothing l p
-FitsOp l f p (Add x op (Some t) v) = (l.updated x ≡ true) × (l.update x ≡ op) × (l.sum_type x ≡ t) × FitsOperand l f.w p t v × MakesNothing l p
-FitsOp l f p (Test op (Some t) x y) = FitsOperand l f.w p t x × FitsOperand l f.w p t y × MakesTruth l p
-FitsOp l f p (Invert c) = FitsTruth l p c × MakesTruth l p
-FitsOp l f p (Same c) = FitsTruth l p c × MakesTruth l p
-FitsOp l f p (Any c d) = FitsTruth l p c × FitsTruth l p d × MakesTruth l p
+FitsOp l f p (ops.Load a base (Some t) c) = FitsBase f base × IsNear c × (bits_of t ≤ width_bits f.w) × IsValueUsed l p × MakesValue l p t
+FitsOp l f p (ops.Gather a base (Some t) r (Some u) x) = FitsBase f base × (f.w ≡ D) × IsReach r × FitsOperand l f.w p u x × IsValueUsed l p × MakesValue l p t
+FitsOp l f p (ops.Unary op (Some t) x) = FitsOperand l f.w p t x × MakesValue l p t
+FitsOp l f p (ops.Binary op (Some t) x y) = FitsOperand l f.w p t x × FitsOperand l f.w p t y × MakesValue l p t
+FitsOp l f p (ops.Shift left k (Some t) x) = FitsOperand l f.w p t x × (shift_count k < width_bits f.w) × MakesValue l p t
+FitsOp l f p (ops.Cast (Some s) t x) = FitsOperand l f.w p s x × (bits_of t ≤ width_bits f.w) × MakesValue l p t
+FitsOp l f p (ops.Let (Some t) x) = FitsOperand l f.w p t x × MakesValue l p t
+FitsOp l f p (ops.Select (Some t) c x y) = FitsTruth l p c × FitsOperand l f.w p t x × FitsOperand l f.w p t y × MakesValue l p t
+FitsOp l f p (ops.Store a base (Some t) c v) = FitsBase f base × IsNear c × FitsOperand l f.w p t v × MakesNothing l p
+FitsOp l f p (ops.Update x op (Some t) v) = (l.updated x ≡ true) × (l.update x ≡ op) × (l.sum_type x ≡ t) × FitsOperand l f.w p t v × MakesNothing l p
+FitsOp l f p (ops.Compare op (Some t) x y) = FitsOperand l f.w p t x × FitsOperand l f.w p t y × MakesTruth l p
+FitsOp l f p (ops.Not c) = FitsTruth l p c × MakesTruth l p
+FitsOp l f p (ops.And c) = FitsTruth l p c × MakesTruth l p
+FitsOp l f p (ops.Or c d) = FitsTruth l p c × FitsTruth l p d × MakesTruth l p
 FitsOp l f p _ = ⊥
 
 -- no item with a number from p until q makes anything

@@ -14,15 +14,15 @@ use Rattle.machine_model.specs.Machine.{State, x_at, z_at, p_at}
 use Rattle.machine_model.specs.States.{IsState}
 use Rattle.reg_assign.specs.declared.interval.RegClass.TheVariants.{Z, P}
 use Rattle.reg_assign.specs.Registers.{Assignment}
-use Rattle.loop_form.specs.declared.loop_item.Source.{Source}
-use Rattle.loop_form.specs.declared.loop_item.Source.TheVariants.{LoopIndex}
+use Rattle.loop_form.specs.declared.loop_item.Operand.{Operand}
+use Rattle.loop_form.specs.declared.loop_item.Operand.TheVariants.{LoopIndex}
 use Rattle.loop_form.specs.Lanes.{lane_width_of}
 use Rattle.loop_form.specs.Registers.{FitsKernel}
 use Rattle.dependence.specs.Apart.{bound_place}
 use Rattle.dependence.specs.Classes.{class_of}
 use Rattle.dependence.specs.declared.reason.Class.TheVariants.{Vector}
 use Rattle.vector_order.specs.Apart.{StreamsApart}
-use Rattle.vector_order.specs.Operands.{nth_value, source_value}
+use Rattle.vector_order.specs.Operands.{nth_value, operand_value}
 use Rattle.vector_order.specs.Orders.{Lane}
 use Rattle.vector_order.specs.Order.{Steady}
 use Rattle.lane_emit.specs.Right.{IsOf, ZRight, PRight}
@@ -37,7 +37,7 @@ use Rattle.chunk_emit.specs.KernelLayout.{layout_of_loop}
 -- the general registers hold as the loop begins.
 pub record Ground : Type 0 where
   pub kernel : Program
-  pub turns : PlainLoop
+  pub for_loop : PlainLoop
   pub vectors : Assignment
   pub predicates : Assignment
   pub args : List ℕ
@@ -58,14 +58,14 @@ most_lanes g = lanes g.vl (width g)
 
 -- how many iterations the loop is to run
 abbrev pub limit : Ground → ℕ
-limit g = bound_of g.turns g.names
+limit g = bound_of g.for_loop g.names
 
 -- A checked kernel of class Vector that some text spells, over arrays that lie apart, as its loop begins: its intervals have
 -- registers, and each parameter stands in its general register.
 pub record IsGround (g : Ground) : Type 0 where
   pub spelled : ∥ IsTree g.kernel ∥₁
   pub sound : check_fault g.kernel ≡ None
-  pub loops : g.kernel.turns ≡ Some g.turns
+  pub loops : g.kernel.for_loop ≡ Some g.for_loop
   pub vector : class_of g.kernel ≡ Vector
   pub apart : StreamsApart g.kernel g.args
   pub begins : started g.kernel g.args g.start ≡ Some g.names
@@ -78,9 +78,9 @@ pub record IsGround (g : Ground) : Type 0 where
   pub near : bound_place g.kernel ≤ 7
 
 -- a value from before the loop, in all elements of its register
-pub record HeldAll (g : Ground) (s : State) (x : Source) : Type 0 where
-  pub right : (a : Lane) → ZRight (width g) (most_lanes g) (z_at s ((layout g).registers.source x)) (λ e. source_value g.names 0 a x)
-  pub typed : (a : Lane) → IsOf ((layout g).type x) (source_value g.names 0 a x)
+pub record HeldAll (g : Ground) (s : State) (x : Operand) : Type 0 where
+  pub right : (a : Lane) → ZRight (width g) (most_lanes g) (z_at s ((layout g).registers.source x)) (λ e. operand_value g.names 0 a x)
+  pub typed : (a : Lane) → IsOf ((layout g).type x) (operand_value g.names 0 a x)
 
 -- An accumulator that the loop updates: what its lanes have taken in so far, joined together and then with its value as the
 -- loop began, is its value now.
@@ -107,7 +107,7 @@ pub record AtHead (g : Ground) (i : ℕ) (cur : Names) (m : Memory) (sum : List 
   pub index : x_at s 9 ≡ i
   pub x : (r : ℕ) → r ≤ 25 → r ≢ 9 → x_at s r ≡ slice_index g.x r
   pub all : PRight (width g) (most_lanes g) (p_at s 1) all_at
-  pub held : (x : Source) → (layout g).held x ≡ true → x ≢ LoopIndex → HeldAll g s x
+  pub held : (x : Operand) → (layout g).held x ≡ true → x ≢ LoopIndex → HeldAll g s x
   pub lanes : (x : List ℕ) → (layout g).updated x ≡ true → LanesHold ((layout g).update x) ((layout g).sum_type x) (width g) (most_lanes g) (z_at s ((layout g).sum x)) (sum x)
 
 -- the loop variable, where it has a register: the iterations of a chunk from iteration i on

@@ -12,15 +12,15 @@ use Rattle.kernel_tree.specs.Items.{loop_start}
 use Rattle.reg_assign.specs.declared.interval.RegClass.{RegClass}
 use Rattle.reg_assign.specs.declared.interval.RegClass.TheVariants.{Z, P}
 use Rattle.reg_assign.specs.Registers.{Assignment}
-use Rattle.loop_form.specs.declared.loop_item.Source.{Source}
-use Rattle.loop_form.specs.declared.loop_item.Source.TheVariants.{Constant, Outer, LoopIndex, Made}
+use Rattle.loop_form.specs.declared.loop_item.Operand.{Operand}
+use Rattle.loop_form.specs.declared.loop_item.Operand.TheVariants.{Constant, Outer, LoopIndex, Made}
 use Rattle.loop_form.specs.Entries.{Content, IsUpdate, Entry, entries_of, loop_entries}
 use Rattle.loop_form.specs.Lanes.{var_type}
 use Rattle.loop_form.specs.Listing.{last_use_in}
 use Rattle.loop_form.specs.LoopItems.{Item, loop_items_of}
 use Rattle.loop_form.specs.Needs.{updates}
 use Rattle.lane_emit.specs.ItemCode.{made_type, makes_truth}
-pub use Rattle.lane_emit.specs.LoopRegisters.{register_of, flat, item_place, throughout_of, is_same, next_place, place_in, place_of_one, held_place, sum_place, source_register, predicate_register}
+pub use Rattle.lane_emit.specs.LoopRegisters.{register_of, flat, item_place, throughout_of, is_same, next_place, place_in, place_of_one, held_place, sum_place, operand_register, predicate_register}
 use Rattle.chunk_emit.specs.Registers.{Layout}
 
 -- ---- values of items
@@ -73,18 +73,18 @@ update_of k x = operator_of (find (updates x) (loop_entries k))
 
 -- ---- the layout
 
-abbrev pub source_type : Program → Source → Ty
-source_type k (Constant t n) = unwrap_or t U64
-source_type k (Outer p) = scalar_type (slice_get k.params p)
-source_type k LoopIndex = U64
-source_type k (Made q) = unwrap_or (type_in (loop_items_of k) q) U64
+abbrev pub operand_type : Program → Operand → Ty
+operand_type k (Constant t n) = unwrap_or t U64
+operand_type k (Outer p) = scalar_type (slice_get k.params p)
+operand_type k LoopIndex = U64
+operand_type k (Made q) = unwrap_or (type_in (loop_items_of k) q) U64
 
 -- The layout of a kernel's loop, by the registers of its intervals of class Z and of class P. Each value has the register of
 -- its interval, the one of a condition two more than its number; what is held throughout comes first among the intervals.
 abbrev pub layout_of_loop : Program → (a b : Assignment) → Layout
 layout_of_loop k a b = record {
-  registers = record { source = source_register k a; z = λ q. source_register k a (Made q); p = predicate_register k b };
-  type = source_type k;
+  registers = record { source = operand_register k a; z = λ q. operand_register k a (Made q); p = predicate_register k b };
+  type = operand_type k;
   z_last_use = item_last_use k Z;
   p_last_use = truth_last_use k;
   held = λ x. is_some (held_place k x);

@@ -6,7 +6,8 @@ use Rattle.kernel_meaning.specs.Operators.{word}
 use Rattle.reg_assign.specs.declared.interval.RegClass.TheVariants.{Z, P}
 use Rattle.reg_assign.specs.Registers.{Assignment}
 use Rattle.loop_form.specs.Lanes.{lane_width_of}
-use Rattle.loop_form.specs.LoopItems.{Op, Load, Gather, Apply, Combine, Move, Cast, Copy, Pick, Store, Add, Test, Invert, Same, Any, Quit, Item}
+use Rattle.loop_form.specs.LoopItems.{Op, Item}
+use Rattle.loop_form.specs.LoopItems as ops
 use Rattle.loop_form.specs.Registers.{FitsKernel}
 use Rattle.loop_form.specs.Streams.{type_of_place}
 use Rattle.vector_order.specs.Operands.{nth_value}
@@ -29,21 +30,21 @@ pub record FitsSetting (k : Program) (f : Setting) : Type 0 where
 
 -- an operation fits, or is a break whose condition does
 abbrev pub FitsStep : Layout → Setting → ℕ → Op → Type 0
-FitsStep l f p (Quit c) = FitsTruth l p c × MakesNothing l p
-FitsStep l f p (Load a base t c) = FitsOp l f p (Load a base t c)
-FitsStep l f p (Gather a base t r u x) = FitsOp l f p (Gather a base t r u x)
-FitsStep l f p (Apply op t x) = FitsOp l f p (Apply op t x)
-FitsStep l f p (Combine op t x y) = FitsOp l f p (Combine op t x y)
-FitsStep l f p (Move left n t x) = FitsOp l f p (Move left n t x)
-FitsStep l f p (Cast s t x) = FitsOp l f p (Cast s t x)
-FitsStep l f p (Copy t x) = FitsOp l f p (Copy t x)
-FitsStep l f p (Pick t c x y) = FitsOp l f p (Pick t c x y)
-FitsStep l f p (Store a base t c v) = FitsOp l f p (Store a base t c v)
-FitsStep l f p (Add x op t v) = FitsOp l f p (Add x op t v)
-FitsStep l f p (Test op t x y) = FitsOp l f p (Test op t x y)
-FitsStep l f p (Invert c) = FitsOp l f p (Invert c)
-FitsStep l f p (Same c) = FitsOp l f p (Same c)
-FitsStep l f p (Any c d) = FitsOp l f p (Any c d)
+FitsStep l f p (ops.Break c) = FitsTruth l p c × MakesNothing l p
+FitsStep l f p (ops.Load a base t c) = FitsOp l f p (ops.Load a base t c)
+FitsStep l f p (ops.Gather a base t r u x) = FitsOp l f p (ops.Gather a base t r u x)
+FitsStep l f p (ops.Unary op t x) = FitsOp l f p (ops.Unary op t x)
+FitsStep l f p (ops.Binary op t x y) = FitsOp l f p (ops.Binary op t x y)
+FitsStep l f p (ops.Shift left n t x) = FitsOp l f p (ops.Shift left n t x)
+FitsStep l f p (ops.Cast s t x) = FitsOp l f p (ops.Cast s t x)
+FitsStep l f p (ops.Let t x) = FitsOp l f p (ops.Let t x)
+FitsStep l f p (ops.Select t c x y) = FitsOp l f p (ops.Select t c x y)
+FitsStep l f p (ops.Store a base t c v) = FitsOp l f p (ops.Store a base t c v)
+FitsStep l f p (ops.Update x op t v) = FitsOp l f p (ops.Update x op t v)
+FitsStep l f p (ops.Compare op t x y) = FitsOp l f p (ops.Compare op t x y)
+FitsStep l f p (ops.Not c) = FitsOp l f p (ops.Not c)
+FitsStep l f p (ops.And c) = FitsOp l f p (ops.And c)
+FitsStep l f p (ops.Or c d) = FitsOp l f p (ops.Or c d)
 
 -- items, breaks among them, with ascending numbers from p on
 abbrev pub FitsSteps : Layout → Setting → ℕ → List Item → Type 0
@@ -53,7 +54,7 @@ FitsSteps l f p (it ∷ items) =
 
 -- no break is among the items
 abbrev pub IsNoBreak : Op → Type 0
-IsNoBreak (Quit c) = ⊥
+IsNoBreak (ops.Break c) = ⊥
 IsNoBreak _ = Unit {0}
 
 abbrev pub AreNoBreaks : List Item → Type 0

@@ -2,8 +2,8 @@
 use Rattle.std.specs.Prelude.{ℕ, ◌<◌, Bool, List, nat_lt, if◌then◌else◌}
 use Rattle.kernel_tree.specs.declared.ops.Ty.{Ty}
 use Rattle.kernel_tree.specs.declared.ops.UpdateOp.{UpdateOp}
-use Rattle.loop_form.specs.declared.loop_item.Source.{Source}
-use Rattle.loop_form.specs.declared.loop_item.Source.TheVariants.{Constant, Outer, LoopIndex, Made}
+use Rattle.loop_form.specs.declared.loop_item.Operand.{Operand}
+use Rattle.loop_form.specs.declared.loop_item.Operand.TheVariants.{Constant, Outer, LoopIndex, Made}
 use Rattle.loop_form.specs.LoopItems.{Op}
 use Rattle.lane_emit.specs.ItemCode.{Registers, makes_truth}
 
@@ -12,10 +12,10 @@ use Rattle.lane_emit.specs.ItemCode.{Registers, makes_truth}
 -- throughout; by accumulator, whether the loop updates it, by which operator, its type, and its vector register.
 pub record Layout : Type 0 where
   pub registers : Registers
-  pub type : Source → Ty
+  pub type : Operand → Ty
   pub z_last_use : ℕ → ℕ
   pub p_last_use : ℕ → ℕ
-  pub held : Source → Bool
+  pub held : Operand → Bool
   pub updated : List ℕ → Bool
   pub update : List ℕ → UpdateOp
   pub sum_type : List ℕ → Ty
@@ -40,7 +40,7 @@ abbrev pub is_used : Layout → Op → ℕ → Bool
 is_used l op q = nat_lt q (if makes_truth op then l.p_last_use q else l.z_last_use q)
 
 -- the general register of an array's address: that of the parameter
-abbrev pub base_of : Source → ℕ
+abbrev pub base_of : Operand → ℕ
 base_of (Outer p) = p
 base_of (Constant t z) = 0
 base_of LoopIndex = 0

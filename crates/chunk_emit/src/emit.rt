@@ -23,7 +23,7 @@ use guest_types::length::Width;
 use kernel_tree::{Ty, UpdateOp};
 use label_fix::{Draft, Word};
 use lane_emit::{emit_item, shift_left};
-use loop_form::{LoopItem, LoopOp, Source};
+use loop_form::{LoopItem, LoopOp, Operand};
 use reductions::update_word;
 use std::alloc::{AllocError, Global};
 use sve_code::{GoverningReg, Sve, VectorReg};
@@ -65,7 +65,7 @@ fn emit_load(
     layout: &LoopLayout<'_>,
     item: u32,
     mask: GoverningReg,
-    base: Source,
+    base: Operand,
     ty: Ty,
     offset: i32,
     draft: &mut Draft,
@@ -116,10 +116,10 @@ fn emit_gather(
     layout: &LoopLayout<'_>,
     item: u32,
     mask: GoverningReg,
-    base: Source,
+    base: Operand,
     ty: Ty,
     reach: Option<u32>,
-    index: Source,
+    index: Operand,
     draft: &mut Draft,
 ) -> Result<(), AllocError>
     requires { layouts.base_of base < 32 }
@@ -143,10 +143,10 @@ fn emit_gather(
 fn emit_store(
     layout: &LoopLayout<'_>,
     mask: GoverningReg,
-    base: Source,
+    base: Operand,
     ty: Ty,
     offset: i32,
-    value: Source,
+    value: Operand,
     draft: &mut Draft,
 ) -> Result<(), AllocError>
     requires place { IsPlace base offset }
@@ -176,7 +176,7 @@ fn emit_update(
     name: &str,
     op: UpdateOp,
     ty: Ty,
-    value: Source,
+    value: Operand,
     draft: &mut Draft,
 ) -> Result<(), AllocError>
     ensures { let words = update_code (width_in layout.now) op ty ((layout_in layout.now).sum name.now)
@@ -195,7 +195,7 @@ pub fn makes_truth(op: &LoopOp<'_>) -> bool
 {
     matches!(
         *op,
-        LoopOp::Test { .. } | LoopOp::Invert(_) | LoopOp::Same(_) | LoopOp::Any(..)
+        LoopOp::Compare { .. } | LoopOp::Not(_) | LoopOp::And(_) | LoopOp::Or(..)
     )
 }
 
@@ -270,7 +270,7 @@ fn emit_op(
             value,
             ..
         } => emit_store(layout, mask, base, ty, offset, value, draft)?,
-        LoopOp::Add {
+        LoopOp::Update {
             name,
             op,
             ty: Some(ty),

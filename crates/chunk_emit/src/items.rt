@@ -1,7 +1,7 @@
 //! The code of a list of items.
 
 ghost use Rattle.std.specs.Prelude.{◌≡◌, ◌+◌, ◌<◌, List, ◌++◌, length, drop, slice_get, OnOk, IfOk, option_map};
-ghost use Rattle.label_fix.specs.DraftRun.{Entry};
+ghost use Rattle.label_fix.specs.DraftRun.{DraftEntry};
 ghost use Rattle.label_fix.specs.Emits.{Emits, puts};
 ghost use Rattle.loop_form.specs.LoopView.{op_of, view_of, view};
 ghost use Rattle.chunk_emit.specs.ChunkCode as code;
@@ -12,15 +12,15 @@ ghost use Rattle.chunk_emit.specs.View.{layout_in, width_in};
 use crate::emit::emit_one;
 use crate::layout::LoopLayout;
 use label_fix::Draft;
-use loop_form::{LoopItem, LoopOp, Source};
+use loop_form::{LoopItem, LoopOp, Operand};
 use std::alloc::{AllocError, Global};
 
 // Whether an operand is the value of an item.
-fn is_made(item: u32, value: Source) -> bool
+fn is_made(item: u32, value: Operand) -> bool
     ensures { result ≡ code.is_made item value }
 {
     match value {
-        Source::Made(made) => made == item,
+        Operand::Made(made) => made == item,
         _ => false,
     }
 }
@@ -85,7 +85,7 @@ fn emit_at(
     requires writable { AreWritable (width_in layout.now) (view (drop place items.now)) }
     ensures labels { OnOk result (draft.new.labels ≡ draft.old.labels) }
     ensures code { let left = steps.left_words (width_in layout.now) (layout_in layout.now) in
-        IfOk result (λ took. (rest : List Entry)
+        IfOk result (λ took. (rest : List DraftEntry)
         → draft.new.entries ++ puts (left took (view (drop (place + 1) items.now))) rest
         ≡ draft.old.entries ++ puts (left done (view (drop place items.now))) rest) }
 {

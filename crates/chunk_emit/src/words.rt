@@ -18,7 +18,7 @@ use kernel_meaning::fits;
 use kernel_tree::Ty;
 use label_fix::Word;
 use lane_emit::{extend_byte, extend_halfword, size};
-use loop_form::Source;
+use loop_form::Operand;
 use sve_code::{
     Dtype, ExtendOp, GatherOp, GoverningReg, OffsetReg, Size, StoreSizes, Sve, VectorReg,
 };
@@ -27,12 +27,12 @@ use word_rows::Bits;
 // ---- general registers
 
 /// The register of an array's address.
-pub fn base_register(base: Source) -> Reg
+pub fn base_register(base: Operand) -> Reg
     requires { base_of base < 32 }
     ensures { result.number ≡ base_of base }
 {
     match base {
-        Source::Outer(place) => Bits { number: place },
+        Operand::Outer(place) => Bits { number: place },
         _ => Bits { number: 0 },
     }
 }

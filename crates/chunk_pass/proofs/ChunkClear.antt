@@ -15,7 +15,7 @@ use Rattle.kernel_meaning.specs.Eval.{Names}
 use Rattle.kernel_meaning.specs.ScalarRun.{started, bound_of, argument_names}
 use Rattle.kernel_meaning.proofs.Started.{started_bound}
 use Rattle.loop_form.specs.declared.stream.Stream.{Stream}
-use Rattle.loop_form.specs.Entries.{block_entries, turns_entries, loop_entries}
+use Rattle.loop_form.specs.Entries.{block_entries, for_loop_entries, loop_entries}
 use Rattle.loop_form.specs.Lanes.{lane_width_of}
 use Rattle.loop_form.specs.LoopItems.{loop_env, Item, loop_items}
 use Rattle.loop_form.specs.Streams.{stream_of, streams_of, In}
@@ -44,14 +44,14 @@ use Rattle.vector_order.proofs.Touches.{AllSited}
 use Rattle.vector_order.proofs.NamesHeld.{append_nothing}
 
 -- the body is ready
-body_ready : (k : Program) (l : PlainLoop) (names : Names) → check_fault k ≡ None → k.turns ≡ Some l → class_of k ≡ Vector → ReadyBlock names 0 (is_accumulator k) (in_loop (var_scope k) l) l.body
+body_ready : (k : Program) (l : PlainLoop) (names : Names) → check_fault k ≡ None → k.for_loop ≡ Some l → class_of k ≡ Vector → ReadyBlock names 0 (is_accumulator k) (in_loop (var_scope k) l) l.body
 body_ready k l names checked loop vector =
     let scope : Scope = var_scope k in
     let class = class_facts k vector in
-    let listing : AllOk k (turns_entries k (loop_start k) (Some l)) = subst (λ o. AllOk k (turns_entries k (loop_start k) o)) loop (all_ok k (loop_entries k) class.unread) in
+    let listing : AllOk k (for_loop_entries k (loop_start k) (Some l)) = subst (λ o. AllOk k (for_loop_entries k (loop_start k) o)) loop (all_ok k (loop_entries k) class.unread) in
     ready_block k names 0 l.body (in_loop scope l) (loop_start k + 1) (loop_start k + 1) (body_faultless k l checked loop) listing.1 (head_ok k l checked)
 
-pub clear_of_chunk : (k : Program) (l : PlainLoop) (args : List ℕ) (start : Memory) (names : Names) (i n : ℕ) → check_fault k ≡ None → k.turns ≡ Some l → class_of k ≡ Vector → StreamsApart k args → started k args start ≡ Some names → n ≤ 2048 / width_bits (lane_width_of k) → i + n ≤ bound_of l names
+pub clear_of_chunk : (k : Program) (l : PlainLoop) (args : List ℕ) (start : Memory) (names : Names) (i n : ℕ) → check_fault k ≡ None → k.for_loop ≡ Some l → class_of k ≡ Vector → StreamsApart k args → started k args start ≡ Some names → n ≤ 2048 / width_bits (lane_width_of k) → i + n ≤ bound_of l names
     → ClearWithin (acts_of names (loop_items k l)) n i
 clear_of_chunk k l args start names i n checked loop vector apart began few within =
     let scope : Scope = var_scope k in
@@ -65,7 +65,7 @@ clear_of_chunk k l args start names i n checked loop vector apart began few with
     let listed : filter_map (item_stream k) items ≡ streams_of k =
     block_streams k is_acc names 0 l.body (in_loop scope l) None from from (loop_env scope l.index) [] (scope_index k) refl (body-kinds k l checked loop) ready
     ∙ append_nothing (filter_map (stream_of k) (block_entries k from l.body))
-    ∙ ap (λ o. filter_map (stream_of k) (turns_entries k (loop_start k) o)) (sym loop) in
+    ∙ ap (λ o. filter_map (stream_of k) (for_loop_entries k (loop_start k) o)) (sym loop) in
     let inside : AllIn k (streams_of k) items = subst (λ ss. AllIn k ss items) listed (all_in k items) in
     let loose : Uncarried k (lane_width_of k) items = uncarried k (lane_width_of k) items (ap (carried (lane_width_of k)) listed ∙ class.loose) in
     let near : (s : Stream) → In s (streams_of k) → unsigned_abs s.offset ≤ 1024 = λ s h. near_streams k (loop_entries k) s (loop-near k checked) h in

@@ -42,7 +42,7 @@ module _ (g : Ground) (f : Setting) (i k : ℕ) (cur : Names) (sum : List ℕ �
         by : (b : Bool) → is_accumulator g.kernel x ≡ b → value_at ns x ≡ value_at g.names x
         by false e = steady_value x g.kernel g.names ns steady e
         by true e =
-            let unadded = none_added x g.kernel g.turns is.loops (unupdated x g.kernel e none) in
+            let unadded = none_added x g.kernel g.for_loop is.loops (unupdated x g.kernel e none) in
             let nothing = λ (j : ℕ) (lo : i ≤ j) (hi : j < i + k). items_nothing x g.names (items_of g) k i j t out unadded done (ap (list_any (is_for x)) (chunk.fresh j lo hi)) in
             ap (λ ns. value_at ns x) names ∙ lanes_still x k i out.lane cur nothing ∙ between.still x none
 
@@ -67,12 +67,12 @@ module _ (g : Ground) (f : Setting) (i k : ℕ) (cur : Names) (sum : List ℕ �
 
 pub fine_is_done : FineIsDone
 fine_is_done g f i k cur sum t out is between set chunk done given =
-    by (iterations (var_scope g.kernel) g.turns k i t.memory cur) refl (subst (EndsAlike g.kernel g.names cur i k (iterations (var_scope g.kernel) g.turns k i t.memory cur)) done (same.same t chunk.fresh))
+    by (iterations (var_scope g.kernel) g.for_loop k i t.memory cur) refl (subst (EndsAlike g.kernel g.names cur i k (iterations (var_scope g.kernel) g.for_loop k i t.memory cur)) done (same.same t chunk.fresh))
   where
-    same : SameChunk g.kernel g.turns g.args g.names cur i k
+    same : SameChunk g.kernel g.for_loop g.args g.names cur i k
     same = chunk_same g i k cur is between.steady chunk.few chunk.within
 
-    by : (r : LoopState Names) → iterations (var_scope g.kernel) g.turns k i t.memory cur ≡ r → EndsAlike g.kernel g.names cur i k r (Fine out) → Done g f i k cur t.memory out
+    by : (r : LoopState Names) → iterations (var_scope g.kernel) g.for_loop k i t.memory cur ≡ r → EndsAlike g.kernel g.names cur i k r (Fine out) → Done g f i k cur t.memory out
     by (Going m ns) e h = record { names = ns; goes = e ∙ ap (λ m. Going m ns) (sym h.0); between = between_after g f i k cur sum t out is between set chunk done ns h.1 h.2 given }
     by (Left m ns j) e h = elim h [ ]
     by (Failed m j) e h = elim h [ ]

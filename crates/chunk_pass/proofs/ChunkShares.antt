@@ -12,7 +12,8 @@ use Rattle.kernel_tree.proofs.Names.{bytes_told}
 use Rattle.kernel_meaning.specs.Operators.{binary_value}
 use Rattle.kernel_meaning.specs.Eval.{Named, Names, value_of, is_named, value_at}
 use Rattle.kernel_meaning.specs.Iterate.{named, assigned}
-use Rattle.loop_form.specs.LoopItems.{Op, Load, Gather, Apply, Combine, Move, Cast, Copy, Pick, Store, Add, Test, Invert, Same, Any, Quit, Item}
+use Rattle.loop_form.specs.LoopItems.{Op, Item}
+use Rattle.loop_form.specs.LoopItems as ops
 use Rattle.vector_order.specs.Orders.{Share, Lane, Lanes, Effect, Halts, Keeps, Writes, Act, Out, Fine, Fail, with_lane, wrote, done, act_does, go_on, column, by_item}
 use Rattle.vector_order.specs.Operands.{on_mask, with_value, load_effect, store_effect}
 use Rattle.vector_order.proofs.OneAccess.{or_false}
@@ -50,26 +51,26 @@ module _ (x : List ℕ) where
   add_nothing l true s e h = list_any-append is_for l.shares (s ∷ []) ∙ ap₂ (λ a b. a || (b || false)) h e
   add_nothing l false s e h = h
 
-  quit_nothing : (l : Lane) (b : Bool) → GaveNothing l → NothingIn (if b then Halts else Keeps l)
-  quit_nothing l true h = tt
-  quit_nothing l false h = h
+  break_nothing : (l : Lane) (b : Bool) → GaveNothing l → NothingIn (if b then Halts else Keeps l)
+  break_nothing l true h = tt
+  break_nothing l false h = h
 
   op_nothing : (op : Op) (names : Names) (q i : ℕ) (on : Bool) (m : Memory) (l : Lane) → adds x op ≡ false → GaveNothing l → NothingIn (op_effect op names q i on m l)
-  op_nothing (Load a base t c) names q i on m l e h = load_nothing l q on _ h
-  op_nothing (Gather a base t r u y) names q i on m l e h = load_nothing l q on _ h
-  op_nothing (Apply op t y) names q i on m l e h = h
-  op_nothing (Combine op t y z) names q i on m l e h = h
-  op_nothing (Move left n t y) names q i on m l e h = h
-  op_nothing (Cast s t y) names q i on m l e h = h
-  op_nothing (Copy t y) names q i on m l e h = h
-  op_nothing (Pick t c y z) names q i on m l e h = h
-  op_nothing (Store a base t c v) names q i on m l e h = store_nothing l on t _ _ _ h
-  op_nothing (Add y op t v) names q i on m l e h = add_nothing l on _ e h
-  op_nothing (Test op t y z) names q i on m l e h = h
-  op_nothing (Invert c) names q i on m l e h = h
-  op_nothing (Same c) names q i on m l e h = h
-  op_nothing (Any c d) names q i on m l e h = h
-  op_nothing (Quit c) names q i on m l e h = quit_nothing l (on && l.truth c) h
+  op_nothing (ops.Load a base t c) names q i on m l e h = load_nothing l q on _ h
+  op_nothing (ops.Gather a base t r u y) names q i on m l e h = load_nothing l q on _ h
+  op_nothing (ops.Unary op t y) names q i on m l e h = h
+  op_nothing (ops.Binary op t y z) names q i on m l e h = h
+  op_nothing (ops.Shift left n t y) names q i on m l e h = h
+  op_nothing (ops.Cast s t y) names q i on m l e h = h
+  op_nothing (ops.Let t y) names q i on m l e h = h
+  op_nothing (ops.Select t c y z) names q i on m l e h = h
+  op_nothing (ops.Store a base t c v) names q i on m l e h = store_nothing l on t _ _ _ h
+  op_nothing (ops.Update y op t v) names q i on m l e h = add_nothing l on _ e h
+  op_nothing (ops.Compare op t y z) names q i on m l e h = h
+  op_nothing (ops.Not c) names q i on m l e h = h
+  op_nothing (ops.And c) names q i on m l e h = h
+  op_nothing (ops.Or c d) names q i on m l e h = h
+  op_nothing (ops.Break c) names q i on m l e h = break_nothing l (on && l.truth c) h
 
   done_nothing : (e : Effect) (i j : ℕ) (s t : Lanes) → (GaveNothing (s.lane i) → NothingIn e) → done e i s ≡ Fine t → GaveNothing (s.lane j) → GaveNothing (t.lane j)
   done_nothing Halts i j s t h d g = absurd cc

@@ -7,14 +7,15 @@ use Rattle.kernel_tree.specs.Plain.{Term, Literal, Variable, Element, Unary, Ope
 use Rattle.kernel_tree.specs.Items.{stream_offset, loop_index, index_items, term_size, action_size, block_size, otherwise_size, loop_start}
 use Rattle.kernel_tree.specs.Typing.{Scope, own, first, index_type, side_type, after_action, after_block, left, in_loop, var_scope, array_type}
 use Rattle.loop_form.specs.declared.item.ItemKind.TheVariants as kind
-use Rattle.loop_form.specs.declared.loop_item.Source.{Source}
-use Rattle.loop_form.specs.Entries.{Entry, IsPlain, entry, term_entries, action_entries, block_entries, otherwise_entries, turns_entries, loop_entries}
-use Rattle.loop_form.specs.LoopItems.{Bound, Op, Add, Item, truth_home, load_item, gather_item, term_items, cond_items, store_item, accumulator_of, after_env, quit_items, leave_items, action_items, block_items, otherwise_items, loop_env, loop_items}
+use Rattle.loop_form.specs.declared.loop_item.Operand.{Operand}
+use Rattle.loop_form.specs.Entries.{Entry, IsPlain, entry, term_entries, action_entries, block_entries, otherwise_entries, for_loop_entries, loop_entries}
+use Rattle.loop_form.specs.LoopItems.{Bound, Op, Item, truth_home, load_item, gather_item, term_items, cond_items, store_item, accumulator_of, after_env, break_items, leave_items, action_items, block_items, otherwise_items, loop_env, loop_items}
+use Rattle.loop_form.specs.LoopItems as ops
 use Rattle.loop_form.specs.Needs.{updates}
 use Rattle.vector_order.proofs.OneAccess.{or_false}
 
 abbrev pub adds : List ℕ → Op → Bool
-adds x (Add y op t v) = bytes_eq y x
+adds x (ops.Update y op t v) = bytes_eq y x
 adds x _ = false
 
 -- the item is an update of the accumulator
@@ -26,7 +27,7 @@ module _ (x : List ℕ) where
   load_adds scope mask q env a None gathered rest h = h
   load_adds scope mask q env a (Some c) gathered rest h = refl
 
-  store_adds : (scope : Scope) (mask : Option ℕ) (q : ℕ) (env : List Bound) (a : List ℕ) (o : Option ℤ) (v : Source) (rest : List Item) → list_any (is_add x) (store_item scope mask q env a o v rest) ≡ list_any (is_add x) rest
+  store_adds : (scope : Scope) (mask : Option ℕ) (q : ℕ) (env : List Bound) (a : List ℕ) (o : Option ℤ) (v : Operand) (rest : List Item) → list_any (is_add x) (store_item scope mask q env a o v rest) ≡ list_any (is_add x) rest
   store_adds scope mask q env a None v rest = refl
   store_adds scope mask q env a (Some c) v rest = refl
 
@@ -57,12 +58,12 @@ module _ (x : List ℕ) where
   before : (es fs : List Entry) → list_any (updates x) (es ++ fs) ≡ false → list_any (updates x) es ≡ false
   before es fs h = (or_false (list_any (updates x) es) (list_any (updates x) fs) (sym (list_any-append (updates x) es fs) ∙ h)).0
 
-  quit_adds : (c : Term) (scope : Scope) (mask : Option ℕ) (from : ℕ) (env : List Bound) (rest : List Item) → list_any (is_add x) (quit_items scope mask from env c rest) ≡ list_any (is_add x) rest
-  quit_adds c scope mask from env rest = (term_adds c).as_cond scope mask from env _
+  break_adds : (c : Term) (scope : Scope) (mask : Option ℕ) (from : ℕ) (env : List Bound) (rest : List Item) → list_any (is_add x) (break_items scope mask from env c rest) ≡ list_any (is_add x) rest
+  break_adds c scope mask from env rest = (term_adds c).as_cond scope mask from env _
 
   leave_adds : (c : Term) (scope : Scope) (mask : Option ℕ) (from : ℕ) (env : List Bound) (rest : List Item) → list_any (is_add x) (leave_items scope mask from env c rest) ≡ list_any (is_add x) rest
-  leave_adds (Either a b) scope mask from env rest = leave_adds a scope mask from env _ ∙ quit_adds b scope mask (from + term_size scope.index a + 1) env rest
-  leave_adds c scope mask from env rest = quit_adds c scope mask from env rest
+  leave_adds (Either a b) scope mask from env rest = leave_adds a scope mask from env _ ∙ break_adds b scope mask (from + term_size scope.index a + 1) env rest
+  leave_adds c scope mask from env rest = break_adds c scope mask from env rest
 
   module _ (k : Program) where
     mutual
@@ -93,5 +94,5 @@ module _ (x : List ℕ) where
       otherwise_adds Nothing scope mask from c g end env rest h r = r
       otherwise_adds (Else b) scope mask from c g end env rest h r = block_adds b scope (Some from) (from + 1) (g + 1) env rest h r
 
-    pub none_added : (l : PlainLoop) → k.turns ≡ Some l → list_any (updates x) (loop_entries k) ≡ false → list_any (is_add x) (loop_items k l) ≡ false
-    none_added l is h = block_adds l.body (in_loop (var_scope k) l) None (loop_start k + 1) (loop_start k + 1) (loop_env (var_scope k) l.index) [] (ap (λ o. list_any (updates x) (turns_entries k (loop_start k) o)) (sym is) ∙ h) refl
+    pub none_added : (l : PlainLoop) → k.for_loop ≡ Some l → list_any (updates x) (loop_entries k) ≡ false → list_any (is_add x) (loop_items k l) ≡ false
+    none_added l is h = block_adds l.body (in_loop (var_scope k) l) None (loop_start k + 1) (loop_start k + 1) (loop_env (var_scope k) l.index) [] (ap (λ o. list_any (updates x) (for_loop_entries k (loop_start k) o)) (sym is) ∙ h) refl

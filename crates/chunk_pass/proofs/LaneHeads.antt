@@ -6,8 +6,8 @@ use Rattle.guest_types.specs.Memory.{Memory}
 use Rattle.kernel_meaning.specs.Eval.{Names}
 use Rattle.machine_model.specs.Machine.{State, x_at, z_at, p_at}
 use Rattle.machine_model.specs.States.{IsState}
-use Rattle.loop_form.specs.declared.loop_item.Source.{Source}
-use Rattle.loop_form.specs.declared.loop_item.Source.TheVariants.{LoopIndex}
+use Rattle.loop_form.specs.declared.loop_item.Operand.{Operand}
+use Rattle.loop_form.specs.declared.loop_item.Operand.TheVariants.{LoopIndex}
 use Rattle.dependence.specs.Apart.{bound_place}
 use Rattle.reductions.specs.AccumulatorLanes as accumulators
 use Rattle.chunk_emit.specs.Head.{Ground, IsGround, AtHead, layout, width, limit}
@@ -20,7 +20,7 @@ pub record Kept (g : Ground) (s t : State) : Type 0 where
   pub memory : t.memory ≡ s.memory
   pub x : (r : ℕ) → r ≤ 25 → x_at t r ≡ x_at s r
   pub all : p_at t 1 ≡ p_at s 1
-  pub held : (x : Source) → (layout g).held x ≡ true → x ≢ LoopIndex → z_at t ((layout g).registers.source x) ≡ z_at s ((layout g).registers.source x)
+  pub held : (x : Operand) → (layout g).held x ≡ true → x ≢ LoopIndex → z_at t ((layout g).registers.source x) ≡ z_at s ((layout g).registers.source x)
   pub sums : (x : List ℕ) → (layout g).updated x ≡ true → z_at t ((layout g).sum x) ≡ z_at s ((layout g).sum x)
 
 pub head_kept : {g : Ground} {i : ℕ} {cur : Names} {m : Memory} {sum : List ℕ → ℕ → ℤ} {s t : State} → AtHead g i cur m sum s → Kept g s t → AtHead g i cur m sum t

@@ -13,19 +13,19 @@ use Rattle.kernel_tree.specs.Items.{loop_start}
 use Rattle.kernel_meaning.specs.Eval.{Names}
 use Rattle.machine_model.specs.Machine.{State, z_at, p_at}
 use Rattle.reg_assign.specs.declared.interval.RegClass.TheVariants.{Z, P}
-use Rattle.loop_form.specs.declared.loop_item.Source.{Source}
-use Rattle.loop_form.specs.declared.loop_item.Source.TheVariants.{Constant, Outer, LoopIndex, Made}
-use Rattle.loop_form.specs.Entries.{entries_of, turns_entries, loop_entries}
+use Rattle.loop_form.specs.declared.loop_item.Operand.{Operand}
+use Rattle.loop_form.specs.declared.loop_item.Operand.TheVariants.{Constant, Outer, LoopIndex, Made}
+use Rattle.loop_form.specs.Entries.{entries_of, for_loop_entries, loop_entries}
 use Rattle.vector_order.specs.Orders.{Lane, Lanes}
-use Rattle.vector_order.specs.Operands.{source_value}
+use Rattle.vector_order.specs.Operands.{operand_value}
 use Rattle.lane_emit.specs.Right.{IsOf, within}
 use Rattle.reductions.specs.Folds.{after_all, given_to}
 use Rattle.chunk_emit.specs.KernelLayout.{last_in, item_last_use}
 use Rattle.chunk_emit.specs.LoopFits.{FitsSetting}
 use Rattle.chunk_emit.specs.Chunk.{Setting, HeldRight, IsTop, sum_at, SumRight, Holds}
 use Rattle.chunk_emit.specs.Head.{Ground, IsGround, AtHead, IndexHeld, layout, width, most_lanes, limit}
-use Rattle.chunk_emit.proofs.FitsSources.{truth_less}
-use Rattle.chunk_emit.proofs.FitsTyped.{turn_typed}
+use Rattle.chunk_emit.proofs.FitsOperands.{truth_less}
+use Rattle.chunk_emit.proofs.FitsTyped.{loop_index_typed}
 use Rattle.first_fault.proofs.PrefixBits.{top_active}
 use Rattle.chunk_pass.specs.Chunks.{IsSetting, IsChunk}
 use Rattle.chunk_pass.proofs.LaneHeads.{limit_below}
@@ -61,21 +61,21 @@ is_chunk g i n m few within = record { few = few; within = within; fresh = λ j 
 -- ---- values from before the loop
 
 -- that of any operand but the loop variable is the same in all lanes
-pub outer_same : (names : Names) (i j : ℕ) (a : Lane) (x : Source) → x ≢ LoopIndex → source_value names i a x ≡ source_value names j a x
+pub outer_same : (names : Names) (i j : ℕ) (a : Lane) (x : Operand) → x ≢ LoopIndex → operand_value names i a x ≡ operand_value names j a x
 outer_same names i j a (Constant t z) ne = refl
 outer_same names i j a (Outer p) ne = refl
 outer_same names i j a LoopIndex ne = absurd (ne refl)
 outer_same names i j a (Made q) ne = refl
 
-pub data IsTurn (x : Source) : Type 0 where
-  is_turn : x ≡ LoopIndex → IsTurn x
-  no_turn : x ≢ LoopIndex → IsTurn x
+pub data IsLoopIndex (x : Operand) : Type 0 where
+  is_loop_index : x ≡ LoopIndex → IsLoopIndex x
+  not_loop_index : x ≢ LoopIndex → IsLoopIndex x
 
-pub turn_or_not : (x : Source) → IsTurn x
-turn_or_not (Constant t z) = no_turn (λ e. cc)
-turn_or_not (Outer p) = no_turn (λ e. cc)
-turn_or_not LoopIndex = is_turn refl
-turn_or_not (Made q) = no_turn (λ e. cc)
+pub loop_index_or_not : (x : Operand) → IsLoopIndex x
+loop_index_or_not (Constant t z) = not_loop_index (λ e. cc)
+loop_index_or_not (Outer p) = not_loop_index (λ e. cc)
+loop_index_or_not LoopIndex = is_loop_index refl
+loop_index_or_not (Made q) = not_loop_index (λ e. cc)
 
 -- ---- P0
 
@@ -93,16 +93,16 @@ and_true false = refl
 -- ---- the items before the loop make nothing
 
 first_value : (k : Program) → slice_index (map (last_in Z (entries_of k)) (loop_entries k)) 0 ≡ 0
-first_value k = by k.turns
+first_value k = by k.for_loop
   where
-    by : (o : Option PlainLoop) → slice_index (map (last_in Z (entries_of k)) (turns_entries k (loop_start k) o)) 0 ≡ 0
+    by : (o : Option PlainLoop) → slice_index (map (last_in Z (entries_of k)) (for_loop_entries k (loop_start k) o)) 0 ≡ 0
     by None = refl
     by (Some l) = refl
 
 first_truth : (k : Program) → slice_index (map (last_in P (entries_of k)) (loop_entries k)) 0 ≡ 0
-first_truth k = by k.turns
+first_truth k = by k.for_loop
   where
-    by : (o : Option PlainLoop) → slice_index (map (last_in P (entries_of k)) (turns_entries k (loop_start k) o)) 0 ≡ 0
+    by : (o : Option PlainLoop) → slice_index (map (last_in P (entries_of k)) (for_loop_entries k (loop_start k) o)) 0 ≡ 0
     by None = refl
     by (Some l) = refl
 
@@ -116,14 +116,14 @@ no_truth_before k q lt =
     let place : q - loop_start k ≡ 0 = omega (arith, lt) in
     ap (slice_index (map (last_in P (entries_of k)) (loop_entries k))) place ∙ first_truth k
 
-module _ (g : Ground) {i : ℕ} {cur : Names} {m : Memory} {sum : List ℕ → ℕ → ℤ} {s : State} (n : ℕ) (ground : IsGround g) (h : AtHead g i cur m sum s) (turned : IndexHeld g i s) (few : n ≤ most_lanes g) (within : i + n ≤ limit g) where
-  held_turn : (layout g).held LoopIndex ≡ true → HeldRight (layout g) (setting g i n sum s.x s.stops) s LoopIndex
-  held_turn is = record {
-    right = λ a. turned is;
-    typed = λ a e lt. turn_typed g.names (i + e) a (omega (arith, lt, within, limit_below ground h));
+module _ (g : Ground) {i : ℕ} {cur : Names} {m : Memory} {sum : List ℕ → ℕ → ℤ} {s : State} (n : ℕ) (ground : IsGround g) (h : AtHead g i cur m sum s) (held_index : IndexHeld g i s) (few : n ≤ most_lanes g) (within : i + n ≤ limit g) where
+  held_loop_index : (layout g).held LoopIndex ≡ true → HeldRight (layout g) (setting g i n sum s.x s.stops) s LoopIndex
+  held_loop_index is = record {
+    right = λ a. held_index is;
+    typed = λ a e lt. loop_index_typed g.names (i + e) a (omega (arith, lt, within, limit_below ground h));
   }
 
-  held_other : (x : Source) → (layout g).held x ≡ true → x ≢ LoopIndex → HeldRight (layout g) (setting g i n sum s.x s.stops) s x
+  held_other : (x : Operand) → (layout g).held x ≡ true → x ≢ LoopIndex → HeldRight (layout g) (setting g i n sum s.x s.stops) s x
   held_other x is ne =
       let old = h.held x is ne in
       record {
@@ -131,12 +131,12 @@ module _ (g : Ground) {i : ℕ} {cur : Names} {m : Memory} {sum : List ℕ → �
         typed = λ a e lt. subst (IsOf ((layout g).type x)) (outer_same g.names 0 (i + e) a x ne) (old.typed a);
       }
 
-  held_right : (x : Source) → (layout g).held x ≡ true → HeldRight (layout g) (setting g i n sum s.x s.stops) s x
-  held_right x is = by (turn_or_not x)
+  held_right : (x : Operand) → (layout g).held x ≡ true → HeldRight (layout g) (setting g i n sum s.x s.stops) s x
+  held_right x is = by (loop_index_or_not x)
     where
-      by : IsTurn x → HeldRight (layout g) (setting g i n sum s.x s.stops) s x
-      by (is_turn e) = subst (HeldRight (layout g) (setting g i n sum s.x s.stops) s) (sym e) (held_turn (ap (λ y. (layout g).held y) (sym e) ∙ is))
-      by (no_turn ne) = held_other x is ne
+      by : IsLoopIndex x → HeldRight (layout g) (setting g i n sum s.x s.stops) s x
+      by (is_loop_index e) = subst (HeldRight (layout g) (setting g i n sum s.x s.stops) s) (sym e) (held_loop_index (ap (λ y. (layout g).held y) (sym e) ∙ is))
+      by (not_loop_index ne) = held_other x is ne
 
   -- nothing was given yet
   sum_same : (x : List ℕ) (e : ℕ) → sum_at (layout g) (setting g i n sum s.x s.stops) (blank_lanes m) x e ≡ sum x e

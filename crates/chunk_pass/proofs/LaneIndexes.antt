@@ -6,10 +6,10 @@ use Rattle.guest_types.specs.Length.{lanes}
 use Rattle.machine_model.specs.InstructionTable.{Listed}
 use Rattle.machine_model.specs.Machine.{State, x_at, z_at, p_at}
 use Rattle.machine_model.specs.States.{IsState}
-use Rattle.label_fix.specs.DraftRun.{Entry, Laid}
+use Rattle.label_fix.specs.DraftRun.{DraftEntry, Laid}
 use Rattle.label_fix.specs.Stretches.{Leads}
-use Rattle.loop_form.specs.declared.loop_item.Source.{Source}
-use Rattle.loop_form.specs.declared.loop_item.Source.TheVariants.{LoopIndex}
+use Rattle.loop_form.specs.declared.loop_item.Operand.{Operand}
+use Rattle.loop_form.specs.declared.loop_item.Operand.TheVariants.{LoopIndex}
 use Rattle.lane_emit.specs.Right.{ZRight}
 use Rattle.lane_emit.specs.Stretch.{OnlyZ, MakesZ}
 use Rattle.lane_emit.specs.LaneCode.{index_code}
@@ -22,12 +22,12 @@ use Rattle.chunk_pass.specs.PassCode.{index_words}
 use Rattle.chunk_pass.proofs.LaneHeads.{Kept}
 
 -- what the words of the loop variable leave
-pub record Indexed (g : Ground) (i : ℕ) (d : Laid) (words : List Listed) (rest : List Entry) (s : State) : Type 0 where
+pub record Indexed (g : Ground) (i : ℕ) (d : Laid) (words : List Listed) (rest : List DraftEntry) (s : State) : Type 0 where
   pub end : State
   pub leads : Leads d (puts words rest) s rest end (length words)
   pub kept : Kept g s end
   pub top : p_at end 0 ≡ p_at s 0
-  pub turned : IndexHeld g i end
+  pub held_index : IndexHeld g i end
 
 same_kept : (g : Ground) (s : State) → IsState s → Kept g s s
 same_kept g s h = record { is = h; vl = refl; memory = refl; x = λ r le. refl; all = refl; held = λ x is ne. refl; sums = λ x is. refl }
@@ -35,7 +35,7 @@ same_kept g s h = record { is = h; vl = refl; memory = refl; x = λ r le. refl; 
 index_plain : (d x : ℕ) → Plain (index_code d x)
 index_plain d x = plain_more (λ s. refl) plain_none
 
-module _ (g : Ground) (assigned : Assigned (layout g)) (apart : (layout g).held LoopIndex ≡ true → (x : Source) → (layout g).held x ≡ true → x ≢ LoopIndex → (layout g).registers.source x ≢ (layout g).registers.source LoopIndex) (wide : (layout g).held LoopIndex ≡ true → width g ≡ D) (i : ℕ) (d : Laid) (rest : List Entry) where
+module _ (g : Ground) (assigned : Assigned (layout g)) (apart : (layout g).held LoopIndex ≡ true → (x : Operand) → (layout g).held x ≡ true → x ≢ LoopIndex → (layout g).registers.source x ≢ (layout g).registers.source LoopIndex) (wide : (layout g).held LoopIndex ≡ true → width g ≡ D) (i : ℕ) (d : Laid) (rest : List DraftEntry) where
   abbrev register : ℕ
   register = (layout g).registers.source LoopIndex
 
@@ -58,7 +58,7 @@ module _ (g : Ground) (assigned : Assigned (layout g)) (apart : (layout g).held 
         leads = words_lead (index_code register 9) s makes.end (index_plain register 9) makes.runs;
         kept = only_kept s makes.end is makes.is makes.only;
         top = ap (λ p. slice_index_or p 0 []) makes.only.p;
-        turned = λ again. subst (λ v. ZRight (width g) (lanes v (width g)) (z_at makes.end register) (λ e. pos (i + e))) vl
+        held_index = λ again. subst (λ v. ZRight (width g) (lanes v (width g)) (z_at makes.end register) (λ e. pos (i + e))) vl
             (subst (λ w. ZRight w (lanes s.vl w) (z_at makes.end register) (λ e. pos (i + e))) (sym (wide is)) makes.right);
       }
 
@@ -72,5 +72,5 @@ module _ (g : Ground) (assigned : Assigned (layout g)) (apart : (layout g).held 
         leads = rest_at 0;
         kept = same_kept g s h;
         top = refl;
-        turned = λ is. absurd cc;
+        held_index = λ is. absurd cc;
       }

@@ -6,8 +6,8 @@ use Rattle.kernel_tree.specs.declared.fault.Binding.{Binding}
 use Rattle.kernel_tree.specs.declared.fault.Found.{Found}
 use Rattle.kernel_tree.specs.Plain.{Term, Literal, Variable, Element, Unary, Operation, Shift, Conversion, Choice, Comparison, Both, Either, Not, Action, Define, Put, Update, Choose, Leave, Block, Done, Then, Otherwise, Nothing, Else, PlainLoop, Program}
 use Rattle.kernel_tree.specs.Items.{term_size, stream_offset, index_items, loop_index, loop_start}
-use Rattle.kernel_tree.specs.Typing.{Scope, Local, Role, Value, Condition, wanted, own, first, index_type, side_type, local, has_name, binding_of, lookup, defined, left, after_action, after_block, var_scope, in_loop, twice, element_type, accumulator_type, as_value, as_condition, mismatch, name_faults, untyped, inner_faults, faults, target_faults, update_faults, action_faults, block_faults, otherwise_faults, check_fault, inner_types, term_types, action_types, block_types, otherwise_types, turns_types}
-use Rattle.loop_form.specs.Entries.{Entry, inner_entries, term_entries, action_entries, block_entries, otherwise_entries, turns_entries, loop_entries}
+use Rattle.kernel_tree.specs.Typing.{Scope, Local, Role, Value, Condition, wanted, own, first, index_type, side_type, local, has_name, binding_of, lookup, defined, left, after_action, after_block, var_scope, in_loop, twice, element_type, accumulator_type, as_value, as_condition, mismatch, name_faults, untyped, inner_faults, faults, target_faults, update_faults, action_faults, block_faults, otherwise_faults, check_fault, inner_types, term_types, action_types, block_types, otherwise_types, for_loop_types}
+use Rattle.loop_form.specs.Entries.{Entry, inner_entries, term_entries, action_entries, block_entries, otherwise_entries, for_loop_entries, loop_entries}
 use Rattle.loop_form.specs.Listing.{names}
 use Rattle.kernel_tree.proofs.Faultless.{nil-left, nil-right, body_faultless}
 use Rattle.kernel_tree.proofs.Scopes.{scope_index, index_after}
@@ -53,18 +53,12 @@ index_wants (Some t) = tt
 target_wants : (item : ℕ) (o : Option Binding) → target_faults item o ≡ [] → Wants (Value (option_and_then element_type o))
 target_wants item None e = absurd cc
 target_wants item (Some (binding.Array t)) e = tt
-target_wants item (Some (binding.Scalar t)) e = absurd cc
-target_wants item (Some (binding.Accumulator t)) e = absurd cc
-target_wants item (Some (binding.Value t)) e = absurd cc
-target_wants item (Some binding.Index) e = absurd cc
+target_wants item other e = absurd cc
 
 update_wants : (item : ℕ) (o : Option Binding) → update_faults item o ≡ [] → Wants (Value (option_and_then accumulator_type o))
 update_wants item None e = absurd cc
 update_wants item (Some (binding.Accumulator t)) e = tt
-update_wants item (Some (binding.Scalar t)) e = absurd cc
-update_wants item (Some (binding.Array t)) e = absurd cc
-update_wants item (Some (binding.Value t)) e = absurd cc
-update_wants item (Some binding.Index) e = absurd cc
+update_wants item other e = absurd cc
 
 -- the name itself
 name_wanted : (item : ℕ) (role : Role) (o : Option Binding) → Wants role → as_value item role ≡ [] → name_faults item (wanted role) o ≡ [] → o ≡ Some binding.Index → wanted role ≡ Some ty.U64
@@ -100,10 +94,7 @@ defined_sees s x y (Some t) e = find_more (has_name x) s.visible (local y (bindi
 
 action_sees : (s : Scope) (x : List ℕ) (a : Action) → lookup s x ≡ Some binding.Index → lookup (after_action s a) x ≡ Some binding.Index
 action_sees s x (Define y t v) e = defined_sees s x y (first t (own s v)) e
-action_sees s x (Put a i v) e = e
-action_sees s x (Update y op v) e = e
-action_sees s x (Choose c b d) e = e
-action_sees s x (Leave c) e = e
+action_sees s x other e = e
 
 -- ---- expressions
 
@@ -203,10 +194,10 @@ paired x [] (t ∷ ts) h e = absurd h
 paired x (y ∷ es) [] h e = absurd h
 paired x (y ∷ es) (t ∷ ts) h e = let here : y.type ≡ t = cc in let more : map type_of es ≡ ts = cc in (λ named. here ∙ h.0 named, paired x es ts h.1 more)
 
-pub index_typed : (k : Program) (l : PlainLoop) → check_fault k ≡ None → k.turns ≡ Some l → AreTyped l.index (loop_entries k)
+pub index_typed : (k : Program) (l : PlainLoop) → check_fault k ≡ None → k.for_loop ≡ Some l → AreTyped l.index (loop_entries k)
 index_typed k l checked loop =
     let scope = var_scope k in
     let here : Typed l.index (block_entries k (loop_start k + 1) l.body) (block_types (in_loop scope l) l.body) = block_typed k l.index l.body (in_loop scope l) (loop_start k + 1) (loop_start k + 1) (scope_index k) (find_last l.index scope.visible (index_alone k l checked loop).visible) (body_faultless k l checked loop) in
-    paired l.index (loop_entries k) (turns_types scope (Some l))
-    (subst (λ (o : Option PlainLoop). Typed l.index (turns_entries k (loop_start k) o) (turns_types scope (Some l))) (sym loop) (λ e. absurd cc, here))
-    (loop_types k ∙ ap (turns_types scope) loop)
+    paired l.index (loop_entries k) (for_loop_types scope (Some l))
+    (subst (λ (o : Option PlainLoop). Typed l.index (for_loop_entries k (loop_start k) o) (for_loop_types scope (Some l))) (sym loop) (λ e. absurd cc, here))
+    (loop_types k ∙ ap (for_loop_types scope) loop)

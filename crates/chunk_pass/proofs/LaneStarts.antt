@@ -8,7 +8,7 @@ use Rattle.kernel_meaning.specs.Eval.{Names}
 use Rattle.machine_model.specs.Machine.{State, x_at, p_at, with_x, next}
 use Rattle.machine_model.specs.States.{IsState}
 use Rattle.machine_model.proofs.StateSteps.{x_put}
-use Rattle.label_fix.specs.DraftRun.{Entry, Put, Laid}
+use Rattle.label_fix.specs.DraftRun.{DraftEntry, Put, Laid}
 use Rattle.label_fix.specs.Stretches.{Leads}
 use Rattle.dependence.specs.Apart.{bound_place}
 use Rattle.chunk_emit.specs.ChunkCode.{puts}
@@ -22,15 +22,15 @@ use Rattle.chunk_pass.specs.Passes.{lanes_at}
 use Rattle.chunk_pass.proofs.LaneHeads.{Kept, head_kept, bound_at}
 use Rattle.chunk_pass.proofs.LaneWords.{taken, taken_kept, taken_top, below_bound, lanes_lead, one_leads}
 use Rattle.chunk_pass.proofs.LaneIndexes.{Indexed, indexed}
-use Rattle.chunk_pass.proofs.LaneWidths.{turn_wide, turn_apart}
+use Rattle.chunk_pass.proofs.LaneWidths.{loop_index_wide, loop_index_apart}
 
 -- some words lead to a state before a pass with n lanes in P0
-pub record Begun (g : Ground) (i n : ℕ) (d : Laid) (code rest : List Entry) (cur : Names) (m : Memory) (sum : List ℕ → ℕ → ℤ) (s : State) (words : ℕ) : Type 0 where
+pub record Begun (g : Ground) (i n : ℕ) (d : Laid) (code rest : List DraftEntry) (cur : Names) (m : Memory) (sum : List ℕ → ℕ → ℤ) (s : State) (words : ℕ) : Type 0 where
   pub end : State
   pub leads : Leads d code s rest end words
   pub head : AtHead g i cur m sum end
   pub top : IsTop (width g) n (p_at end 0)
-  pub turned : IndexHeld g i end
+  pub held_index : IndexHeld g i end
 
 pub assigned_in : (g : Ground) → IsGround g → Assigned (layout g)
 assigned_in g ground = assigned_of g.kernel g.vectors g.predicates ground.z_fits ground.p_fits
@@ -47,12 +47,12 @@ one_kept g s h = record {
   sums = λ x is. refl;
 }
 
-module _ (g : Ground) (ground : IsGround g) {i : ℕ} {cur : Names} {m : Memory} {sum : List ℕ → ℕ → ℤ} (d : Laid) (rest : List Entry) where
+module _ (g : Ground) (ground : IsGround g) {i : ℕ} {cur : Names} {m : Memory} {sum : List ℕ → ℕ → ℤ} (d : Laid) (rest : List DraftEntry) where
   -- where the lanes are in P0
   pub plain_begun : (n : ℕ) (s : State) → AtHead g i cur m sum s → IsTop (width g) n (p_at s 0) → Begun g i n d (puts (index_words (layout g)) rest) rest cur m sum s (length (index_words (layout g)))
   plain_begun n s h top =
-      let t : Indexed g i d (index_words (layout g)) rest s = indexed g (assigned_in g ground) (turn_apart g.kernel g.vectors ground.z_fits) (turn_wide g.kernel g.turns ground.sound ground.loops) i d rest s h.is h.vl h.index in
-      record { end = t.end; leads = t.leads; head = head_kept h t.kept; top = subst (IsTop (width g) n) (sym t.top) top; turned = t.turned }
+      let t : Indexed g i d (index_words (layout g)) rest s = indexed g (assigned_in g ground) (loop_index_apart g.kernel g.vectors ground.z_fits) (loop_index_wide g.kernel g.for_loop ground.sound ground.loops) i d rest s h.is h.vl h.index in
+      record { end = t.end; leads = t.leads; head = head_kept h t.kept; top = subst (IsTop (width g) n) (sym t.top) top; held_index = t.held_index }
 
   -- a chunk
   pub chunk_begun : (s : State) → AtHead g i cur m sum s
@@ -63,11 +63,11 @@ module _ (g : Ground) (ground : IsGround g) {i : ℕ} {cur : Names} {m : Memory}
       let top = taken_top (width g) s truth (lanes_at g i) h.is (omega (arith, count))
       (λ e lt. ap₂ (λ a b. while_at a b e) h.index (bound_at ground h) ∙ below_bound i (limit g) (most_lanes g) e (omega (arith, lt, count))) in
       let t = plain_begun (lanes_at g i) (taken (width g) s truth) (head_kept h (taken_kept g s truth h.is)) top in
-      record { end = t.end; leads = follow (1 + length (index_words (layout g))) (omega arith) (lanes_lead (width g) (bound_place g.kernel) s) t.leads; head = t.head; top = t.top; turned = t.turned }
+      record { end = t.end; leads = follow (1 + length (index_words (layout g))) (omega arith) (lanes_lead (width g) (bound_place g.kernel) s) t.leads; head = t.head; top = t.top; held_index = t.held_index }
 
   -- lane 0 alone
-  pub turn_begun : (s : State) → 1 ≤ most_lanes g → AtHead g i cur m sum s → IndexHeld g i s → Begun g i 1 d (puts (first_lane_words (width g)) rest) rest cur m sum s 2
-  turn_begun s some h turned =
+  pub iteration_begun : (s : State) → 1 ≤ most_lanes g → AtHead g i cur m sum s → IndexHeld g i s → Begun g i 1 d (puts (first_lane_words (width g)) rest) rest cur m sum s 2
+  iteration_begun s some h held_index =
       let t = next (with_x s 26 1) in
       let truth = while_at (x_at t 31) (x_at t 26) in
       let kept = one_kept g s h.is in
@@ -81,5 +81,5 @@ module _ (g : Ground) (ground : IsGround g) {i : ℕ} {cur : Names} {m : Memory}
         leads = one_leads (width g) s;
         head = head_kept (head_kept h kept) (taken_kept g t truth kept.is);
         top = top;
-        turned = turned;
+        held_index = held_index;
       }

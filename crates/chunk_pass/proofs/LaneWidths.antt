@@ -5,7 +5,7 @@ use Rattle.std.specs.List.{list_any}
 use Rattle.std.proofs.Math.Nat.{lt_of_not-le}
 use Rattle.std.proofs.lemmas.Option.{slice_get_within}
 use Rattle.guest_types.specs.declared.length.Width.{Width}
-use Rattle.guest_types.specs.declared.length.Width.TheVariants.{B, H, S, D}
+use Rattle.guest_types.specs.declared.length.Width.TheVariants.{D}
 use Rattle.guest_types.specs.Length.{width_bits}
 use Rattle.kernel_tree.specs.declared.ops.Ty.{Ty}
 use Rattle.kernel_tree.specs.Plain.{Parameter, Accumulator, PlainLoop, Program}
@@ -14,9 +14,9 @@ use Rattle.kernel_tree.specs.Typing.{check_fault}
 use Rattle.reg_assign.specs.declared.interval.Interval.{Interval}
 use Rattle.reg_assign.specs.declared.interval.RegClass.TheVariants.{Z}
 use Rattle.reg_assign.specs.Registers.{Assignment}
-use Rattle.loop_form.specs.declared.loop_item.Source.{Source}
-use Rattle.loop_form.specs.declared.loop_item.Source.TheVariants.{Constant, Outer, LoopIndex, Made}
-use Rattle.loop_form.specs.Entries.{Content, IsLiteral, IsName, IsRead, IsLet, IsStore, IsUpdate, IsPlain, Entry, loop_entries}
+use Rattle.loop_form.specs.declared.loop_item.Operand.{Operand}
+use Rattle.loop_form.specs.declared.loop_item.Operand.TheVariants.{Constant, Outer, LoopIndex, Made}
+use Rattle.loop_form.specs.Entries.{Content, IsLiteral, IsName, Entry, loop_entries}
 use Rattle.loop_form.specs.Lanes.{lane_width_of}
 use Rattle.loop_form.specs.Listing.{names}
 use Rattle.loop_form.specs.Needs.{Throughout, scalar_of, is_named_scalar, scalars, new_constant, constants, is_constant, index_held, accumulating_of, is_updated, throughout}
@@ -26,7 +26,7 @@ use Rattle.loop_form.proofs.IntervalLaws.{throughout-few}
 use Rattle.loop_form.proofs.IntervalRegisters.{Chosen, chosen_of}
 use Rattle.loop_form.proofs.PlaceLaws.{throughout-place}
 use Rattle.loop_form.proofs.ItemWidths.{AreWide, loop_wide}
-use Rattle.chunk_emit.specs.KernelLayout.{register_of, throughout_of, is_same, next_place, place_in, held_place, source_register}
+use Rattle.chunk_emit.specs.KernelLayout.{register_of, throughout_of, is_same, next_place, place_in, held_place, operand_register}
 use Rattle.chunk_emit.proofs.FitsAssigned.{Stands, stands, of_one, there, some_same as same_it}
 use Rattle.chunk_pass.proofs.LaneNames.{AreTyped, index_typed}
 use Rattle.kernel_tree.specs.declared.ops.Ty.TheVariants as ty
@@ -81,11 +81,7 @@ no_new before t (IsLiteral n) = by (list_any (is_constant t n) before)
     by true = refl
     by false = refl
 no_new before t (IsName x) = refl
-no_new before t (IsRead a i) = refl
-no_new before t (IsLet x) = refl
-no_new before t (IsStore a i) = refl
-no_new before t (IsUpdate x op) = refl
-no_new before t (IsPlain k) = refl
+no_new before t other = refl
 
 no_constant : (before es : List Entry) → list_any is_index (constants before es) ≡ false
 unfolding constants
@@ -100,8 +96,8 @@ index_named es x vs e = by (list_any (names x) es) e
     by true e = refl
     by false e = let none = no_accumulator vs in absurd cc
 
-turn_named : (k : Program) (x : List ℕ) → loop_index k ≡ Some x → is_some (held_place k LoopIndex) ≡ true → list_any (names x) (loop_entries k) ≡ true
-turn_named k x e held =
+loop_index_named : (k : Program) (x : List ℕ) → loop_index k ≡ Some x → is_some (held_place k LoopIndex) ≡ true → list_any (names x) (loop_entries k) ≡ true
+loop_index_named k x e held =
     let vs = filter (is_updated (loop_entries k)) k.vars in
     let one = place_any (throughout k Z) held in
     let two = any_following (scalars (loop_entries k) k.params) _ (no_scalar (filter (is_named_scalar (loop_entries k)) k.params)) one in
@@ -118,15 +114,13 @@ any_wide k w x (y ∷ es) wide typed e = by (names x y) refl e (any_wide k w x e
 
 only_doublewords : (w : Width) → 64 ≤ width_bits w → w ≡ D
 only_doublewords D h = refl
-only_doublewords B h = absurd (omega (arith, h))
-only_doublewords H h = absurd (omega (arith, h))
-only_doublewords S h = absurd (omega (arith, h))
+only_doublewords other h = absurd (omega (arith, h))
 
 -- where the loop variable has a register, the lanes are doublewords
-pub turn_wide : (k : Program) (l : PlainLoop) → check_fault k ≡ None → k.turns ≡ Some l → is_some (held_place k LoopIndex) ≡ true → lane_width_of k ≡ D
-turn_wide k l checked loop held =
+pub loop_index_wide : (k : Program) (l : PlainLoop) → check_fault k ≡ None → k.for_loop ≡ Some l → is_some (held_place k LoopIndex) ≡ true → lane_width_of k ≡ D
+loop_index_wide k l checked loop held =
     let index : loop_index k ≡ Some l.index = ap (option_map index_of) loop in
-    only_doublewords (lane_width_of k) (any_wide k (lane_width_of k) l.index (loop_entries k) (loop_wide k) (index_typed k l checked loop) (turn_named k l.index index held))
+    only_doublewords (lane_width_of k) (any_wide k (lane_width_of k) l.index (loop_entries k) (loop_wide k) (index_typed k l checked loop) (loop_index_named k l.index index held))
 
 -- ---- a register of its own
 
@@ -134,7 +128,7 @@ abbrev is_index_one : Option Throughout → Bool
 is_index_one None = false
 is_index_one (Some t) = is_index t
 
-no_index : (k : Program) (x : Source) → x ≢ LoopIndex → is_index_one (throughout_of k x) ≡ false
+no_index : (k : Program) (x : Operand) → x ≢ LoopIndex → is_index_one (throughout_of k x) ≡ false
 no_index k (Constant t n) ne = refl
 no_index k (Outer p) ne = by (slice_get k.params p)
   where
@@ -154,18 +148,18 @@ both_index (needs.Scalar x) t e f = absurd cc
 both_index (needs.Constant s n) t e f = absurd cc
 both_index (needs.Accumulating x) t e f = absurd cc
 
-source_is : (k : Program) (a : Assignment) (x : Source) → is_some (held_place k x) ≡ true → source_register k a x ≡ register_of 31 a (held_place k x)
-source_is k a (Constant t n) e = refl
-source_is k a (Outer p) e = refl
-source_is k a LoopIndex e = refl
-source_is k a (Made q) e = absurd cc
+operand_is : (k : Program) (a : Assignment) (x : Operand) → is_some (held_place k x) ≡ true → operand_register k a x ≡ register_of 31 a (held_place k x)
+operand_is k a (Constant t n) e = refl
+operand_is k a (Outer p) e = refl
+operand_is k a LoopIndex e = refl
+operand_is k a (Made q) e = absurd cc
 
-pub turn_apart : (k : Program) (a : Assignment) → FitsKernel k Z a → is_some (held_place k LoopIndex) ≡ true → (x : Source) → is_some (held_place k x) ≡ true → x ≢ LoopIndex → source_register k a x ≢ source_register k a LoopIndex
-turn_apart k a f turn x held ne same =
+pub loop_index_apart : (k : Program) (a : Assignment) → FitsKernel k Z a → is_some (held_place k LoopIndex) ≡ true → (x : Operand) → is_some (held_place k x) ≡ true → x ≢ LoopIndex → operand_register k a x ≢ operand_register k a LoopIndex
+loop_index_apart k a f index_place x held ne same =
     let chosen : Chosen k Z a = chosen_of k Z a f in
     let all = throughout k Z in
     let always : Interval = record { from = 0; last_use = size_of k } in
-    let p = there (held_place k LoopIndex) turn in
+    let p = there (held_place k LoopIndex) index_place in
     let q = there (held_place k x) held in
     let t = of_one all (throughout_of k x) q.0 q.1 in
     let sp : Stands needs.Index all p.0 = stands needs.Index all p.0 p.1 in
@@ -181,4 +175,4 @@ turn_apart k a f turn x held ne same =
     let vars = vars-small (loop_index k) k.vars in
     let some : 0 < size_of k = lt_of_not-le (λ none. differ (omega (arith, none, inside_p, inside_q, most, vars))) in
     chosen.apart q.0 p.0 0 always always differ (throughout-place k Z q.0 inside_q) (throughout-place k Z p.0 inside_p) (omega arith) some (omega arith) some
-    (sym (ap (register_of 31 a) q.1) ∙ sym (source_is k a x held) ∙ same ∙ ap (register_of 31 a) p.1)
+    (sym (ap (register_of 31 a) q.1) ∙ sym (operand_is k a x held) ∙ same ∙ ap (register_of 31 a) p.1)

@@ -11,7 +11,7 @@ use Rattle.machine_model.specs.Machine.{State, x_at, p_at, with_x, with_p, with_
 use Rattle.machine_model.specs.States.{IsState}
 use Rattle.machine_model.specs.VectorEffects.{put_tested, put_x}
 use Rattle.machine_model.proofs.StateSteps.{tested_put}
-use Rattle.label_fix.specs.DraftRun.{Entry, Put, Laid}
+use Rattle.label_fix.specs.DraftRun.{DraftEntry, Put, Laid}
 use Rattle.label_fix.specs.Stretches.{Leads}
 use Rattle.lane_emit.proofs.Stretches.{width-size}
 use Rattle.chunk_emit.specs.Chunk.{IsTop}
@@ -52,7 +52,7 @@ below_bound i bound most e lt =
     (λ past. le-ltb (i + e) bound past ∙ sym (le-ltb e (min most (bound - i)) (omega (arith, past))))
     (cases_lt (i + e) bound)
 
-pub lanes_lead : {d : Laid} {rest : List Entry} (w : Width) (n : ℕ) (s : State) → Leads d (Put (lanes_word w n) ∷ rest) s rest (taken w s (while_at (x_at s 9) (x_at s n))) 1
+pub lanes_lead : {d : Laid} {rest : List DraftEntry} (w : Width) (n : ℕ) (s : State) → Leads d (Put (lanes_word w n) ∷ rest) s rest (taken w s (while_at (x_at s 9) (x_at s n))) 1
 lanes_lead w n s = word_leads false (ap (λ k. put_tested s 0 k all_at (while_at (x_at s 9) (x_at s n))) (width-size w)) refl
 
 -- ---- lane 0 alone
@@ -60,7 +60,7 @@ lanes_lead w n s = word_leads false (ap (λ k. put_tested s 0 k all_at (while_at
 abbrev pub one_taken : Width → State → State
 one_taken w s = let t = next (with_x s 26 1) in taken w t (while_at (x_at t 31) (x_at t 26))
 
-pub one_leads : {d : Laid} {rest : List Entry} (w : Width) (s : State) → Leads d (puts (first_lane_words w) rest) s rest (one_taken w s) 2
+pub one_leads : {d : Laid} {rest : List DraftEntry} (w : Width) (s : State) → Leads d (puts (first_lane_words w) rest) s rest (one_taken w s) 2
 one_leads w s =
     let t = next (with_x s 26 1) in
     follow 2 (omega arith) (word_leads false refl refl) (word_leads false (ap (λ k. put_tested t 0 k all_at (while_at (x_at t 31) (x_at t 26))) (width-size w)) refl)
@@ -84,7 +84,7 @@ count_top w p k (suc n) h =
 abbrev pub advanced : State → ℕ → State
 advanced s v = next (with_x s 9 v)
 
-pub advance_leads : {d : Laid} {rest : List Entry} (w : Width) (k : ℕ) (s : State) → k ≤ lanes s.vl w → ((e : ℕ) → e < lanes s.vl w → active w (p_at s 0) e ≡ ltb e k) → Leads d (Put (advance_word w) ∷ rest) s rest (advanced s (sum (x_at s 9) k)) 1
+pub advance_leads : {d : Laid} {rest : List DraftEntry} (w : Width) (k : ℕ) (s : State) → k ≤ lanes s.vl w → ((e : ℕ) → e < lanes s.vl w → active w (p_at s 0) e ≡ ltb e k) → Leads d (Put (advance_word w) ∷ rest) s rest (advanced s (sum (x_at s 9) k)) 1
 advance_leads w k s le top =
     let counted : count_of w (lanes s.vl w) (p_at s 0) (p_at s 0) ≡ k = count_top w (p_at s 0) k (lanes s.vl w) top ∙ omega (arith, le) in
     word_leads false (ap (λ v. put_x s 9 (sum (x_at s 9) (count_of v (lanes s.vl v) (p_at s 0) (p_at s 0)))) (width-size w) ∙ ap (λ c. put_x s 9 (sum (x_at s 9) c)) counted) refl

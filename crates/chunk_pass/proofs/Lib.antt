@@ -16,7 +16,7 @@ pub mod ChunkShares
 pub mod ChunkAccumulators
 pub mod ChunkSums
 pub mod ChunkClear
-pub mod ChunkTurns
+pub mod ChunkIterations
 pub mod ChunkCourses
 pub mod ChunkDone
 pub mod ChunkFails

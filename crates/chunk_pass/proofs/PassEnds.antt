@@ -8,8 +8,8 @@ use Rattle.kernel_meaning.specs.Eval.{Names}
 use Rattle.machine_model.specs.Arithmetic as machine
 use Rattle.machine_model.specs.Machine.{State, x_at, p_at}
 use Rattle.machine_model.proofs.StateSteps.{x_put, wrapped}
-use Rattle.loop_form.specs.declared.loop_item.Source.{Source}
-use Rattle.loop_form.specs.declared.loop_item.Source.TheVariants.{LoopIndex}
+use Rattle.loop_form.specs.declared.loop_item.Operand.{Operand}
+use Rattle.loop_form.specs.declared.loop_item.Operand.TheVariants.{LoopIndex}
 use Rattle.vector_order.specs.Orders.{Lanes}
 use Rattle.chunk_emit.specs.Chunk.{IsTop, sum_at, Holds}
 use Rattle.chunk_emit.specs.Head.{Ground, IsGround, Between, HeldAll, AtHead, IndexHeld, layout, width, limit}
@@ -39,7 +39,7 @@ module _ (g : Ground) {i : ℕ} {cur : Names} {m : Memory} {sum : List ℕ → �
   other_x : (r : ℕ) → r ≤ 25 → r ≢ 9 → x_at following r ≡ x_at s r
   other_x r le ne = get_or-set_other end.x 9 r (machine.sum (x_at end 9) k) 0 ne ∙ holds.x r (λ e. absurd (omega (arith, e, le)))
 
-  held_following : (x : Source) → (layout g).held x ≡ true → x ≢ LoopIndex → HeldAll g following x
+  held_following : (x : Operand) → (layout g).held x ≡ true → x ≢ LoopIndex → HeldAll g following x
   held_following x is ne =
       let now = holds.held x is in
       let old = h.held x is ne in
@@ -64,5 +64,5 @@ module _ (g : Ground) {i : ℕ} {cur : Names} {m : Memory} {sum : List ℕ → �
   pub top_following : IsTop (width g) k (p_at following 0)
   top_following = holds.top
 
-  pub turned_following : IndexHeld g i following
-  turned_following is = (holds.held LoopIndex is).right blank
+  pub held_index_following : IndexHeld g i following
+  held_index_following is = (holds.held LoopIndex is).right blank

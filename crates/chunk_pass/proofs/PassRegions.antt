@@ -12,7 +12,7 @@ use Rattle.kernel_meaning.specs.Ends.{Broke as BrokeOut}
 use Rattle.kernel_meaning.specs.ScalarRun.{iterations}
 use Rattle.machine_model.specs.declared.outcome.StopKind.TheVariants.{Read}
 use Rattle.machine_model.specs.Machine.{State}
-use Rattle.label_fix.specs.DraftRun.{Entry, Laid}
+use Rattle.label_fix.specs.DraftRun.{DraftEntry, Laid}
 use Rattle.label_fix.specs.Stretches.{Leads}
 use Rattle.loop_form.specs.LoopItems.{Item}
 use Rattle.vector_order.specs.Orders.{Lane, Lanes, Out, Fine, Fail, go_on, column, by_item}
@@ -24,17 +24,17 @@ use Rattle.chunk_emit.specs.Head.{Ground, IsGround, Between, AtHead, layout, wid
 use Rattle.chunk_emit.proofs.ItemRuns.{items_run}
 use Rattle.first_fault.specs.Region.{Way, On, Fell, region_way}
 use Rattle.first_fault.specs.RegionCode.{Mode}
-use Rattle.first_fault.specs.RegionRuns.{Why, Cuts, stops, comes}
+use Rattle.first_fault.specs.RegionRuns.{Why, RegionOutcome, stops, comes}
 use Rattle.first_fault.specs.Rest.{RestStarts}
 use Rattle.first_fault.specs.Prefix.{Inside}
-use Rattle.first_fault.specs.Split.{region_of, rest_of}
+use Rattle.first_fault.specs.BreakRegion.{region_of, rest_of}
 use Rattle.first_fault.specs.KernelFits.{following_region, LoopFits, KernelFits}
 use Rattle.first_fault.proofs.Spelled.{as_spelled}
-use Rattle.first_fault.specs.IterationWays.{IsTurn}
+use Rattle.first_fault.specs.IterationWays.{IsIteration}
 use Rattle.first_fault.proofs.RestHolds.{rest_holds}
-use Rattle.first_fault.proofs.Splits.{region_splits}
+use Rattle.first_fault.proofs.BreakRegions.{region_splits}
 use Rattle.first_fault.proofs.Stretches.{stop_following}
-use Rattle.first_fault.proofs.TurnWays.{way_is_turn}
+use Rattle.first_fault.proofs.WayIterations.{way_is_iteration}
 use Rattle.chunk_pass.specs.Chunks.{items_of, FineIsDone, FailIsFault}
 use Rattle.chunk_pass.specs.Passes as pass
 use Rattle.chunk_pass.specs.Passes.{Passes}
@@ -56,11 +56,11 @@ acts_append names (x ∷ xs) ys n i t = by (column (item_act names x) n i t) (λ
 -- ---- one iteration of the scalar loop
 
 -- an iteration that faults
-fell_fails : (g : Ground) (i : ℕ) (cur : Names) (m : Memory) → IsTurn Fell m (iterate (var_scope g.kernel) g.turns i m cur) → iterations (var_scope g.kernel) g.turns 1 i m cur ≡ Failed m i
+fell_fails : (g : Ground) (i : ℕ) (cur : Names) (m : Memory) → IsIteration Fell m (iterate (var_scope g.kernel) g.for_loop i m cur) → iterations (var_scope g.kernel) g.for_loop 1 i m cur ≡ Failed m i
 unfolding iterations
-fell_fails g i cur m is = by (iterate (var_scope g.kernel) g.turns i m cur) is
+fell_fails g i cur m is = by (iterate (var_scope g.kernel) g.for_loop i m cur) is
   where
-    by : (turn : BlockEnd Names) → IsTurn Fell m turn → ends.go_on turn i (iterations (var_scope g.kernel) g.turns zero (i + 1)) ≡ Failed m i
+    by : (iteration_end : BlockEnd Names) → IsIteration Fell m iteration_end → ends.go_on iteration_end i (iterations (var_scope g.kernel) g.for_loop zero (i + 1)) ≡ Failed m i
     by (Next after names) is = absurd is
     by (BrokeOut after names) is = absurd is
     by (Faulted after) is = ap (λ memory. Failed memory i) is
@@ -69,51 +69,51 @@ fell_fails g i cur m is = by (iterate (var_scope g.kernel) g.turns i m cur) is
 abbrev pub way_in : Ground → Memory → ℕ → Lane → Way
 way_in g m j = region_way g.names (region_of (items_of g)) j m
 
-pub region_turn : (g : Ground) (i : ℕ) (cur : Names) (m : Memory) {sum : List ℕ → ℕ → ℤ} → IsGround g → Between g i cur sum → (lane : Lane) (way : Way) → way_in g m i lane ≡ way → IsTurn way m (iterate (var_scope g.kernel) g.turns i m cur)
-region_turn g i cur m ground h lane way is =
-    subst (λ w. IsTurn w m (iterate (var_scope g.kernel) g.turns i m cur)) is
-    (way_is_turn g.kernel g.turns g.args g.start g.names cur i m lane ground.sound ground.loops ground.vector ground.begins h.steady)
+pub region_iteration : (g : Ground) (i : ℕ) (cur : Names) (m : Memory) {sum : List ℕ → ℕ → ℤ} → IsGround g → Between g i cur sum → (lane : Lane) (way : Way) → way_in g m i lane ≡ way → IsIteration way m (iterate (var_scope g.kernel) g.for_loop i m cur)
+region_iteration g i cur m ground h lane way is =
+    subst (λ w. IsIteration w m (iterate (var_scope g.kernel) g.for_loop i m cur)) is
+    (way_is_iteration g.kernel g.for_loop g.args g.start g.names cur i m lane ground.sound ground.loops ground.vector ground.begins h.steady)
 
 -- a reason of the pass from that of the region, for n lanes from iteration i on
 abbrev pub Reasons : Ground → (i n : ℕ) → Names → Memory → (BlockEnd Names → ℕ → Type 0) → Mode → Type 0
 Reasons g i n cur m why mode =
-    (k : ℕ) → k < n → (cut : ℕ) → Why mode (way_in g m (i + k) blank) cut → (out : Lanes) (names : Names) → by_item (acts_of g.names (items_of g)) k i (blank_lanes m) ≡ Fine out → iterations (var_scope g.kernel) g.turns k i m cur ≡ Going out.memory names → (all : ℕ) → cut ≤ all
-    → why (iterate (var_scope g.kernel) g.turns (i + k) out.memory names) all
+    (k : ℕ) → k < n → (cut : ℕ) → Why mode (way_in g m (i + k) blank) cut → (out : Lanes) (names : Names) → by_item (acts_of g.names (items_of g)) k i (blank_lanes m) ≡ Fine out → iterations (var_scope g.kernel) g.for_loop k i m cur ≡ Going out.memory names → (all : ℕ) → cut ≤ all
+    → why (iterate (var_scope g.kernel) g.for_loop (i + k) out.memory names) all
 
 -- ---- the region, and the rest
 
 -- what stands after the words of the region
-abbrev pub following_words : Ground → List Entry → List Entry
+abbrev pub following_words : Ground → List DraftEntry → List DraftEntry
 following_words g rest = rest_words g (rest_of (items_of g)) rest
 
 module _
-    (fine : FineIsDone) (fails : FailIsFault) (fits : KernelFits) (g : Ground) {i : ℕ} {cur : Names} {m : Memory} {sum : List ℕ → ℕ → ℤ} {s : State} (ground : IsGround g) (h : AtHead g i cur m sum s) (assigned : Assigned (layout g)) (d : Laid) (rest : List Entry)
+    (fine : FineIsDone) (fails : FailIsFault) (fits : KernelFits) (g : Ground) {i : ℕ} {cur : Names} {m : Memory} {sum : List ℕ → ℕ → ℤ} {s : State} (ground : IsGround g) (h : AtHead g i cur m sum s) (assigned : Assigned (layout g)) (d : Laid) (rest : List DraftEntry)
     (n : ℕ) (few : n ≤ most_lanes g) (within : i + n ≤ limit g) where
   abbrev pub begun : Setting
   begun = setting g i n sum s.x s.stops
 
-  pub fits_at : (k : ℕ) (stop : StopList) → LoopFits g.kernel g.turns g.vectors g.predicates (setting g i k sum s.x stop)
-  fits_at k stop = fits g.kernel g.turns g.vectors g.predicates (setting g i k sum s.x stop) ground.sound ground.loops ground.vector ground.few (as_spelled g.kernel g.turns ground.spelled ground.loops).outer ground.z_fits ground.p_fits (fits_setting g k stop ground h)
+  pub fits_at : (k : ℕ) (stop : StopList) → LoopFits g.kernel g.for_loop g.vectors g.predicates (setting g i k sum s.x stop)
+  fits_at k stop = fits g.kernel g.for_loop g.vectors g.predicates (setting g i k sum s.x stop) ground.sound ground.loops ground.vector ground.few (as_spelled g.kernel g.for_loop ground.spelled ground.loops).outer ground.z_fits ground.p_fits (fits_setting g k stop ground h)
 
-  module _ (why : BlockEnd Names → ℕ → Type 0) (mode : Mode) (reasons : Reasons g i n cur m why mode) (most : ℕ) {code inner : List Entry} {from : State} {a b : ℕ} (before : Leads d code from inner s a)
+  module _ (why : BlockEnd Names → ℕ → Type 0) (mode : Mode) (reasons : Reasons g i n cur m why mode) (most : ℕ) {code inner : List DraftEntry} {from : State} {a b : ℕ} (before : Leads d code from inner s a)
       (le : a + b + (length (items_words (width g) (layout g) (rest_of (items_of g))) + 1) ≤ most) (holds : Holds (layout g) begun (loop_start g.kernel + 1) (blank_lanes m) s) where
-    through : (k : ℕ) (new : ℕ → Lane) (mid : State) → k ≤ n → ((e : ℕ) → e < k → way_in g m (i + e) blank ≡ On (new (i + e))) → (leads : Leads d inner s (following_words g rest) mid b) → (k < n → Why mode (way_in g m (i + k) blank) leads.cut) → Inside mode (layout g) begun s k (following_region g.kernel g.turns) new mid
+    through : (k : ℕ) (new : ℕ → Lane) (mid : State) → k ≤ n → ((e : ℕ) → e < k → way_in g m (i + e) blank ≡ On (new (i + e))) → (leads : Leads d inner s (following_words g rest) mid b) → (k < n → Why mode (way_in g m (i + k) blank) leads.cut) → Inside mode (layout g) begun s k (following_region g.kernel g.for_loop) new mid
         → Passes why g n i cur m d code from rest most
     through k new mid kn come leads left inside =
         let near = nearer (a + b) (omega arith) before leads in
-        let start : RestStarts (layout g) begun (region_of (items_of g)) (blank_lanes m) k (following_region g.kernel g.turns) mid =
-        rest_holds mode (layout g) begun (region_of (items_of g)) (loop_start g.kernel + 1) k (following_region g.kernel g.turns) (blank_lanes m) s mid new assigned (fits_at n s.stops).region holds (λ e lt. refl) come inside (fits_at n s.stops).dead in
-        let split = region_splits g.kernel g.turns ground.loops ground.vector in
+        let start : RestStarts (layout g) begun (region_of (items_of g)) (blank_lanes m) k (following_region g.kernel g.for_loop) mid =
+        rest_holds mode (layout g) begun (region_of (items_of g)) (loop_start g.kernel + 1) k (following_region g.kernel g.for_loop) (blank_lanes m) s mid new assigned (fits_at n s.stops).region holds (λ e lt. refl) come inside (fits_at n s.stops).dead in
+        let split = region_splits g.kernel g.for_loop ground.loops ground.vector in
         let parts : by_item (acts_of g.names (items_of g)) k i (blank_lanes m) ≡ by_item (acts_of g.names (rest_of (items_of g))) k i start.lanes =
         ap (λ items. by_item (acts_of g.names items) k i (blank_lanes m)) (sym split.whole) ∙ acts_append g.names (region_of (items_of g)) (rest_of (items_of g)) k i (blank_lanes m)
         ∙ ap (λ o. go_on o (by_item (acts_of g.names (rest_of (items_of g))) k i)) start.done in
         rest_pass fine fails g ground h assigned d rest (blank_lanes m) refl (is_chunk g i k m (omega (arith, kn, few)) (omega (arith, kn, within))) (rest_of (items_of g)) why n most kn near.leads le
         (λ lt out names is goes all more. reasons k lt leads.cut (left lt) out names is goes all (omega (arith, more, near.more)))
         parts (λ e lt. (new (i + e), come e lt))
-        (items_run (layout g) (setting g i k sum s.x mid.stops) d _ (rest_of (items_of g)) (following_region g.kernel g.turns) start.lanes mid assigned (fits_at k mid.stops).rest start.holds)
+        (items_run (layout g) (setting g i k sum s.x mid.stops) d _ (rest_of (items_of g)) (following_region g.kernel g.for_loop) start.lanes mid assigned (fits_at k mid.stops).rest start.holds)
 
-    pub region_pass : Cuts mode (layout g) begun d s n (following_region g.kernel g.turns) b (blank_lanes m).lane inner s (following_words g rest) (way_in g m) → Passes why g n i cur m d code from rest most
+    pub region_pass : RegionOutcome mode (layout g) begun d s n (following_region g.kernel g.for_loop) b (blank_lanes m).lane inner s (following_words g rest) (way_in g m) → Passes why g n i cur m d code from rest most
     region_pass (stops some fell stopped) =
-        pass.stops 1 i s.memory m Read (omega (arith, some)) (fell_fails g i cur m (region_turn g i cur m ground h.between blank Fell fell)) (omega arith) (omega arith) (inl refl)
+        pass.stops 1 i s.memory m Read (omega (arith, some)) (fell_fails g i cur m (region_iteration g i cur m ground h.between blank Fell fell)) (omega arith) (omega arith) (inl refl)
         (λ z lt away. ap (λ memory. byte_at memory z) h.memory) (stop_following most (omega (arith, le)) before stopped)
     region_pass (comes k new mid kn come leads left inside) = through k new mid kn come leads left inside

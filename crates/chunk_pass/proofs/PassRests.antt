@@ -9,7 +9,7 @@ use Rattle.kernel_meaning.specs.Eval.{Names}
 use Rattle.kernel_meaning.specs.Iterate.{iterate}
 use Rattle.kernel_meaning.specs.ScalarRun.{iterations}
 use Rattle.machine_model.specs.Machine.{State, p_at}
-use Rattle.label_fix.specs.DraftRun.{Entry, Put, Laid}
+use Rattle.label_fix.specs.DraftRun.{DraftEntry, Put, Laid}
 use Rattle.label_fix.specs.Stretches.{Leads}
 use Rattle.loop_form.specs.LoopItems.{Item}
 use Rattle.vector_order.specs.Orders.{Lanes, Out, Fine, by_item}
@@ -26,22 +26,22 @@ use Rattle.chunk_pass.specs.Passes.{Passes, comes, stops}
 use Rattle.chunk_pass.proofs.LaneWords.{advance_leads}
 use Rattle.chunk_pass.proofs.LaneHolds.{setting, is_setting, top_is}
 use Rattle.chunk_pass.proofs.PassLeads.{as_leads, further}
-use Rattle.chunk_pass.proofs.PassEnds.{given_right, head_following, top_following, turned_following, following}
+use Rattle.chunk_pass.proofs.PassEnds.{given_right, head_following, top_following, held_index_following, following}
 
 -- the words from the items on that can be done over all lanes
-abbrev pub rest_words : Ground → List Item → List Entry → List Entry
+abbrev pub rest_words : Ground → List Item → List DraftEntry → List DraftEntry
 rest_words g items rest = puts (items_words (width g) (layout g) items) (Put (advance_word (width g)) ∷ rest)
 
 -- a reason for a lane that is left out after k of n lanes, where so many free elements or more were suppressed
 abbrev pub Reason : Ground → (i k n : ℕ) → Names → Lanes → (BlockEnd Names → ℕ → Type 0) → (cut : ℕ) → Type 0
 Reason g i k n cur t why cut =
-    k < n → (out : Lanes) (names : Names) → by_item (acts_of g.names (items_of g)) k i t ≡ Fine out → iterations (var_scope g.kernel) g.turns k i t.memory cur ≡ Going out.memory names → (all : ℕ) → cut ≤ all
-    → why (iterate (var_scope g.kernel) g.turns (i + k) out.memory names) all
+    k < n → (out : Lanes) (names : Names) → by_item (acts_of g.names (items_of g)) k i t ≡ Fine out → iterations (var_scope g.kernel) g.for_loop k i t.memory cur ≡ Going out.memory names → (all : ℕ) → cut ≤ all
+    → why (iterate (var_scope g.kernel) g.for_loop (i + k) out.memory names) all
 
 module _
-    (fine : FineIsDone) (fails : FailIsFault) (g : Ground) {i : ℕ} {cur : Names} {m : Memory} {sum : List ℕ → ℕ → ℤ} {s : State} (ground : IsGround g) (h : AtHead g i cur m sum s) (assigned : Assigned (layout g)) (d : Laid) (rest : List Entry) {k : ℕ} {stop : StopList} (t : Lanes) (now : t.memory ≡ m)
+    (fine : FineIsDone) (fails : FailIsFault) (g : Ground) {i : ℕ} {cur : Names} {m : Memory} {sum : List ℕ → ℕ → ℤ} {s : State} (ground : IsGround g) (h : AtHead g i cur m sum s) (assigned : Assigned (layout g)) (d : Laid) (rest : List DraftEntry) {k : ℕ} {stop : StopList} (t : Lanes) (now : t.memory ≡ m)
     (chunk : IsChunk g i k t) (items : List Item) where
-  module _ (why : BlockEnd Names → ℕ → Type 0) (n most : ℕ) (few : k ≤ n) {code : List Entry} {from mid : State} {b : ℕ} (before : Leads d code from (rest_words g items rest) mid b) (le : b + (length (items_words (width g) (layout g) items) + 1) ≤ most) (reason : Reason g i k n cur t why before.cut) where
+  module _ (why : BlockEnd Names → ℕ → Type 0) (n most : ℕ) (few : k ≤ n) {code : List DraftEntry} {from mid : State} {b : ℕ} (before : Leads d code from (rest_words g items rest) mid b) (le : b + (length (items_words (width g) (layout g) items) + 1) ≤ most) (reason : Reason g i k n cur t why before.cut) where
     fine_pass : {p : ℕ} {out : Lanes} (end : State) → by_item (acts_of g.names (items_of g)) k i t ≡ Fine out → Leads d (rest_words g items rest) mid (Put (advance_word (width g)) ∷ rest) end (length (items_words (width g) (layout g) items)) → Holds (layout g) (setting g i k sum s.x stop) p out end
         → Passes why g n i cur m d code from rest most
     fine_pass {out = out} end is leads holds =
@@ -51,13 +51,13 @@ module _
         let last = advance_leads (width g) k end (omega (arith, holds.few, count)) (λ e lt. top e (omega (arith, lt, count))) in
         let whole = further most le before (follow (length (items_words (width g) (layout g) items) + 1) (omega arith) leads last) in
         comes k out.memory done.names (sum_at (layout g) (setting g i k sum s.x stop) out) (following g ground h chunk.within holds) few
-        (ap (λ memory. iterations (var_scope g.kernel) g.turns k i memory cur) (sym now) ∙ done.goes) whole.leads
+        (ap (λ memory. iterations (var_scope g.kernel) g.for_loop k i memory cur) (sym now) ∙ done.goes) whole.leads
         (λ left. reason left out done.names is done.goes whole.leads.cut whole.more)
-        (head_following g ground h chunk.within holds done.between) (top_following g ground h chunk.within holds) (turned_following g ground h chunk.within holds)
+        (head_following g ground h chunk.within holds done.between) (top_following g ground h chunk.within holds) (held_index_following g ground h chunk.within holds)
 
     pub rest_pass : {q : ℕ} {out : Out} → by_item (acts_of g.names (items_of g)) k i t ≡ out → AllOn g i k t → Does (layout g) (setting g i k sum s.x stop) d (rest_words g items rest) mid (Put (advance_word (width g)) ∷ rest) q (length (items_words (width g) (layout g) items)) out → Passes why g n i cur m d code from rest most
     rest_pass is all (does_fine end goes holds) = fine_pass end is (as_leads goes) holds
     rest_pass is all (does_fail {m = left} kind access stopped) =
         let failing : Failing g i k cur t.memory left = fails g i k cur sum t left ground h.between chunk all is in
-        stops k failing.j left failing.faulted kind few (ap (λ memory. iterations (var_scope g.kernel) g.turns k i memory cur) (sym now) ∙ failing.fails) failing.from failing.until access failing.kept
+        stops k failing.j left failing.faulted kind few (ap (λ memory. iterations (var_scope g.kernel) g.for_loop k i memory cur) (sym now) ∙ failing.fails) failing.from failing.until access failing.kept
         (stop_following most (omega (arith, le)) before stopped)

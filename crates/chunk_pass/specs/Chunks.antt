@@ -15,11 +15,11 @@ use Rattle.reductions.specs.Folds.{AreOf, given_to, ShareAlike}
 use Rattle.chunk_emit.specs.Chunk.{Setting, sum_at}
 use Rattle.chunk_emit.specs.Head.{Ground, IsGround, Between, layout, width, most_lanes, limit}
 use Rattle.first_fault.specs.Region.{On, lane_left, region_way}
-use Rattle.first_fault.specs.Split.{region_of}
+use Rattle.first_fault.specs.BreakRegion.{region_of}
 use Rattle.chunk_pass.specs.Halts.{Breaks, Faults}
 
 abbrev pub items_of : Ground → List Item
-items_of g = loop_items g.kernel g.turns
+items_of g = loop_items g.kernel g.for_loop
 
 -- the setting of a chunk of k lanes from iteration i on
 pub record IsSetting (g : Ground) (i k : ℕ) (taken : List ℕ → ℕ → ℤ) (f : Setting) : Type 0 where
@@ -45,7 +45,7 @@ GivenRight g i k out =
 -- the scalar loop has done the iterations of the lanes, with the same memory
 pub record Done (g : Ground) (f : Setting) (i k : ℕ) (cur : Names) (m : Memory) (out : Lanes) : Type 0 where
   pub names : Names
-  pub goes : iterations (var_scope g.kernel) g.turns k i m cur ≡ Going out.memory names
+  pub goes : iterations (var_scope g.kernel) g.for_loop k i m cur ≡ Going out.memory names
   pub between : Between g (i + k) names (sum_at (layout g) f out)
 
 -- Lanes that end well.
@@ -58,7 +58,7 @@ FineIsDone =
 pub record Failing (g : Ground) (i k : ℕ) (cur : Names) (m left : Memory) : Type 0 where
   pub j : ℕ
   pub faulted : Memory
-  pub fails : iterations (var_scope g.kernel) g.turns k i m cur ≡ Failed faulted j
+  pub fails : iterations (var_scope g.kernel) g.for_loop k i m cur ≡ Failed faulted j
   pub from : i ≤ j
   pub until : j < i + k
   pub kept : (z : ℕ) → z < 2 ^ 64 → Elsewhere g.kernel g.args i k z → byte_at left z ≡ byte_at faulted z
@@ -73,10 +73,10 @@ FailIsFault =
     (g : Ground) (i k : ℕ) (cur : Names) (sum : List ℕ → ℕ → ℤ) (t : Lanes) (left : Memory) → IsGround g → Between g i cur sum → IsChunk g i k t → AllOn g i k t
     → by_item (acts_of g.names (items_of g)) k i t ≡ Fail left → Failing g i k cur t.memory left
 
--- After k lanes that end well, a lane that breaks or faults on the chunk's first memory does so in its turn.
+-- After k lanes that end well, a lane that breaks or faults on the chunk's first memory does so in its iteration.
 abbrev pub NextHalts : Type 0
 NextHalts =
     (g : Ground) (i k : ℕ) (cur names : Names) (sum : List ℕ → ℕ → ℤ) (t out : Lanes) → IsGround g → Between g i cur sum → IsChunk g i k t → k < most_lanes g → i + k < limit g
-    → by_item (acts_of g.names (items_of g)) k i t ≡ Fine out → iterations (var_scope g.kernel) g.turns k i t.memory cur ≡ Going out.memory names
+    → by_item (acts_of g.names (items_of g)) k i t ≡ Fine out → iterations (var_scope g.kernel) g.for_loop k i t.memory cur ≡ Going out.memory names
     → lane_left (region_way g.names (region_of (items_of g)) (i + k) t.memory (t.lane (i + k))) ≡ None
-    → Breaks (iterate (var_scope g.kernel) g.turns (i + k) out.memory names) ⊎ Faults (iterate (var_scope g.kernel) g.turns (i + k) out.memory names)
+    → Breaks (iterate (var_scope g.kernel) g.for_loop (i + k) out.memory names) ⊎ Faults (iterate (var_scope g.kernel) g.for_loop (i + k) out.memory names)

@@ -5,14 +5,14 @@ use Rattle.guest_types.specs.declared.length.Width.{Width}
 use Rattle.a64_code.specs.Table as a64
 use Rattle.sve_code.specs.Table.{whilelo, incp}
 use Rattle.machine_model.specs.InstructionTable.{Listed, Scalar, Vector}
-use Rattle.loop_form.specs.declared.loop_item.Source.TheVariants.{LoopIndex}
+use Rattle.loop_form.specs.declared.loop_item.Operand.TheVariants.{LoopIndex}
 use Rattle.loop_form.specs.LoopItems.{Item}
 use Rattle.lane_emit.specs.Stretch.{word}
 use Rattle.lane_emit.specs.LaneCode.{size_of, index_code}
 use Rattle.chunk_emit.specs.Registers.{Layout}
 use Rattle.chunk_emit.specs.ChunkCode.{vectors, items_words}
 use Rattle.first_fault.specs.RegionCode.{exits_words, single_words}
-use Rattle.first_fault.specs.Split.{region_of, rest_of}
+use Rattle.first_fault.specs.BreakRegion.{region_of, rest_of}
 
 -- WHILELO P0, X9, Xn: the lanes of the chunk are those whose iterations are below the bound
 abbrev pub lanes_word : Width → ℕ → Listed
@@ -35,8 +35,8 @@ abbrev pub chunk_words : Width → Layout → (bound : ℕ) → List Item → Li
 chunk_words w l n items = lanes_word w n ∷ (index_words l ++ (exits_words w l (region_of items) ++ (items_words w l (rest_of items) ++ advance_word w ∷ [])))
 
 -- one iteration of such a loop, where no lane came through the chunk at X9
-abbrev pub turn_words : Width → Layout → List Item → List Listed
-turn_words w l items = first_lane_words w ++ (single_words w l (region_of items) ++ (items_words w l (rest_of items) ++ advance_word w ∷ []))
+abbrev pub iteration_words : Width → Layout → List Item → List Listed
+iteration_words w l items = first_lane_words w ++ (single_words w l (region_of items) ++ (items_words w l (rest_of items) ++ advance_word w ∷ []))
 
 -- a chunk of a loop without a break, whose lanes are in P0
 abbrev pub plain_words : Width → Layout → List Item → List Listed

@@ -5,9 +5,9 @@ mod emit;
 mod words;
 
 ghost use Rattle.chunk_pass.specs.Chunks.{FineIsDone, FailIsFault, NextHalts};
-ghost use Rattle.chunk_pass.specs.Passes.{ChunkPasses, TurnPasses, PlainPasses};
+ghost use Rattle.chunk_pass.specs.Passes.{ChunkPasses, IterationPasses, PlainPasses};
 
-pub use emit::{emit_chunk, emit_plain, emit_turn};
+pub use emit::{emit_chunk, emit_iteration, emit_plain};
 pub use words::lanes;
 
 /// Where the items end well over the lanes of a chunk, the scalar loop goes on through their iterations, with the same
@@ -23,7 +23,7 @@ pub fn fail_is_fault()
 {}
 
 /// After lanes that end well, an iteration that breaks or faults in the break region on the first memory of the chunk does
-/// so in its turn.
+/// so in the scalar loop.
 pub fn next_halts()
     ensures { NextHalts }
 {}
@@ -36,8 +36,8 @@ pub fn chunk_passes()
 {}
 
 /// A pass over one iteration of such a loop, which breaks where its lane does not come through.
-pub fn turn_passes()
-    ensures { TurnPasses }
+pub fn iteration_passes()
+    ensures { IterationPasses }
 {}
 
 /// A pass over a chunk of a loop without a break: all its lanes come through, or it stops where the scalar loop faults.

@@ -13,7 +13,8 @@ use Rattle.reg_assign.specs.declared.interval.RegClass.TheVariants.{Z}
 use Rattle.loop_form.specs.declared.stream.Stream.{Stream}
 use Rattle.loop_form.specs.declared.reach.Reach.{Reach}
 use Rattle.loop_form.specs.Lanes.{width_of, lane_width_of}
-use Rattle.loop_form.specs.LoopItems.{Op, Load, Store, Item, loop_items_of}
+use Rattle.loop_form.specs.LoopItems.{Op, Item, loop_items_of}
+use Rattle.loop_form.specs.LoopItems as ops
 use Rattle.loop_form.specs.Needs.{Throughout, Scalar, throughout}
 use Rattle.loop_form.specs.Reaches.{reaches_of}
 use Rattle.loop_form.specs.Streams.{streams_of, is_of}
@@ -31,13 +32,9 @@ offset_few (pos zero) = omega arith
 offset_few other = omega arith
 
 pub lane_few : (op : Op) → lane_steps op ≤ 3
-lane_few (Load a base t c) = let k = offset_few c in omega (arith, k)
-lane_few (Store a base t c v) = let k = offset_few c in omega (arith, k)
+lane_few (ops.Load a base t c) = let k = offset_few c in omega (arith, k)
+lane_few (ops.Store a base t c v) = let k = offset_few c in omega (arith, k)
 lane_few other = omega arith
-
-pub lane_some : (op : Op) → 1 ≤ lane_steps op
-lane_some (Load a base t c) = omega arith
-lane_some other = omega arith
 
 pub early_few : (mask : Option ℕ) (op : Op) → early_steps mask op ≤ 6
 early_few None op = let k = lane_few op in omega (arith, k)

@@ -33,7 +33,7 @@ dot = record {
   name = f;
   params = array a ty.I16 ∷ array b ty.I16 ∷ bound ∷ [];
   vars = record { name = s; type = ty.I64; init = Literal (pos 0) } ∷ [];
-  turns = Some (looped (Then (Update s update.Add (Operation binary.Mul (Conversion (at a) ty.I64) (Conversion (at b) ty.I64))) Done));
+  for_loop = Some (looped (Then (Update s update.Add (Operation binary.Mul (Conversion (at a) ty.I64) (Conversion (at b) ty.I64))) Done));
   answer = Some (record { type = ty.I64; value = Variable s });
 }
 
@@ -43,7 +43,7 @@ len = record {
   name = f;
   params = array a ty.U8 ∷ bound ∷ [];
   vars = [];
-  turns = Some (looped (Then (Leave (Comparison compare.Eq (at a) (Literal (pos 0)))) Done));
+  for_loop = Some (looped (Then (Leave (Comparison compare.Eq (at a) (Literal (pos 0)))) Done));
   answer = Some (record { type = ty.U64; value = Variable i });
 }
 
@@ -53,7 +53,7 @@ copy = record {
   name = f;
   params = array a ty.U8 ∷ array b ty.U8 ∷ array c ty.U8 ∷ bound ∷ [];
   vars = [];
-  turns = Some (looped (Then (Choose (Comparison compare.Ne (at a) (Literal (pos 0))) (Then (Put b (Variable i) (at c)) Done) Nothing) Done));
+  for_loop = Some (looped (Then (Choose (Comparison compare.Ne (at a) (Literal (pos 0))) (Then (Put b (Variable i) (at c)) Done) Nothing) Done));
   answer = None;
 }
 

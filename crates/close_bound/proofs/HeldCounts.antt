@@ -6,7 +6,7 @@ use Rattle.kernel_tree.specs.Plain.{PlainLoop, Program}
 use Rattle.kernel_tree.specs.Items.{index_of, loop_index, loop_start, size_of}
 use Rattle.reg_assign.specs.declared.interval.RegClass.TheVariants.{Z}
 use Rattle.loop_form.specs.declared.item.ItemKind.TheVariants as kind
-use Rattle.loop_form.specs.Entries.{IsPlain, Entry, entry, block_entries, turns_entries, loop_entries}
+use Rattle.loop_form.specs.Entries.{IsPlain, Entry, entry, block_entries, for_loop_entries, loop_entries}
 use Rattle.loop_form.specs.Needs.{scalars, is_named_scalar, scalar_of, constants, new_constant, index_held, is_updated, accumulating_of, throughout}
 use Rattle.loop_form.proofs.FewItems.{vars-small}
 use Rattle.loop_form.proofs.Numbers.{loop-listed}
@@ -22,20 +22,20 @@ constants_few before (e ∷ es) =
     omega (arith, a, b, c)
 
 -- the first item of a loop is no literal, so there is room for the loop variable
-first_few : (k : Program) (b : ℕ) (l : PlainLoop) → length (constants [] (turns_entries k b (Some l))) + 1 ≤ length (turns_entries k b (Some l))
+first_few : (k : Program) (b : ℕ) (l : PlainLoop) → length (constants [] (for_loop_entries k b (Some l))) + 1 ≤ length (for_loop_entries k b (Some l))
 unfolding constants
 first_few k b l = let c = constants_few (entry k b (IsPlain kind.For) b ∷ []) (block_entries k (b + 1) l.body) in omega (arith, c)
 
-loop_few : (k : Program) (b : ℕ) (o : Option PlainLoop) → length (constants [] (turns_entries k b o)) + length (index_held (turns_entries k b o) (option_map index_of o)) ≤ length (turns_entries k b o)
+loop_few : (k : Program) (b : ℕ) (o : Option PlainLoop) → length (constants [] (for_loop_entries k b o)) + length (index_held (for_loop_entries k b o) (option_map index_of o)) ≤ length (for_loop_entries k b o)
 loop_few k b None = let c = constants_few [] [] in omega (arith, c)
-loop_few k b (Some l) = let c = first_few k b l in let i = index_few (turns_entries k b (Some l)) (Some l.index) in omega (arith, c, i)
+loop_few k b (Some l) = let c = first_few k b l in let i = index_few (for_loop_entries k b (Some l)) (Some l.index) in omega (arith, c, i)
 
 pub few_held : (k : Program) → length (throughout k Z) ≤ size_of k
 few_held k =
     let es : List Entry = loop_entries k in
     let a = length-map (filter (is_named_scalar es) k.params) scalar_of in
     let b = filter_few (is_named_scalar es) k.params in
-    let c = loop_few k (loop_start k) k.turns in
+    let c = loop_few k (loop_start k) k.for_loop in
     let d = length-map (filter (is_updated es) k.vars) accumulating_of in
     let e = filter_few (is_updated es) k.vars in
     let f = (loop-listed k).count in

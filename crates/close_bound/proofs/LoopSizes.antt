@@ -3,17 +3,17 @@ use Rattle.std.proofs.Common.{◌≡◌, ℕ, suc, ◌+◌, ◌≤◌, ℤ, List
 use Rattle.std.specs.Prelude.{option_map}
 use Rattle.kernel_tree.specs.declared.ops.Ty.{Ty}
 use Rattle.kernel_tree.specs.Plain.{Term, Literal, Variable, Element, Unary, Operation, Shift, Conversion, Choice, Comparison, Both, Either, Not, Action, Define, Put, Update, Choose, Leave, Block, Done, Then, Otherwise, Nothing, Else, PlainLoop, Program}
-use Rattle.kernel_tree.specs.Items.{stream_offset, index_size, index_items, term_size, action_size, block_size, otherwise_size, index_of, turns_size, size_of, loop_start}
+use Rattle.kernel_tree.specs.Items.{stream_offset, index_size, index_items, term_size, action_size, block_size, otherwise_size, index_of, for_loop_size, size_of, loop_start}
 use Rattle.kernel_tree.specs.Typing.{Scope, own, first, index_type, side_type, after_action, after_block, left, in_loop, var_scope, array_type}
 use Rattle.kernel_tree.proofs.Scopes.{index_after, scope_index}
-use Rattle.loop_form.specs.declared.loop_item.Source.{Source}
-use Rattle.loop_form.specs.LoopItems.{Bound, Item, accumulator_of, truth_home, load_item, gather_item, store_item, term_items, cond_items, quit_items, leave_items, after_env, action_items, block_items, otherwise_items, loop_env, loop_items, turns_items, loop_items_of}
+use Rattle.loop_form.specs.declared.loop_item.Operand.{Operand}
+use Rattle.loop_form.specs.LoopItems.{Bound, Item, accumulator_of, truth_home, load_item, gather_item, store_item, term_items, cond_items, break_items, leave_items, after_env, action_items, block_items, otherwise_items, loop_env, loop_items, for_loop_items, loop_items_of}
 
 load_few : (scope : Scope) (mask : Option ℕ) (q : ℕ) (env : List Bound) (a : List ℕ) (o : Option ℤ) (gathered rest : List Item) (n : ℕ) → length gathered ≤ n + suc (length rest) → length (load_item scope mask q env a o gathered rest) ≤ index_size o n + 1 + length rest
 load_few scope mask q env a None gathered rest n h = omega (arith, h)
 load_few scope mask q env a (Some c) gathered rest n h = omega arith
 
-store_few : (scope : Scope) (mask : Option ℕ) (q : ℕ) (env : List Bound) (a : List ℕ) (o : Option ℤ) (v : Source) (rest : List Item) → length (store_item scope mask q env a o v rest) ≤ 1 + length rest
+store_few : (scope : Scope) (mask : Option ℕ) (q : ℕ) (env : List Bound) (a : List ℕ) (o : Option ℤ) (v : Operand) (rest : List Item) → length (store_item scope mask q env a o v rest) ≤ 1 + length rest
 store_few scope mask q env a None v rest = omega arith
 store_few scope mask q env a (Some c) v rest = omega arith
 
@@ -82,15 +82,15 @@ term_few (Not e) = record {
 
 -- ---- statements
 
-quit_few : (c : Term) (s : Scope) (mask : Option ℕ) (b : ℕ) (env : List Bound) (rest : List Item) → length (quit_items s mask b env c rest) ≤ term_size s.index c + 1 + length rest
-quit_few c s mask b env rest = following_one _ _ _ ((term_few c).as_cond s mask b env _)
+break_few : (c : Term) (s : Scope) (mask : Option ℕ) (b : ℕ) (env : List Bound) (rest : List Item) → length (break_items s mask b env c rest) ≤ term_size s.index c + 1 + length rest
+break_few c s mask b env rest = following_one _ _ _ ((term_few c).as_cond s mask b env _)
 
 leave_few : (c : Term) (s : Scope) (mask : Option ℕ) (b : ℕ) (env : List Bound) (rest : List Item) → length (leave_items s mask b env c rest) ≤ term_size s.index c + 1 + length rest
-leave_few (Either x y) s mask b env rest = two_breaks _ _ _ _ _ (leave_few x s mask b env _) (quit_few y s mask (b + term_size s.index x + 1) env rest)
+leave_few (Either x y) s mask b env rest = two_breaks _ _ _ _ _ (leave_few x s mask b env _) (break_few y s mask (b + term_size s.index x + 1) env rest)
   where
     two_breaks : (n p q r k : ℕ) → n ≤ p + 1 + q → q ≤ r + 1 + k → n ≤ p + 1 + r + 1 + 1 + k
     two_breaks n p q r k h j = omega (arith, h, j)
-leave_few c s mask b env rest = quit_few c s mask b env rest
+leave_few c s mask b env rest = break_few c s mask b env rest
 
 mutual
   action_few : (a : Action) (s : Scope) (mask : Option ℕ) (b : ℕ) (env : List Bound) (rest : List Item) → length (action_items s mask b env a rest) ≤ action_size s.index a + length rest
@@ -125,17 +125,17 @@ mutual
 
 -- ---- the loop
 
-pub few_items : (k : Program) (l : PlainLoop) → k.turns ≡ Some l → length (loop_items k l) ≤ size_of k
+pub few_items : (k : Program) (l : PlainLoop) → k.for_loop ≡ Some l → length (loop_items k l) ≤ size_of k
 few_items k l is =
     let h = block_few l.body (in_loop (var_scope k) l) None (loop_start k + 1) (loop_env (var_scope k) l.index) [] in
     let index : (var_scope k).index ≡ Some l.index = scope_index k ∙ ap (option_map index_of) is in
     let size : block_size (var_scope k).index l.body ≡ block_size (Some l.index) l.body = ap (λ i. block_size i l.body) index in
-    let whole : turns_size k.turns ≡ 1 + block_size (Some l.index) l.body = ap turns_size is in
+    let whole : for_loop_size k.for_loop ≡ 1 + block_size (Some l.index) l.body = ap for_loop_size is in
     omega (arith, h, size, whole)
 
 pub all_items : (k : Program) → length (loop_items_of k) ≤ size_of k
-all_items k = by_turns k.turns refl
+all_items k = by_for_loop k.for_loop refl
   where
-    by_turns : (o : Option PlainLoop) → k.turns ≡ o → length (turns_items k o) ≤ size_of k
-    by_turns None e = omega arith
-    by_turns (Some l) e = few_items k l e
+    by_for_loop : (o : Option PlainLoop) → k.for_loop ≡ o → length (for_loop_items k o) ≤ size_of k
+    by_for_loop None e = omega arith
+    by_for_loop (Some l) e = few_items k l e

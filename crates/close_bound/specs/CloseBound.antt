@@ -5,24 +5,25 @@ use Rattle.std.specs.Int.{div_ceil}
 use Rattle.std.specs.List.{list_any}
 use Rattle.guest_types.specs.Length.{lanes}
 use Rattle.kernel_tree.specs.Plain.{Program}
-use Rattle.kernel_tree.specs.Items.{vars_size, turns_size, answer_size, loop_index}
+use Rattle.kernel_tree.specs.Items.{vars_size, for_loop_size, answer_size, loop_index}
 use Rattle.reg_assign.specs.declared.interval.RegClass.TheVariants.{Z}
 use Rattle.loop_form.specs.Lanes.{lane_width_of}
-use Rattle.loop_form.specs.LoopItems.{Op, Load, Gather, Apply, Combine, Move, Store, Quit, Item, loop_items_of}
+use Rattle.loop_form.specs.LoopItems.{Op, Item, loop_items_of}
+use Rattle.loop_form.specs.LoopItems as ops
 use Rattle.loop_form.specs.Needs.{Throughout, Scalar, Constant, Index, Accumulating, throughout}
 use Rattle.dependence.specs.declared.used.Used.{Used}
 use Rattle.dependence.specs.Apart.{is_stored, used_of}
 use Rattle.dependence.specs.Bound.{runs_in_chunks}
 
-abbrev pub quits : Op → Bool
-quits (Quit c) = true
-quits _ = false
+abbrev pub breaks_loop : Op → Bool
+breaks_loop (ops.Break c) = true
+breaks_loop _ = false
 
-abbrev pub is_quit : Item → Bool
-is_quit it = quits it.op
+abbrev pub is_loop_break : Item → Bool
+is_loop_break it = breaks_loop it.op
 
 abbrev pub has_break : Program → Bool
-has_break k = list_any is_quit (loop_items_of k)
+has_break k = list_any is_loop_break (loop_items_of k)
 
 -- ---- a pass: a chunk, or one iteration by itself after a chunk that no lane came through
 
@@ -34,12 +35,12 @@ offset_steps (negsuc c) = 1
 
 -- an operation over the lanes
 abbrev pub lane_steps : Op → ℕ
-lane_steps (Load a base t c) = 1 + offset_steps c
-lane_steps (Store a base t c v) = 1 + offset_steps c
-lane_steps (Gather a base t reach u x) = 3
-lane_steps (Combine op t x y) = 3
-lane_steps (Apply op t x) = 2
-lane_steps (Move left n t x) = 2
+lane_steps (ops.Load a base t c) = 1 + offset_steps c
+lane_steps (ops.Store a base t c v) = 1 + offset_steps c
+lane_steps (ops.Gather a base t reach u x) = 3
+lane_steps (ops.Binary op t x y) = 3
+lane_steps (ops.Unary op t x) = 2
+lane_steps (ops.Shift left n t x) = 2
 lane_steps _ = 1
 
 -- the same in a loop with a break, where a read may stop early, and a mask loses the lanes that were left out
@@ -74,7 +75,7 @@ passes k at_once m q = div_ceil m at_once + spare (has_break k) * (1 + q)
 -- ---- an iteration of the scalar code: four steps an item, of which `for` is one
 
 abbrev pub iteration_steps : Program → ℕ
-iteration_steps k = 4 * turns_size k.turns
+iteration_steps k = 4 * for_loop_size k.for_loop
 
 -- the one that a break ends
 abbrev pub last_steps : (breaks : Bool) → Program → ℕ

@@ -7,7 +7,7 @@ use Rattle.io_edges.specs.declared.files.FileError.{FileError}
 use Rattle.io_edges.specs.declared.files.TheConstants.{MAX_FILE}
 use Rattle.refusals.specs.declared.refusal.Refusal.{Refusal}
 use Rattle.refusals.specs.declared.refusal.Refusal.TheVariants.{TooLong, Memory, File}
-use Rattle.command_answers.specs.Answer.{Held, Expected, Answer, answer_of, IsFileAnswer, IsAnswer}
+use Rattle.command_answers.specs.Answer.{HeldFiles, Expected, Answer, answer_of, IsFileAnswer, IsAnswer}
 use Rattle.command_answers.specs.Reads.{and_then, bytes_of, file_of, AfterRead}
 use Rattle.command_answers.specs.Works.{WhereExpected}
 
@@ -21,14 +21,14 @@ read_is {T = T} x y wanted read h = ⊎_elim (λ e. e) (λ other. absurd (⊎_el
     not_err e = absurd cc
 
 -- something that holds of a work that is wanted after what was read
-pub of_read : {T : Type 0} (x y : ℕ) (held : Option Held) (wanted : Held → Result T Refusal) (read : T) (found : Result T Refusal) (next : T → Expected → Type 0) (work : Expected) (P : Expected → Type 0) → found ≡ Ok read → IfSome held (λ h. IsFileAnswer x y (wanted h) found) → next read work → P work → IfSome held (λ h. WhereExpected (AfterRead (wanted h) next) P)
+pub of_read : {T : Type 0} (x y : ℕ) (held : Option HeldFiles) (wanted : HeldFiles → Result T Refusal) (read : T) (found : Result T Refusal) (next : T → Expected → Type 0) (work : Expected) (P : Expected → Type 0) → found ≡ Ok read → IfSome held (λ h. IsFileAnswer x y (wanted h) found) → next read work → P work → IfSome held (λ h. WhereExpected (AfterRead (wanted h) next) P)
 of_read x y None wanted read found next work P is answer w p = tt
 of_read x y (Some h) wanted read found next work P is answer w p =
     let e : Ok read ≡ wanted h = read_is x y (wanted h) read (subst (IsFileAnswer x y (wanted h)) is answer) in
     λ other o. (work, subst (λ r. AfterRead r next work) e w, p)
 
 -- the same of the one work that follows what was read
-pub of_what_follows : {T : Type 0} (x y : ℕ) (held : Option Held) (wanted : Held → Result T Refusal) (read : T) (found : Result T Refusal) (next : T → Expected) (P : Expected → Type 0) → found ≡ Ok read → IfSome held (λ h. IsFileAnswer x y (wanted h) found) → P (next read) → IfSome held (λ h. P (and_then (wanted h) next))
+pub of_what_follows : {T : Type 0} (x y : ℕ) (held : Option HeldFiles) (wanted : HeldFiles → Result T Refusal) (read : T) (found : Result T Refusal) (next : T → Expected) (P : Expected → Type 0) → found ≡ Ok read → IfSome held (λ h. IsFileAnswer x y (wanted h) found) → P (next read) → IfSome held (λ h. P (and_then (wanted h) next))
 of_what_follows x y None wanted read found next P is answer p = tt
 of_what_follows x y (Some h) wanted read found next P is answer p =
     subst (λ r. P (and_then r next)) (read_is x y (wanted h) read (subst (IsFileAnswer x y (wanted h)) is answer)) p
@@ -53,7 +53,7 @@ answer_first x y work refusal h =
     same other e = cc
 
 -- what could not be read is refused so
-pub not_read : {T : Type 0} (x y : ℕ) (rose : Type 0) (held : Option Held) (wanted : Held → Result T Refusal) (found : Result T Refusal) (next : T → Expected) (refusal : Refusal) (result : Answer) → found ≡ Err refusal → result ≡ Err refusal → IfSome held (λ h. IsFileAnswer x y (wanted h) found) → IfSome held (λ h. IsAnswer x y rose (answer_of (and_then (wanted h) next)) result)
+pub not_read : {T : Type 0} (x y : ℕ) (rose : Type 0) (held : Option HeldFiles) (wanted : HeldFiles → Result T Refusal) (found : Result T Refusal) (next : T → Expected) (refusal : Refusal) (result : Answer) → found ≡ Err refusal → result ≡ Err refusal → IfSome held (λ h. IsFileAnswer x y (wanted h) found) → IfSome held (λ h. IsAnswer x y rose (answer_of (and_then (wanted h) next)) result)
 not_read x y rose None wanted found next refusal result is e answer = tt
 not_read x y rose (Some h) wanted found next refusal result is e answer =
     inl (subst (IsFileAnswer x y (answer_of (and_then (wanted h) next))) (sym e)
@@ -62,7 +62,7 @@ not_read x y rose (Some h) wanted found next refusal result is e answer =
 -- ---- one after another
 
 -- what is answered where it could not be read
-pub stops_there : {T U : Type 0} (x y : ℕ) (held : Option Held) (wanted : Held → Result T Refusal) (found : Result T Refusal) (next : Held → T → Result U Refusal) (refusal : Refusal) (result : Result U Refusal) → found ≡ Err refusal → result ≡ Err refusal → IfSome held (λ h. IsFileAnswer x y (wanted h) found)
+pub stops_there : {T U : Type 0} (x y : ℕ) (held : Option HeldFiles) (wanted : HeldFiles → Result T Refusal) (found : Result T Refusal) (next : HeldFiles → T → Result U Refusal) (refusal : Refusal) (result : Result U Refusal) → found ≡ Err refusal → result ≡ Err refusal → IfSome held (λ h. IsFileAnswer x y (wanted h) found)
     → IfSome held (λ h. IsFileAnswer x y (and_then (wanted h) (next h)) result)
 stops_there x y None wanted found next refusal result is e answer = tt
 stops_there x y (Some h) wanted found next refusal result is e answer =
@@ -70,7 +70,7 @@ stops_there x y (Some h) wanted found next refusal result is e answer =
     (refused_first x y x y (wanted h) (next h) refusal (λ r. r) (subst (IsFileAnswer x y (wanted h)) is answer))
 
 -- what is answered without a look at the files
-pub answered : {T : Type 0} (x : ℕ) (held : Option Held) (wanted : Held → Result T Refusal) (result : Result T Refusal) → ((h : Held) → wanted h ≡ result) → IfSome held (λ h. IsFileAnswer x x (wanted h) result)
+pub answered : {T : Type 0} (x : ℕ) (held : Option HeldFiles) (wanted : HeldFiles → Result T Refusal) (result : Result T Refusal) → ((h : HeldFiles) → wanted h ≡ result) → IfSome held (λ h. IsFileAnswer x x (wanted h) result)
 answered x None wanted result is = tt
 answered x (Some h) wanted result is = inl (sym (is h))
 
@@ -82,17 +82,17 @@ is_err refusal (Err r) h = ap (λ e. Err e) h
 
 -- ---- answers of commands with an output
 
-pub with_output : (x y : ℕ) (rose : Type 0) (held : Option Held) (W : Held → Expected → Type 0) (result : Answer) → IfSome held (λ h. WhereExpected (W h) (λ work. IsFileAnswer x y (answer_of work) result)) → IfSome held (λ h. WhereExpected (W h) (λ work. IsAnswer x y rose (answer_of work) result))
+pub with_output : (x y : ℕ) (rose : Type 0) (held : Option HeldFiles) (W : HeldFiles → Expected → Type 0) (result : Answer) → IfSome held (λ h. WhereExpected (W h) (λ work. IsFileAnswer x y (answer_of work) result)) → IfSome held (λ h. WhereExpected (W h) (λ work. IsAnswer x y rose (answer_of work) result))
 with_output x y rose None W result h = tt
 with_output x y rose (Some held) W result h = λ work w. let p = h work w in (p.0, p.1, inl p.2)
 
 -- the one work that is wanted
-pub of_one : (held : Option Held) (f : Held → Expected) (P : Expected → Type 0) → IfSome held (λ h. P (f h)) → IfSome held (λ h. WhereExpected (λ work. work ≡ f h) P)
+pub of_one : (held : Option HeldFiles) (f : HeldFiles → Expected) (P : Expected → Type 0) → IfSome held (λ h. P (f h)) → IfSome held (λ h. WhereExpected (λ work. work ≡ f h) P)
 of_one None f P h = tt
 of_one (Some held) f P h = λ work w. (f held, refl, h)
 
 -- something that holds of each work holds of one that is wanted
-pub of_every : (held : Option Held) (W : Held → Expected → Type 0) (P : Expected → Type 0) → ((work : Expected) → P work) → IfSome held (λ h. WhereExpected (W h) P)
+pub of_every : (held : Option HeldFiles) (W : HeldFiles → Expected → Type 0) (P : Expected → Type 0) → ((work : Expected) → P work) → IfSome held (λ h. WhereExpected (W h) P)
 of_every None W P all = tt
 of_every (Some h) W P all = λ work w. (work, w, all work)
 
@@ -102,11 +102,11 @@ long : (b : Bool) (text : List ℕ) {bytes : List ℕ} → ◌≡◌ {A = Result
 long true text e = absurd cc
 long false text e = cc
 
-pub written_at : {old new : Held} {to bytes : List ℕ} {result : Result (Unit {0}) FileError} → Writes (Some old) (Some new) to bytes result → result ≡ Ok tt → content new to ≡ Some bytes
+pub written_at : {old new : HeldFiles} {to bytes : List ℕ} {result : Result (Unit {0}) FileError} → Writes (Some old) (Some new) to bytes result → result ≡ Ok tt → content new to ≡ Some bytes
 written_at {new = new} {to = to} {bytes = bytes} {result = result} w ok =
     ap (λ h. content h to) (some_same w.1) ∙ onto result ok w.2.written
   where
-    some_same : {a b : Held} → Some a ≡ Some b → a ≡ b
+    some_same : {a b : HeldFiles} → Some a ≡ Some b → a ≡ b
     some_same e = cc
 
     onto : (r : Result (Unit {0}) FileError) → r ≡ Ok tt → OnOk r (content w.0 to ≡ Some bytes) → content w.0 to ≡ Some bytes
@@ -114,7 +114,7 @@ written_at {new = new} {to = to} {bytes = bytes} {result = result} w ok =
     onto (Err f) e h = absurd cc
 
 -- what was written for a text that was read
-pub written_file : (x y : ℕ) (old mid new : Option Held) (from to bytes written file : List ℕ) (found : Result (List ℕ) Refusal) (result : Result (Unit {0}) FileError) (IsFileOf : List ℕ → List ℕ → Type 0) → found ≡ Ok bytes → IfSome old (λ h. IsFileAnswer x y (file_of h from) found) → mid ≡ old → Writes mid new to written result → result ≡ Ok tt → written ≡ file → IsFileOf bytes file
+pub written_file : (x y : ℕ) (old mid new : Option HeldFiles) (from to bytes written file : List ℕ) (found : Result (List ℕ) Refusal) (result : Result (Unit {0}) FileError) (IsFileOf : List ℕ → List ℕ → Type 0) → found ≡ Ok bytes → IfSome old (λ h. IsFileAnswer x y (file_of h from) found) → mid ≡ old → Writes mid new to written result → result ≡ Ok tt → written ≡ file → IsFileOf bytes file
     → IfSome old (λ o. IfSome new (λ n. IfSome (content o from) (λ text. (f : List ℕ) × (content n to ≡ Some f) × IsFileOf text f)))
 written_file x y None mid new from to bytes written file found result IsFileOf is read same writes ok put h = tt
 written_file x y (Some o) mid None from to bytes written file found result IsFileOf is read same writes ok put h = tt

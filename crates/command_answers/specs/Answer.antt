@@ -6,8 +6,8 @@ use Rattle.refusals.specs.declared.refusal.Refusal.TheVariants.{Memory, File, Ou
 use Rattle.refusals.specs.declared.refusal.Done.{Done}
 use Rattle.refusals.specs.Statuses.{status_of_done, status_of_refusal}
 
-abbrev pub Held : Type 0
-Held = List (List ℕ × List ℕ)
+abbrev pub HeldFiles : Type 0
+HeldFiles = List (List ℕ × List ℕ)
 
 -- how a command is done, and the text that it puts on the output
 pub record Success : Type 0 where
@@ -73,5 +73,5 @@ IsRefusal (Ok success) = ⊥
 IsRefusal (Err refusal) = Unit {0}
 
 -- a command that is to be refused changes no file, whatever its status
-abbrev pub Unwritten : Expected → Option Held → Option Held → Type 0
+abbrev pub Unwritten : Expected → Option HeldFiles → Option HeldFiles → Type 0
 Unwritten work old new = IsRefusal work → new ≡ old

@@ -6,7 +6,7 @@ use Rattle.command_line.specs.Line.{Task}
 use Rattle.refusals.specs.declared.refusal.Refusal.{Refusal}
 use Rattle.refusals.specs.declared.refusal.Refusal.TheVariants.{TooLong, Memory, File}
 use Rattle.command_answers.specs.declared.files.TaskFiles.{TaskFiles}
-use Rattle.command_answers.specs.Answer.{Held, Expected}
+use Rattle.command_answers.specs.Answer.{HeldFiles, Expected}
 
 -- what follows where nothing was refused
 abbrev pub and_then : {T U : Type 0} → Result T Refusal → (T → Result U Refusal) → Result U Refusal
@@ -20,16 +20,16 @@ abbrev pub bytes_of : Option (List ℕ) → Result (List ℕ) Refusal
 bytes_of None = Err File
 bytes_of (Some bytes) = if nat_lt MAX_FILE (length bytes) then Err TooLong else Ok bytes
 
-abbrev pub file_of : Held → List ℕ → Result (List ℕ) Refusal
+abbrev pub file_of : HeldFiles → List ℕ → Result (List ℕ) Refusal
 file_of held name = bytes_of (content held name)
 
 -- the text of a page map, which is empty where none is named
-abbrev pub map_of : Held → Option (List ℕ) → Result (List ℕ) Refusal
+abbrev pub map_of : HeldFiles → Option (List ℕ) → Result (List ℕ) Refusal
 map_of held None = Ok []
 map_of held (Some name) = file_of held name
 
 -- the bytes of a task's file, and the text of its map, which is read after it
-abbrev pub task_files : Held → Task → Result (List ℕ × List ℕ) Refusal
+abbrev pub task_files : HeldFiles → Task → Result (List ℕ × List ℕ) Refusal
 task_files held task = and_then (file_of held task.file) (λ file. and_then (map_of held task.map) (λ map. Ok (file, map)))
 
 -- what is wanted once something was read
@@ -56,16 +56,16 @@ IsOfRead (Err refusal) = ⊥
 IsOfRead (Ok x) = Unit {0}
 
 -- a file that is named is held
-abbrev pub IsMapHeld : Held → Option (List ℕ) → Type 0
+abbrev pub IsMapHeld : HeldFiles → Option (List ℕ) → Type 0
 IsMapHeld held None = Unit {0}
 IsMapHeld held (Some name) = IsSome (content held name)
 
 -- the files of a task are held: the map only where the file before it can be read
-abbrev pub IsTaskHeld : Held → Task → Type 0
+abbrev pub IsTaskHeld : HeldFiles → Task → Type 0
 IsTaskHeld held task = IsSome (content held task.file) × IfOk (file_of held task.file) (λ file. IsMapHeld held task.map)
 
 -- ---- the file that is written
 
 -- every other name has what it had
-abbrev pub ChangesOnly : Held → Held → List ℕ → Type 0
+abbrev pub ChangesOnly : HeldFiles → HeldFiles → List ℕ → Type 0
 ChangesOnly old new to = (name : List ℕ) → name ≢ to → content new name ≡ content old name

@@ -15,7 +15,7 @@ use Rattle.command_line.specs.declared.place.OptionName.TheVariants.{Vl, Steps, 
 use Rattle.command_line.specs.declared.place.Place.{Place}
 use Rattle.command_line.specs.declared.place.Place.TheVariants as place
 use Rattle.clap.specs.Walk.{nothing_held}
-use Rattle.command_line.proofs.Splits.{text_given, positional_words, or_none}
+use Rattle.command_line.proofs.PositionalWords.{text_given, positional_words, or_none}
 use Rattle.command_line.proofs.Opens.{next_alone, next_joined, gives-end, gives-plain, gives-alone, gives-joined}
 use Rattle.command_line.proofs.Sorts.{Sorted, ends, plain, alone, joined, other, sorted, word_of, name_is, joined_is, same_bytes, unwrapped}
 

@@ -22,7 +22,7 @@ use Rattle.command_line.specs.declared.place.OptionName.{OptionName}
 use Rattle.command_line.specs.declared.place.OptionName.TheVariants.{Vl, Steps, Map, Dump, Suppress}
 use Rattle.command_line.specs.declared.place.Place.{Place}
 use Rattle.command_line.proofs.Commands.{option_text, rules, app, built_is, simple, words_are, no_defaults, defaults_pass, valid}
-use Rattle.command_line.proofs.Splits.{text_given, option_found, words_found}
+use Rattle.command_line.proofs.PositionalWords.{text_given, option_found, words_found}
 use Rattle.command_line.proofs.Opens.{Open, Ends, opened}
 
 -- ---- the words that stand are those that give something

@@ -21,7 +21,7 @@ use Rattle.command_line.specs.declared.place.Place.TheVariants as place
 use Rattle.command_line.proofs.Commands.{option_text, option_built, words_built, rules, shape, words_by_id}
 use Rattle.command_line.proofs.Sorts.{Sorted, ends, plain, alone, joined, other, sorted, name_is, joined_is, same_bytes, unwrapped}
 use Rattle.command_line.proofs.Walks.{row, found_in, option_used, words_used, id_is, waiting_for, alone_step, joined_step, value_step, in_words, trailing_from, end_first, literal_first, plain_first, alone_turns, use_passes-option, joined_turns, value_turns, end_first_turns, literal_first_turns, plain_first_turns}
-use Rattle.command_line.proofs.Splits.{text_given, option_found, words_found, Follows, follows, or_none, or_assoc, Pushes, no_value, literal_words, positional_words, literal_next}
+use Rattle.command_line.proofs.PositionalWords.{text_given, option_found, words_found, Follows, follows, or_none, or_assoc, Pushes, no_value, literal_words, positional_words, literal_next}
 
 -- ---- names
 

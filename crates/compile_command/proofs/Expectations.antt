@@ -9,7 +9,7 @@ use Rattle.kernel_tree.specs.Plain.{Program}
 use Rattle.kernel_front.specs.Verdict.{Verdict, Sound, IsVerdict}
 use Rattle.refusals.specs.declared.refusal.Refusal.{Refusal}
 use Rattle.refusals.specs.declared.refusal.Refusal.TheVariants.{TooManyLive, Memory}
-use Rattle.command_answers.specs.Answer.{Held, Expected, Answer, expected_text}
+use Rattle.command_answers.specs.Answer.{HeldFiles, Expected, Answer, expected_text}
 use Rattle.command_answers.specs.Outputs.{Prints}
 use Rattle.command_answers.specs.Reads.{file_of, AfterRead}
 use Rattle.command_answers.specs.Works.{WhereExpected}
@@ -47,6 +47,6 @@ compile_silent (Ok text) work w = no_text w.verdict work w.wanted
 compile_silent (Err refusal) work w = ap expected_text w
 
 -- nothing is put on the output
-pub prints_silent : (held : Option Held) (from : List ℕ) (old : Option (List ℕ)) (result : Answer) → IfSome held (λ h. WhereExpected (ExpectsCompile h from) (λ work. Prints old old (expected_text work) result))
+pub prints_silent : (held : Option HeldFiles) (from : List ℕ) (old : Option (List ℕ)) (result : Answer) → IfSome held (λ h. WhereExpected (ExpectsCompile h from) (λ work. Prints old old (expected_text work) result))
 prints_silent None from old result = tt
 prints_silent (Some h) from old result = λ work w. (work, w, subst (λ t. Prints old old t result) (sym (compile_silent (file_of h from) work w)) (prints_none old result))

@@ -14,7 +14,7 @@ use Rattle.promises.specs.Refusals.{too_many, need_in}
 use Rattle.refusals.specs.declared.refusal.Refusal.{Refusal}
 use Rattle.refusals.specs.declared.refusal.Refusal.TheVariants.{Usage, TooManyLive, Elf, Map, Asm, Pipe, Memory as NoMemory, Output}
 use Rattle.refusals.specs.declared.refusal.Done.TheVariants as done
-use Rattle.command_answers.specs.Answer.{Held, Expected, Answer}
+use Rattle.command_answers.specs.Answer.{HeldFiles, Expected, Answer}
 use Rattle.command_answers.specs.Reads.{file_of, AfterRead}
 use Rattle.command_answers.specs.Works.{ended}
 use Rattle.kernel_commands.specs.Kernels.{ByVerdict}
@@ -33,7 +33,7 @@ abbrev pub CompileExpects : List ℕ → Expected → Type 0
 CompileExpects text work = ByVerdict compiled text work
 
 -- what is wanted of `compile` for the file under a name
-abbrev pub ExpectsCompile : Held → List ℕ → Expected → Type 0
+abbrev pub ExpectsCompile : HeldFiles → List ℕ → Expected → Type 0
 ExpectsCompile held from work = AfterRead (file_of held from) CompileExpects work
 
 -- the refusal that a fault of the compiler is
@@ -59,7 +59,7 @@ pub record CompilesTo (text file : List ℕ) : Type 0 where
   pub small : size_of kernel ≤ 1000
 
 -- the one name has a file that is faithful to the kernel that the other had
-abbrev pub IsCompiled : (old new : Held) (from to : List ℕ) → Type 0
+abbrev pub IsCompiled : (old new : HeldFiles) (from to : List ℕ) → Type 0
 IsCompiled old new from to = IfSome (content old from) (λ text. (file : List ℕ) × (content new to ≡ Some file) × CompilesTo text file)
 
 -- a refusal of a sound kernel by the compiler

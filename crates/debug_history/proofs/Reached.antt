@@ -6,7 +6,7 @@ use Rattle.std.proofs.lemmas.Bool.{le-leb, lt-leb}
 use Rattle.std.proofs.lemmas.List.{length-map, length-take-le, get_or-map, get_or-take}
 use Rattle.std.proofs.lemmas.List.Sums.{prefix_len-drop_no, prefix_len-drop_yes, prefix_len-le-length}
 use Rattle.machine_model.specs.Debugged.{Past}
-use Rattle.debug_history.specs.Kept.{IsLast, counts_of, first_of, last_of, is_reached, up_to}
+use Rattle.debug_history.specs.Kept.{IsLast, counts_of, first_of, last_of, is_reached}
 
 -- the count at a place
 pub count_at : (kept : List Past) (n steps : ℕ) (v : Past) → n < length kept → (get_or kept n v).steps ≡ steps → steps ≡ get_or (counts_of kept) n 0
@@ -45,12 +45,7 @@ reached_bounds kept target first n some start below reached =
     let few = prefix_len-le-length (is_reached target) kept in
     (omega (arith, more, reached), omega (arith, few, reached))
 
--- those up to a count are those up to a place
-pub kept_to : (kept left : List Past) (target n : ℕ) → 1 ≤ n → n ≡ prefix_len (is_reached target) kept → left ≡ take (n - 1 + 1) kept → left ≡ up_to target kept
-kept_to kept left target n some reached is =
-    is ∙ ap (λ k. take k kept) (let all : n - 1 + 1 ≡ n = omega (arith, some) in all ∙ reached)
-
--- and the one at that place is the last of them
+-- of those up to a place, the one at that place is the last of them
 pub last_left : (kept left : List Past) (n : ℕ) (v : Past) → 1 ≤ n → n ≤ length kept → left ≡ take (n - 1 + 1) kept → ((d : Past) → get_or kept (n - 1) d ≡ v) → IsLast v left
 last_left kept left n v some few is at =
     let size : length left ≡ n = ap length is ∙ length-take-le (n - 1 + 1) kept (omega (arith, some, few)) ∙ (let all : n - 1 + 1 ≡ n = omega (arith, some) in all) in (

@@ -15,7 +15,7 @@ use Rattle.kernel_tree.specs.Plain.{Program}
 use Rattle.kernel_tree.specs.Items.{size_of}
 use Rattle.loop_form.specs.Lanes.{lane_width_of}
 use Rattle.dependence.specs.declared.used.Used.{Used}
-use Rattle.dependence.specs.Apart.{AreDisjoint, AreBased, PairApart, IsApartFrom, AreApart, Spread, ApartBy, Apart, is_stored, used_of, bound_place, base_in, begin_in, end_in}
+use Rattle.dependence.specs.Apart.{AreDisjoint, AreBased, PairApart, IsApartFrom, AreApart, ApartInRange, ApartBy, Apart, is_stored, used_of, bound_place, base_in, begin_in, end_in}
 use Rattle.dependence.specs.Bound.{is_disjoint, is_based, is_pair_apart, are_apart, is_apart_by, is_apart, runs_in_chunks, at_once, steps_for, bound, slow_bound, free_bound}
 
 decides_le : (a b : ℕ) → Decides (nat_le a b) (a ≤ b)
@@ -69,8 +69,8 @@ decides_stores false = ((λ e. refl), (λ h. refl))
 
 decides_by : (args : List ℕ) (n : ℕ) (us : List Used) → Decides (is_apart_by args n us) (ApartBy args n us)
 decides_by args n us =
-    let spread : Decides (nat_lt n (2 ^ 40) && (list_all (is_based args) us && are_apart args n us)) ((n < 2 ^ 40) × (AreBased args us × AreApart args n us)) = Decides-and _ _ (Decides-ltb n (2 ^ 40)) (Decides-and _ _ (decides_based args us) (decides_apart args n us)) in
-    let flat : Decides (nat_lt n (2 ^ 40) && (list_all (is_based args) us && are_apart args n us)) (Spread args n us) = Decides-like _ (λ h. (h.0, h.1.0, h.1.1)) (λ h. (h.0, (h.1, h.2))) spread in
+    let nested : Decides (nat_lt n (2 ^ 40) && (list_all (is_based args) us && are_apart args n us)) ((n < 2 ^ 40) × (AreBased args us × AreApart args n us)) = Decides-and _ _ (Decides-ltb n (2 ^ 40)) (Decides-and _ _ (decides_based args us) (decides_apart args n us)) in
+    let flat : Decides (nat_lt n (2 ^ 40) && (list_all (is_based args) us && are_apart args n us)) (ApartInRange args n us) = Decides-like _ (λ h. (h.0, h.1.0, h.1.1)) (λ h. (h.0, (h.1, h.2))) nested in
     Decides-or _ _ (decides_stores (list_any is_stored us)) (Decides-or _ _ (decides_le (length us) 1) flat)
 
 pub tested : (k : Program) (args : List ℕ) → Decides (is_apart k args) (Apart k args)
@@ -89,14 +89,14 @@ some_at_once k args vl h = elim (runs_in_chunks k args) as (λ c. 1 ≤ (if c th
 up_within : (n d : ℕ) → 1 ≤ d → div_ceil n d ≤ n
 up_within n d h = omega (arith, mul-le-mul_right (n / d) h)
 
-more_turns : (k : Program) (c d : ℕ) → c ≤ d → steps_for k c ≤ steps_for k d
-more_turns k c d h = omega (arith, mul-le-mul_left (32 + 8 * size_of k) h)
+more_rounds : (k : Program) (c d : ℕ) → c ≤ d → steps_for k c ≤ steps_for k d
+more_rounds k c d h = omega (arith, mul-le-mul_left (32 + 8 * size_of k) h)
 
 pub slow : (k : Program) (args : List ℕ) (vl m : ℕ) → IsLength vl → bound k args vl m ≤ slow_bound k m
-slow k args vl m h = more_turns k (div_ceil m (at_once k args vl) + 2) (m + 2) (omega (arith, up_within m (at_once k args vl) (some_at_once k args vl h.1)))
+slow k args vl m h = more_rounds k (div_ceil m (at_once k args vl) + 2) (m + 2) (omega (arith, up_within m (at_once k args vl) (some_at_once k args vl h.1)))
 
 pub free : (k : Program) (args : List ℕ) (vl m q : ℕ) → bound k args vl m ≤ free_bound k args vl m q
-free k args vl m q = more_turns k (div_ceil m (at_once k args vl) + 2) (div_ceil m (at_once k args vl) + 2 + 4 * q) (omega arith)
+free k args vl m q = more_rounds k (div_ceil m (at_once k args vl) + 2) (div_ceil m (at_once k args vl) + 2 + 4 * q) (omega arith)
 
 pub none : (k : Program) (args : List ℕ) (vl m : ℕ) → free_bound k args vl m 0 ≡ bound k args vl m
 none k args vl m = ap (steps_for k) (let e : div_ceil m (at_once k args vl) + 2 + 4 * 0 ≡ div_ceil m (at_once k args vl) + 2 = omega arith in e)

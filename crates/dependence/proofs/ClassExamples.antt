@@ -19,7 +19,7 @@ farther = record {
   name = f;
   params = record { name = a; shape = shape.Array ty.U8 } ∷ record { name = n; shape = shape.Scalar ty.U64 } ∷ [];
   vars = [];
-  turns = Some (record { index = i; bound = n; body = (Then (Put a (Operation binary.Add (Variable i) (Literal (pos 256))) (Element a (Variable i))) Done) });
+  for_loop = Some (record { index = i; bound = n; body = (Then (Put a (Operation binary.Add (Variable i) (Literal (pos 256))) (Element a (Variable i))) Done) });
   answer = None;
 }
 
@@ -29,7 +29,7 @@ mixed = record {
   name = f;
   params = record { name = a; shape = shape.Array ty.U8 } ∷ record { name = n; shape = shape.Scalar ty.U64 } ∷ [];
   vars = record { name = s; type = ty.U8; init = (Literal (pos 0)) } ∷ [];
-  turns = Some (record { index = i; bound = n; body = (Then (Update s update.Add (Element a (Variable i))) (Then (Update s update.Xor (Literal (pos 1))) Done)) });
+  for_loop = Some (record { index = i; bound = n; body = (Then (Update s update.Add (Element a (Variable i))) (Then (Update s update.Xor (Literal (pos 1))) Done)) });
   answer = Some (record { type = ty.U8; value = (Variable s) });
 }
 
@@ -39,7 +39,7 @@ both = record {
   name = f;
   params = record { name = a; shape = shape.Array ty.U8 } ∷ record { name = n; shape = shape.Scalar ty.U64 } ∷ [];
   vars = record { name = s; type = ty.U8; init = (Literal (pos 0)) } ∷ [];
-  turns = Some (record { index = i; bound = n; body = (Then (Update s update.Add (Element a (Variable i))) (Then (Update s update.Xor (Variable s)) Done)) });
+  for_loop = Some (record { index = i; bound = n; body = (Then (Update s update.Add (Element a (Variable i))) (Then (Update s update.Xor (Variable s)) Done)) });
   answer = Some (record { type = ty.U8; value = (Variable s) });
 }
 
@@ -49,7 +49,7 @@ counting = record {
   name = f;
   params = record { name = a; shape = shape.Array ty.U8 } ∷ record { name = n; shape = shape.Scalar ty.U64 } ∷ [];
   vars = record { name = c; type = ty.U64; init = (Literal (pos 0)) } ∷ [];
-  turns = Some (record { index = i; bound = n; body = (Then (Choose (Comparison compare.Ne (Element a (Variable i)) (Literal (pos 0))) (Then (Update c update.Add (Literal (pos 1))) Done) Nothing) (Then (Leave (Comparison compare.Eq (Element a (Variable i)) (Literal (pos 9)))) Done)) });
+  for_loop = Some (record { index = i; bound = n; body = (Then (Choose (Comparison compare.Ne (Element a (Variable i)) (Literal (pos 0))) (Then (Update c update.Add (Literal (pos 1))) Done) Nothing) (Then (Leave (Comparison compare.Eq (Element a (Variable i)) (Literal (pos 9)))) Done)) });
   answer = Some (record { type = ty.U64; value = (Variable c) });
 }
 
@@ -59,7 +59,7 @@ scattered = record {
   name = f;
   params = record { name = t; shape = shape.Array ty.U8 } ∷ record { name = y; shape = shape.Array ty.U8 } ∷ record { name = n; shape = shape.Scalar ty.U64 } ∷ [];
   vars = [];
-  turns = Some (record { index = i; bound = n; body = (Then (Put y (Operation binary.Add (Variable i) (Literal (pos 1))) (Operation binary.Add (Element y (Variable i)) (Element t (Operation binary.Mul (Variable i) (Literal (pos 2)))))) Done) });
+  for_loop = Some (record { index = i; bound = n; body = (Then (Put y (Operation binary.Add (Variable i) (Literal (pos 1))) (Operation binary.Add (Element y (Variable i)) (Element t (Operation binary.Mul (Variable i) (Literal (pos 2)))))) Done) });
   answer = None;
 }
 
@@ -69,7 +69,7 @@ following = record {
   name = f;
   params = record { name = a; shape = shape.Array ty.U8 } ∷ record { name = y; shape = shape.Array ty.U8 } ∷ record { name = n; shape = shape.Scalar ty.U64 } ∷ [];
   vars = [];
-  turns = Some (record { index = i; bound = n; body = (Then (Put a (Variable i) (Literal (pos 1))) (Then (Put y (Variable i) (Element a (Operation binary.Add (Variable i) (Literal (pos 1))))) Done)) });
+  for_loop = Some (record { index = i; bound = n; body = (Then (Put a (Variable i) (Literal (pos 1))) (Then (Put y (Variable i) (Element a (Operation binary.Add (Variable i) (Literal (pos 1))))) Done)) });
   answer = None;
 }
 
@@ -79,7 +79,7 @@ ahead = record {
   name = f;
   params = record { name = a; shape = shape.Array ty.U8 } ∷ record { name = y; shape = shape.Array ty.U8 } ∷ record { name = n; shape = shape.Scalar ty.U64 } ∷ [];
   vars = [];
-  turns = Some (record { index = i; bound = n; body = (Then (Put a (Operation binary.Add (Variable i) (Literal (pos 1))) (Literal (pos 1))) (Then (Put y (Variable i) (Element a (Variable i))) Done)) });
+  for_loop = Some (record { index = i; bound = n; body = (Then (Put a (Operation binary.Add (Variable i) (Literal (pos 1))) (Literal (pos 1))) (Then (Put y (Variable i) (Element a (Variable i))) Done)) });
   answer = None;
 }
 

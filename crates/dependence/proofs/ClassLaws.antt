@@ -42,7 +42,7 @@ pub record ClassFacts (k : Program) : Type 0 where
 
 pub class_facts : (k : Program) → class_of k ≡ Vector → ClassFacts k
 class_facts k e =
-    let all : reason k (loop_entries k) ≡ None = vector_by (reason k (loop_entries k)) (vector_loop (is_none k.turns) (class_by (reason k (loop_entries k))) e) in
+    let all : reason k (loop_entries k) ≡ None = vector_by (reason k (loop_entries k)) (vector_loop (is_none k.for_loop) (class_by (reason k (loop_entries k))) e) in
     let a = no_reason (accumulator_read (loop_entries k) k.vars) why.AccumulatorRead _ all in
     let b = no_reason (mixed_update (loop_entries k)) why.MixedUpdate _ a.1 in
     let c = no_reason (before_break (loop_entries k)) why.BeforeBreak _ b.1 in

@@ -35,7 +35,7 @@ fill = record {
   name = a;
   params = record { name = a; shape = shape.Array ty.U8 } ∷ record { name = v; shape = shape.Scalar ty.U8 } ∷ record { name = n; shape = shape.Scalar ty.U64 } ∷ [];
   vars = [];
-  turns = Some (record { index = i; bound = n; body = (Then (Put a (Variable i) (Variable v)) Done) });
+  for_loop = Some (record { index = i; bound = n; body = (Then (Put a (Variable i) (Variable v)) Done) });
   answer = None;
 }
 
@@ -45,7 +45,7 @@ inc = record {
   name = a;
   params = record { name = y; shape = shape.Array ty.U8 } ∷ record { name = x; shape = shape.Array ty.U8 } ∷ record { name = n; shape = shape.Scalar ty.U64 } ∷ [];
   vars = [];
-  turns = Some (record { index = i; bound = n; body = (Then (Put y (Variable i) (Operation binary.Add (Element x (Variable i)) (Literal (pos 1)))) Done) });
+  for_loop = Some (record { index = i; bound = n; body = (Then (Put y (Variable i) (Operation binary.Add (Element x (Variable i)) (Literal (pos 1)))) Done) });
   answer = None;
 }
 

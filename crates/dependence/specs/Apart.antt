@@ -75,7 +75,7 @@ bound_in ps l = place_of l.bound ps
 
 -- the place of the loop's bound; a loop of a kernel that meets the rules has one
 abbrev pub bound_place : Program → ℕ
-bound_place k = unwrap_or (option_and_then (bound_in k.params) k.turns) 0
+bound_place k = unwrap_or (option_and_then (bound_in k.params) k.for_loop) 0
 
 -- ---- the elements as intervals of plain integers
 
@@ -124,11 +124,11 @@ AreApart args n (u ∷ us) = IsApartFrom args n u us × AreApart args n us
 abbrev pub is_stored : Used → Bool
 is_stored u = u.stored
 
-abbrev pub Spread : List ℕ → ℕ → List Used → Type 0
-Spread args n us = (n < 2 ^ 40) × AreBased args us × AreApart args n us
+abbrev pub ApartInRange : List ℕ → ℕ → List Used → Type 0
+ApartInRange args n us = (n < 2 ^ 40) × AreBased args us × AreApart args n us
 
 abbrev pub ApartBy : List ℕ → ℕ → List Used → Type 0
-ApartBy args n us = (list_any is_stored us ≡ false) ⊎ ((length us ≤ 1) ⊎ Spread args n us)
+ApartBy args n us = (list_any is_stored us ≡ false) ⊎ ((length us ≤ 1) ⊎ ApartInRange args n us)
 
 -- The loop stores nothing, or it uses at most one array parameter, or the bound is below 2^40, the arrays lie from 2^16 to
 -- 2^48 - 1, and what it stores by one parameter lies apart from what it comes to by another one.

@@ -49,9 +49,9 @@ runs_in_chunks k args = is_vector (class_of k) && is_apart k args
 abbrev pub at_once : Program → List ℕ → ℕ → ℕ
 at_once k args vl = if runs_in_chunks k args then lanes vl (lane_width_of k) else 1
 
--- the steps of a run with so many turns: a turn is a chunk, or an iteration of the scalar code
+-- the steps of a run with so many rounds: a round is a chunk, or an iteration of the scalar code
 abbrev pub steps_for : Program → ℕ → ℕ
-steps_for k turns = 1000 + 100 * size_of k + (32 + 8 * size_of k) * turns
+steps_for k rounds = 1000 + 100 * size_of k + (32 + 8 * size_of k) * rounds
 
 -- a run that begins m iterations, with vectors of vl bits
 abbrev pub bound : Program → List ℕ → (vl m : ℕ) → ℕ

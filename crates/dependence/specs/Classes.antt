@@ -165,4 +165,4 @@ class_by (Some w) = Scalar w
 
 -- the class of a kernel: scalar with the first reason that applies, else vector
 abbrev pub class_of : Program → Class
-class_of k = if is_none k.turns then Scalar why.NoLoop else class_by (reason k (loop_entries k))
+class_of k = if is_none k.for_loop then Scalar why.NoLoop else class_by (reason k (loop_entries k))

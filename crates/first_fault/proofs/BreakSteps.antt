@@ -11,9 +11,10 @@ use Rattle.guest_types.proofs.AtWidths.{width_bytes-lanes, bit-predicate}
 use Rattle.guest_types.proofs.Widths.{some-bytes}
 use Rattle.machine_model.specs.Machine.{State, p_at, with_p, next}
 use Rattle.machine_model.proofs.StateSteps.{truths_put}
-use Rattle.label_fix.specs.DraftRun.{Entry, Laid}
+use Rattle.label_fix.specs.DraftRun.{DraftEntry, Laid}
 use Rattle.vector_order.specs.Orders.{Lane, Lanes, Halts, Keeps}
-use Rattle.loop_form.specs.LoopItems.{Quit, item}
+use Rattle.loop_form.specs.LoopItems.{item}
+use Rattle.loop_form.specs.LoopItems as ops
 use Rattle.chunk_emit.specs.Registers.{Layout, p_of}
 use Rattle.chunk_emit.specs.ChunkCode.{puts}
 use Rattle.chunk_emit.specs.Chunk.{Setting, count_of, Holds}
@@ -21,7 +22,7 @@ use Rattle.chunk_emit.specs.Fits.{Assigned, FitsTruth, MakesNothing}
 use Rattle.first_fault.specs.Region.{Way, Broke, way_of, item_way}
 use Rattle.first_fault.specs.RegionCode.{Mode, break_word}
 use Rattle.first_fault.specs.Prefix.{IsTop, Inside}
-use Rattle.first_fault.specs.RegionRuns.{by_break, Cuts, comes}
+use Rattle.first_fault.specs.RegionRuns.{by_break, RegionOutcome, comes}
 use Rattle.first_fault.proofs.PrefixBits.{inside, narrow, not_broken, is_broken, First, missing, found, first_is}
 use Rattle.first_fault.proofs.Stretches.{word_leads}
 use Rattle.first_fault.proofs.PrefixSteps.{long, low, byte_made, length_is, few_all, top_is, inside_on}
@@ -45,12 +46,12 @@ module _ {l : Layout} (fit : Assigned l) {f : Setting} {a : State} {p0 : ℕ} {t
       ∙ sym (and_left (bit old j) (x j) none))
       (cases_lt j (lanes f.vl B))
 
-  module _ (d : Laid) (rest : List Entry) {mode : Mode} {n p : ℕ} {ls : ℕ → Lane} {s : State} (h : Inside mode l f a n p ls s) (c : ℕ) (k : FitsTruth l p c) (none : MakesNothing l p) where
+  module _ (d : Laid) (rest : List DraftEntry) {mode : Mode} {n p : ℕ} {ls : ℕ → Lane} {s : State} (h : Inside mode l f a n p ls s) (c : ℕ) (k : FitsTruth l p c) (none : MakesNothing l p) where
     abbrev r : ℕ
     r = p_of l c
 
     abbrev way : ℕ → Lane → Way
-    way j b = item_way f.names (item p None (Quit c)) j a.memory b
+    way j b = item_way f.names (item p None (ops.Break c)) j a.memory b
 
     -- a bit that ends the prefix stands at no lane before lane m
     bit_false : (m : ℕ) → m ≤ n → ((e : ℕ) → e < m → (ls (f.i + e)).truth c ≡ false) → (b : ℕ) → b < 256 → b < width_bytes f.w * m → (bit (p_at s 0) b && bit (p_at s r) b) ≡ false
@@ -82,7 +83,7 @@ module _ {l : Layout} (fit : Assigned l) {f : Setting} {a : State} {p0 : ℕ} {t
         ap not (is_broken (p_at s 0) (p_at s r) (w * e + 1) (w * m) (omega (arith, up)) here) ∙ sym (le-ltb e m ge))
         (cases_lt e m)
 
-    cut : (m : ℕ) → m ≤ n → ((e : ℕ) → e < m → (ls (f.i + e)).truth c ≡ false) → (m < n → (ls (f.i + m)).truth c ≡ true) → Cuts mode l f d a n (p + 1) 1 ls (puts (break_word l c ∷ []) rest) s rest way
+    cut : (m : ℕ) → m ≤ n → ((e : ℕ) → e < m → (ls (f.i + e)).truth c ≡ false) → (m < n → (ls (f.i + m)).truth c ≡ true) → RegionOutcome mode l f d a n (p + 1) 1 ls (puts (break_word l c ∷ []) rest) s rest way
     cut m le pass out =
         let bits = brk_at false (p_at s 0) (p_at s r) in
         let new = predicate 1 bits (lanes s.vl B) in
@@ -106,9 +107,9 @@ module _ {l : Layout} (fit : Assigned l) {f : Setting} {a : State} {p0 : ℕ} {t
           truth = λ lt. absurd (omega (arith, lt, none.1));
         }))
 
-    pub break_steps : Cuts mode l f d a n (p + 1) 1 ls (puts (break_word l c ∷ []) rest) s rest way
+    pub break_steps : RegionOutcome mode l f d a n (p + 1) 1 ls (puts (break_word l c ∷ []) rest) s rest way
     break_steps = by_first (first_is (λ e. (ls (f.i + e)).truth c) n 0)
       where
-        by_first : {o : Option ℕ} → First (λ e. (ls (f.i + e)).truth c) n 0 o → Cuts mode l f d a n (p + 1) 1 ls (puts (break_word l c ∷ []) rest) s rest way
+        by_first : {o : Option ℕ} → First (λ e. (ls (f.i + e)).truth c) n 0 o → RegionOutcome mode l f d a n (p + 1) 1 ls (puts (break_word l c ∷ []) rest) s rest way
         by_first (missing none) = cut n (omega arith) (λ e em. none e (omega arith) (omega (arith, em))) (λ lt. absurd (omega (arith, lt)))
         by_first (found v lo hi yes' none) = cut v (omega (arith, hi)) (λ e ev. none e (omega arith) ev) (λ lt. yes')

@@ -1,12 +1,13 @@
 -- How many words the region has.
-use Rattle.std.proofs.Common.{ℕ, suc, ◌+◌, ◌≤◌, ℤ, pos, negsuc, zero, Bool, true, false, List, [], ◌∷◌, length, Option, Some, None, sym, subst, arith}
+use Rattle.std.proofs.Common.{ℕ, ◌+◌, ◌≤◌, ℤ, pos, zero, Bool, true, false, List, [], ◌∷◌, length, Option, Some, None, sym, subst, arith}
 use Rattle.std.specs.Prelude.{if◌then◌else◌}
 use Rattle.std.proofs.lemmas.List.{length-append}
 use Rattle.guest_types.specs.declared.length.Width.{Width}
 use Rattle.kernel_tree.specs.declared.ops.Ty.{Ty}
 use Rattle.machine_model.specs.InstructionTable.{Listed}
-use Rattle.loop_form.specs.declared.loop_item.Source.{Source}
-use Rattle.loop_form.specs.LoopItems.{Op, Load, Gather, Apply, Combine, Move, Cast, Copy, Pick, Store, Add, Test, Invert, Same, Any, Quit, Item}
+use Rattle.loop_form.specs.declared.loop_item.Operand.{Operand}
+use Rattle.loop_form.specs.LoopItems.{Op, Item}
+use Rattle.loop_form.specs.LoopItems as ops
 use Rattle.lane_emit.specs.ItemCode.{op_code, mask_register}
 use Rattle.close_bound.specs.CloseBound.{offset_steps, lane_steps, early_steps, items_steps}
 use Rattle.chunk_emit.specs.Registers.{Layout, base_of, is_used}
@@ -26,11 +27,10 @@ narrow_few l (Some q) rest n h = omega (arith, h)
 
 index_few : (c : ℤ) (rest : List Listed) (n : ℕ) → length rest ≤ n → length (with_index c rest) ≤ offset_steps c + n
 index_few (pos zero) rest n h = omega (arith, h)
-index_few (pos (suc k)) rest n h = omega (arith, h)
-index_few (negsuc k) rest n h = omega (arith, h)
+index_few other rest n h = omega (arith, h)
 
 -- the words of a load, with those of its mask
-load_few : (mode : Mode) (w : Width) (l : Layout) (q : ℕ) (mask : Option ℕ) (a : List ℕ) (from : Source) (t : Ty) (base index : ℕ) (c : ℤ) → narrowed mask + (offset_steps c + length (load_words mode w l q mask t base index)) ≤ early_steps mask (Load a from (Some t) c)
+load_few : (mode : Mode) (w : Width) (l : Layout) (q : ℕ) (mask : Option ℕ) (a : List ℕ) (from : Operand) (t : Ty) (base index : ℕ) (c : ℤ) → narrowed mask + (offset_steps c + length (load_words mode w l q mask t base index)) ≤ early_steps mask (ops.Load a from (Some t) c)
 load_few Early w l q None a from t base index c = omega arith
 load_few Early w l q (Some m) a from t base index c = omega arith
 load_few Single w l q None a from t base index c = omega arith
@@ -41,7 +41,7 @@ own_few : (mask : Option ℕ) (op : Op) (n : ℕ) → n ≤ lane_steps op → na
 own_few None op n h = omega (arith, h)
 own_few (Some m) op n h = omega (arith, h)
 
-some_few : (mask : Option ℕ) (c : ℕ) → 1 ≤ early_steps mask (Quit c)
+some_few : (mask : Option ℕ) (c : ℕ) → 1 ≤ early_steps mask (ops.Break c)
 some_few None c = omega arith
 some_few (Some m) c = omega arith
 
@@ -55,27 +55,27 @@ used_few w l q mask op true =
 used_few w l q mask op false = omega arith
 
 step_few : (mode : Mode) (w : Width) (l : Layout) (q : ℕ) (mask : Option ℕ) (op : Op) → length (step_words mode w l q mask op) ≤ early_steps mask op
-step_few mode w l q mask (Load a base (Some t) c) =
+step_few mode w l q mask (ops.Load a base (Some t) c) =
     let load = load_words mode w l q mask t (base_of base) (index_of c) in
     let few = load_few mode w l q mask a base t (base_of base) (index_of c) c in
     let index = index_few c load (length load) (omega arith) in
     let all = narrow_few l mask (with_index c load) (offset_steps c + length load) index in
     omega (arith, few, all)
-step_few mode w l q mask (Load a base None c) = used_few w l q mask (Load a base None c) (is_used l (Load a base None c) q)
-step_few mode w l q mask (Quit c) = some_few mask c
-step_few mode w l q mask (Gather a base t reach u x) = used_few w l q mask (Gather a base t reach u x) (is_used l (Gather a base t reach u x) q)
-step_few mode w l q mask (Apply op t x) = used_few w l q mask (Apply op t x) (is_used l (Apply op t x) q)
-step_few mode w l q mask (Combine op t x y) = used_few w l q mask (Combine op t x y) (is_used l (Combine op t x y) q)
-step_few mode w l q mask (Move left k t x) = used_few w l q mask (Move left k t x) (is_used l (Move left k t x) q)
-step_few mode w l q mask (Cast s t x) = used_few w l q mask (Cast s t x) (is_used l (Cast s t x) q)
-step_few mode w l q mask (Copy t x) = used_few w l q mask (Copy t x) (is_used l (Copy t x) q)
-step_few mode w l q mask (Pick t c x y) = used_few w l q mask (Pick t c x y) (is_used l (Pick t c x y) q)
-step_few mode w l q mask (Store a base t c v) = used_few w l q mask (Store a base t c v) (is_used l (Store a base t c v) q)
-step_few mode w l q mask (Add x op t v) = used_few w l q mask (Add x op t v) (is_used l (Add x op t v) q)
-step_few mode w l q mask (Test op t x y) = used_few w l q mask (Test op t x y) (is_used l (Test op t x y) q)
-step_few mode w l q mask (Invert c) = used_few w l q mask (Invert c) (is_used l (Invert c) q)
-step_few mode w l q mask (Same c) = used_few w l q mask (Same c) (is_used l (Same c) q)
-step_few mode w l q mask (Any c d) = used_few w l q mask (Any c d) (is_used l (Any c d) q)
+step_few mode w l q mask (ops.Load a base None c) = used_few w l q mask (ops.Load a base None c) (is_used l (ops.Load a base None c) q)
+step_few mode w l q mask (ops.Break c) = some_few mask c
+step_few mode w l q mask (ops.Gather a base t reach u x) = used_few w l q mask (ops.Gather a base t reach u x) (is_used l (ops.Gather a base t reach u x) q)
+step_few mode w l q mask (ops.Unary op t x) = used_few w l q mask (ops.Unary op t x) (is_used l (ops.Unary op t x) q)
+step_few mode w l q mask (ops.Binary op t x y) = used_few w l q mask (ops.Binary op t x y) (is_used l (ops.Binary op t x y) q)
+step_few mode w l q mask (ops.Shift left k t x) = used_few w l q mask (ops.Shift left k t x) (is_used l (ops.Shift left k t x) q)
+step_few mode w l q mask (ops.Cast s t x) = used_few w l q mask (ops.Cast s t x) (is_used l (ops.Cast s t x) q)
+step_few mode w l q mask (ops.Let t x) = used_few w l q mask (ops.Let t x) (is_used l (ops.Let t x) q)
+step_few mode w l q mask (ops.Select t c x y) = used_few w l q mask (ops.Select t c x y) (is_used l (ops.Select t c x y) q)
+step_few mode w l q mask (ops.Store a base t c v) = used_few w l q mask (ops.Store a base t c v) (is_used l (ops.Store a base t c v) q)
+step_few mode w l q mask (ops.Update x op t v) = used_few w l q mask (ops.Update x op t v) (is_used l (ops.Update x op t v) q)
+step_few mode w l q mask (ops.Compare op t x y) = used_few w l q mask (ops.Compare op t x y) (is_used l (ops.Compare op t x y) q)
+step_few mode w l q mask (ops.Not c) = used_few w l q mask (ops.Not c) (is_used l (ops.Not c) q)
+step_few mode w l q mask (ops.And c) = used_few w l q mask (ops.And c) (is_used l (ops.And c) q)
+step_few mode w l q mask (ops.Or c d) = used_few w l q mask (ops.Or c d) (is_used l (ops.Or c d) q)
 
 region_few : (mode : Mode) (w : Width) (l : Layout) (items : List Item) → length (region_words mode w l items) ≤ items_steps true items
 region_few mode w l [] = omega arith

@@ -20,13 +20,13 @@ use Rattle.machine_model.specs.States.{IsState}
 use Rattle.machine_model.specs.VectorEffects.{field_of, do_vector, with_early, after_early, is_early_cut}
 use Rattle.machine_model.proofs.StateSteps.{truths_put, went_keeps}
 use Rattle.machine_model.specs.declared.outcome.StopKind.TheVariants.{Read}
-use Rattle.label_fix.specs.DraftRun.{Entry, Laid}
+use Rattle.label_fix.specs.DraftRun.{DraftEntry, Laid}
 use Rattle.label_fix.specs.Stretches.{Stops}
 use Rattle.label_fix.proofs.StretchSteps.{put_stops, stop_more}
 use Rattle.vector_order.specs.Orders.{Lane, Lanes}
 use Rattle.vector_order.specs.Operands.{nth_value}
 use Rattle.lane_emit.specs.Right.{PRight, within}
-use Rattle.lane_emit.specs.Stretch.{Word}
+use Rattle.lane_emit.specs.Stretch.{VectorInstruction}
 use Rattle.lane_emit.specs.ItemCode.{mask_of, mask_register}
 use Rattle.chunk_emit.specs.Registers.{Layout, z_of, IsValueUsed}
 use Rattle.chunk_emit.specs.ChunkCode.{puts}
@@ -36,7 +36,7 @@ use Rattle.chunk_emit.proofs.ItemLanes.{first_none}
 use Rattle.first_fault.specs.Region.{Way}
 use Rattle.first_fault.specs.RegionCode.{Early, first_fault_word, non_fault_word, read_faults}
 use Rattle.first_fault.specs.Prefix.{Inside}
-use Rattle.first_fault.specs.RegionRuns.{Why, by_fault, by_stop, Cuts, stops, comes}
+use Rattle.first_fault.specs.RegionRuns.{Why, by_fault, by_stop, RegionOutcome, stops, comes}
 use Rattle.first_fault.proofs.PrefixBits.{scaled, narrow, First, missing, found, first_is}
 use Rattle.first_fault.proofs.Stretches.{Pair, pair}
 use Rattle.first_fault.proofs.PrefixSteps.{prefix, low, length_is, few_all}
@@ -75,7 +75,7 @@ before_is : (t : ℕ → Bool) (n k : ℕ) {o : Option ℕ} → First t n 0 o �
 before_is t n k (missing g) runs e en = refl
 before_is t n k (found v lo hi yes' g) runs e en = ⊎_elim (λ lt. lt-ltb e v lt) (λ ge. absurd (not_both (t v) yes' (runs v (omega (arith, ge, en))))) (cases_lt e v)
 
-module _ {l : Layout} (fit : Assigned l) {f : Setting} {a : State} {p0 : ℕ} {t0 : Lanes} (h0 : Holds l f p0 t0 a) (p : ℕ) (ls : ℕ → Lane) (mask : Option ℕ) (array : List ℕ) (x : ℕ) (ty : Ty) (c : ℤ) (wide : type_bits ty ≤ width_bits f.w) (makes : MakesValue l p ty) (used : IsValueUsed l p) (d : Laid) (rest : List Entry) {n : ℕ} {u : State} (h : Inside Early l f a n p ls u) (exact : PRight f.w (count_of f) (p_at u (mask_register l.registers mask)) (within n (mask_of (prefix f a n ls) mask))) (place : ℕ → ℕ) (place_is : (e : ℕ) → place e ≡ reads.place fit h0 p ls mask array x ty c wide (f.i + e)) where
+module _ {l : Layout} (fit : Assigned l) {f : Setting} {a : State} {p0 : ℕ} {t0 : Lanes} (h0 : Holds l f p0 t0 a) (p : ℕ) (ls : ℕ → Lane) (mask : Option ℕ) (array : List ℕ) (x : ℕ) (ty : Ty) (c : ℤ) (wide : type_bits ty ≤ width_bits f.w) (makes : MakesValue l p ty) (used : IsValueUsed l p) (d : Laid) (rest : List DraftEntry) {n : ℕ} {u : State} (h : Inside Early l f a n p ls u) (exact : PRight f.w (count_of f) (p_at u (mask_register l.registers mask)) (within n (mask_of (prefix f a n ls) mask))) (place : ℕ → ℕ) (place_is : (e : ℕ) → place e ≡ reads.place fit h0 p ls mask array x ty c wide (f.i + e)) where
   abbrev new : ℕ → Lane
   new = reads.new fit h0 p ls mask array x ty c wide
 
@@ -144,26 +144,26 @@ module _ {l : Layout} (fit : Assigned l) {f : Setting} {a : State} {p0 : ℕ} {t
         (λ e ek. ap (λ z. at f.w z e) written ∙ reads.kept_is fit h0 p ls mask array x ty c wide h exact place place_is limit e (omega (arith, ek, le)) (before e ek))
 
     -- the load and the word after it
-    abbrev TwoWords : Word → Option ℕ → Type 0
+    abbrev TwoWords : VectorInstruction → Option ℕ → Type 0
     TwoWords i o = Pair d (puts (Vector i ∷ read_faults ∷ []) rest) u rest (narrowed_state o) (is_cut faults o)
 
-    two_words : (i : Word) (o : Option ℕ) → do_vector i u ≡ Went (loaded_state o) → cuts_in (Vector i) u ≡ is_cut faults o → TwoWords i o
+    two_words : (i : VectorInstruction) (o : Option ℕ) → do_vector i u ≡ Went (loaded_state o) → cuts_in (Vector i) u ≡ is_cut faults o → TwoWords i o
     two_words i o does is = pair d (Vector i) read_faults rest u (loaded_state o) (narrowed_state o) (is_cut faults o) does is refl refl
 
-    counted : (i : Word) (o : Option ℕ) (w : TwoWords i o) → is_cut faults o ≡ true → 0 < w.leads.cut
+    counted : (i : VectorInstruction) (o : Option ℕ) (w : TwoWords i o) → is_cut faults o ≡ true → 0 < w.leads.cut
     counted i o w yes' = let one : w.leads.cut ≡ 1 = w.is ∙ ap (λ b. cond b 1 0) yes' in omega (arith, one)
 
-    abbrev Result : Word → Type 0
-    Result i = Cuts Early l f d a n (p + 1) 2 ls (puts (Vector i ∷ read_faults ∷ []) rest) u rest way
+    abbrev Result : VectorInstruction → Type 0
+    Result i = RegionOutcome Early l f d a n (p + 1) 2 ls (puts (Vector i ∷ read_faults ∷ []) rest) u rest way
 
-    cuts_none : (i : Word) → do_vector i u ≡ Went (loaded_state None) → cuts_in (Vector i) u ≡ false → IsState (loaded_state None) → ((e : ℕ) → e < n → (on e && faults e) ≡ false) → Result i
-    cuts_none i does is state none =
+    outcome_none : (i : VectorInstruction) → do_vector i u ≡ Went (loaded_state None) → cuts_in (Vector i) u ≡ false → IsState (loaded_state None) → ((e : ℕ) → e < n → (on e && faults e) ≡ false) → Result i
+    outcome_none i does is state none =
         comes n new (narrowed_state None) (omega arith) (λ e en. reads.passes fit h0 p ls mask array x ty c wide h exact place place_is e en (none e en)) (two_words i None does is).leads (λ lt. absurd (omega (arith, lt)))
         (after_read None n (omega arith) state (λ e en. h.ffr refl e en ∙ sym (lt-ltb e n en)))
 
     -- lane v is suppressed
-    cuts_some : (i : Word) (v : ℕ) → v < n → on v ≡ true → do_vector i u ≡ Went (loaded_state (Some v)) → cuts_in (Vector i) u ≡ not (faults v) → IsState (loaded_state (Some v)) → ((e : ℕ) → e < v → (on e && faults e) ≡ false) → Result i
-    cuts_some i v vn yes' does is state none =
+    outcome_some : (i : VectorInstruction) (v : ℕ) → v < n → on v ≡ true → do_vector i u ≡ Went (loaded_state (Some v)) → cuts_in (Vector i) u ≡ not (faults v) → IsState (loaded_state (Some v)) → ((e : ℕ) → e < v → (on e && faults e) ≡ false) → Result i
+    outcome_some i v vn yes' does is state none =
         comes v new (narrowed_state (Some v)) (omega (arith, vn)) (λ e ev. reads.passes fit h0 p ls mask array x ty c wide h exact place place_is e (omega (arith, ev, vn)) (none e ev)) (two_words i (Some v) does is).leads (λ lt. why (faults v) refl)
         (after_read (Some v) v (omega (arith, vn)) state (λ e en.
         bit-bits_of (kept_bit u.ffr (width_bytes form.element * v)) 32 (width_bytes f.w * e) (low fit h0 e (omega (arith, en, few_all fit h0 h)))
@@ -176,7 +176,7 @@ module _ {l : Layout} (fit : Assigned l) {f : Setting} {a : State} {p0 : ℕ} {t
 
 -- ---- under a mask: a load that never faults
 
-module _ {l : Layout} (fit : Assigned l) {f : Setting} {a : State} {p0 : ℕ} {t0 : Lanes} (h0 : Holds l f p0 t0 a) (p : ℕ) (ls : ℕ → Lane) (mask : Option ℕ) (array : List ℕ) (x : ℕ) (ty : Ty) (c : ℤ) (wide : type_bits ty ≤ width_bits f.w) (makes : MakesValue l p ty) (used : IsValueUsed l p) (d : Laid) (rest : List Entry) {n : ℕ} {u : State} (h : Inside Early l f a n p ls u) (exact : PRight f.w (count_of f) (p_at u (mask_register l.registers mask)) (within n (mask_of (prefix f a n ls) mask))) where
+module _ {l : Layout} (fit : Assigned l) {f : Setting} {a : State} {p0 : ℕ} {t0 : Lanes} (h0 : Holds l f p0 t0 a) (p : ℕ) (ls : ℕ → Lane) (mask : Option ℕ) (array : List ℕ) (x : ℕ) (ty : Ty) (c : ℤ) (wide : type_bits ty ≤ width_bits f.w) (makes : MakesValue l p ty) (used : IsValueUsed l p) (d : Laid) (rest : List DraftEntry) {n : ℕ} {u : State} (h : Inside Early l f a n p ls u) (exact : PRight f.w (count_of f) (p_at u (mask_register l.registers mask)) (within n (mask_of (prefix f a n ls) mask))) where
   abbrev m : ℕ
   m = mask_register l.registers mask
 
@@ -186,8 +186,8 @@ module _ {l : Layout} (fit : Assigned l) {f : Setting} {a : State} {p0 : ℕ} {t
   abbrev lane_on : ℕ → Bool
   lane_on = active shape.element (p_at u m)
 
-  abbrev Ends : Word → Type 0
-  Ends i = Cuts Early l f d a n (p + 1) 2 ls (puts (Vector i ∷ read_faults ∷ []) rest) u rest (reads.way fit h0 p ls mask array x ty c wide)
+  abbrev Ends : VectorInstruction → Type 0
+  Ends i = RegionOutcome Early l f d a n (p + 1) 2 ls (puts (Vector i ∷ read_faults ∷ []) rest) u rest (reads.way fit h0 p ls mask array x ty c wide)
 
   module _ (place_is : (e : ℕ) → lane_address (x_or_sp u 26) 0 (width_bytes shape.memory) e ≡ reads.place fit h0 p ls mask array x ty c wide (f.i + e)) where
     abbrev places : ℕ → ℕ
@@ -202,7 +202,7 @@ module _ {l : Layout} (fit : Assigned l) {f : Setting} {a : State} {p0 : ℕ} {t
     abbrev following : Option ℕ → State
     following o = loaded_state fit h0 p ls mask array x ty c wide makes used d rest h exact places place_is lane_on o
 
-    abbrev code : Word
+    abbrev code : VectorInstruction
     code = non_fault_word f.w ty (z_of l p) m
 
     does : do_vector code u ≡ Went (following (first_true off (lanes u.vl shape.element) 0))
@@ -214,12 +214,12 @@ module _ {l : Layout} (fit : Assigned l) {f : Setting} {a : State} {p0 : ℕ} {t
     by : (o : Option ℕ) → first_true off (lanes u.vl shape.element) 0 ≡ o → First off (lanes u.vl shape.element) 0 o → Ends code
     by o eq (missing none) =
         let went : do_vector code u ≡ Went (following None) = does ∙ ap (λ o. Went (following o)) eq in
-        cuts_none fit h0 p ls mask array x ty c wide makes used d rest h exact places place_is lane_on code went (ap (is_cut bad) eq) (is_following None went)
+        outcome_none fit h0 p ls mask array x ty c wide makes used d rest h exact places place_is lane_on code went (ap (is_cut bad) eq) (is_following None went)
         (λ e en. no_fault (lane_on e) (bad e) (stop_at u.stops (rank lane_on e)) (none e (omega arith) (omega (arith, reads.in_count fit h0 p ls mask array x ty c wide h exact places place_is e en))))
     by o eq (found v lo hi yes' none) =
         let went : do_vector code u ≡ Went (following (Some v)) = does ∙ ap (λ o. Went (following o)) eq in
         let on_v = left_true (lane_on v) (bad v || stop_at u.stops (rank lane_on v)) yes' in
-        cuts_some fit h0 p ls mask array x ty c wide makes used d rest h exact places place_is lane_on code v (reads.below fit h0 p ls mask array x ty c wide h exact places place_is v (omega (arith, hi)) on_v) on_v went (ap (is_cut bad) eq) (is_following (Some v) went)
+        outcome_some fit h0 p ls mask array x ty c wide makes used d rest h exact places place_is lane_on code v (reads.below fit h0 p ls mask array x ty c wide h exact places place_is v (omega (arith, hi)) on_v) on_v went (ap (is_cut bad) eq) (is_following (Some v) went)
         (λ e ev. no_fault (lane_on e) (bad e) (stop_at u.stops (rank lane_on e)) (none e (omega arith) ev))
 
     pub masked_reads : Ends code
@@ -227,7 +227,7 @@ module _ {l : Layout} (fit : Assigned l) {f : Setting} {a : State} {p0 : ℕ} {t
 
 -- ---- under P0: a load that faults at its first lane alone
 
-module _ {l : Layout} (fit : Assigned l) {f : Setting} {a : State} {p0 : ℕ} {t0 : Lanes} (h0 : Holds l f p0 t0 a) (p : ℕ) (ls : ℕ → Lane) (array : List ℕ) (x : ℕ) (ty : Ty) (c : ℤ) (wide : type_bits ty ≤ width_bits f.w) (makes : MakesValue l p ty) (used : IsValueUsed l p) (d : Laid) (rest : List Entry) {n : ℕ} {u : State} (h : Inside Early l f a n p ls u) (exact : PRight f.w (count_of f) (p_at u 0) (within n (mask_of (prefix f a n ls) None))) (based_low : x < 8) (based : slice_index f.x x ≡ word (nth_value f.names x)) (r : ℕ) (at_index : x_at u r ≡ word (pos f.i +ℤ c)) where
+module _ {l : Layout} (fit : Assigned l) {f : Setting} {a : State} {p0 : ℕ} {t0 : Lanes} (h0 : Holds l f p0 t0 a) (p : ℕ) (ls : ℕ → Lane) (array : List ℕ) (x : ℕ) (ty : Ty) (c : ℤ) (wide : type_bits ty ≤ width_bits f.w) (makes : MakesValue l p ty) (used : IsValueUsed l p) (d : Laid) (rest : List DraftEntry) {n : ℕ} {u : State} (h : Inside Early l f a n p ls u) (exact : PRight f.w (count_of f) (p_at u 0) (within n (mask_of (prefix f a n ls) None))) (based_low : x < 8) (based : slice_index f.x x ≡ word (nth_value f.names x)) (r : ℕ) (at_index : x_at u r ≡ word (pos f.i +ℤ c)) where
   abbrev first_form : LoadForm
   first_form = reads.form fit h0 p ls None array x ty c wide
 
@@ -252,7 +252,7 @@ module _ {l : Layout} (fit : Assigned l) {f : Setting} {a : State} {p0 : ℕ} {t
   abbrev gone : Option ℕ → ℕ → Bool
   gone o = suppressed_at (left o) wrong (stop_at u.stops)
 
-  abbrev first_code : Word
+  abbrev first_code : VectorInstruction
   first_code = first_fault_word f.w ty (z_of l p) x r
 
   abbrev reached : Option ℕ → Option ℕ → State
@@ -272,7 +272,7 @@ module _ {l : Layout} (fit : Assigned l) {f : Setting} {a : State} {p0 : ℕ} {t
   is_reached o1 o e = let small : 0 < 16 = omega arith in went_keeps ldff1 (field_of ldff1 first_code.numbers) u (reached o1 o) small h.is e
 
   abbrev TopEnds : Type 0
-  TopEnds = Cuts Early l f d a n (p + 1) 2 ls (puts (Vector first_code ∷ read_faults ∷ []) rest) u rest (reads.way fit h0 p ls None array x ty c wide)
+  TopEnds = RegionOutcome Early l f d a n (p + 1) 2 ls (puts (Vector first_code ∷ read_faults ∷ []) rest) u rest (reads.way fit h0 p ls None array x ty c wide)
 
   -- no lane has come so far
   none_on : n ≡ 0 → TopEnds
@@ -281,7 +281,7 @@ module _ {l : Layout} (fit : Assigned l) {f : Setting} {a : State} {p0 : ℕ} {t
       let e1 : first_true top_on many 0 ≡ None = first_none top_on many 0 off in
       let e2 : first_true (gone None) many 0 ≡ None = first_none (gone None) many 0 (λ e le lt. refl) in
       let went : do_vector first_code u ≡ Went (reached None None) = first_does ∙ ap (λ o1. after_early (comes_to o1) (z_of l p) u) e1 ∙ ap (λ o. Went (reached None o)) e2 in
-      cuts_none fit h0 p ls None array x ty c wide makes used d rest h exact spots spots_are (left None) first_code went (first_cuts ∙ ap (λ o1. is_early_cut (comes_to o1)) e1 ∙ ap (is_cut wrong) e2) (is_reached None None went)
+      outcome_none fit h0 p ls None array x ty c wide makes used d rest h exact spots spots_are (left None) first_code went (first_cuts ∙ ap (λ o1. is_early_cut (comes_to o1)) e1 ∙ ap (is_cut wrong) e2) (is_reached None None went)
       (λ e en. absurd (omega (arith, en, z)))
 
   module _ (some : 0 < n) where
@@ -314,7 +314,7 @@ module _ {l : Layout} (fit : Assigned l) {f : Setting} {a : State} {p0 : ℕ} {t
         first_cuts ∙ ap (λ o1. is_early_cut (comes_to o1)) first_on
         ∙ ap (λ o. is_early_cut (unless_fault (read_fault o) (early_load first_form u.memory u.stops top_on (left (Some 0)) spots many u.ffr))) good
         ∙ ap (is_cut wrong) eq in
-        cuts_none fit h0 p ls None array x ty c wide makes used d rest h exact spots spots_are (left (Some 0)) first_code went cut (is_reached (Some 0) None went)
+        outcome_none fit h0 p ls None array x ty c wide makes used d rest h exact spots spots_are (left (Some 0)) first_code went cut (is_reached (Some 0) None went)
         (λ e en. no_fault_at (ap is_some good) e (λ pos. none e (omega arith) (omega (arith, reads.in_count fit h0 p ls None array x ty c wide h exact spots spots_are e en))))
     by_first o good eq (found v lo hi yes' none) =
         let went : do_vector first_code u ≡ Went (reached (Some 0) (Some v)) =
@@ -326,7 +326,7 @@ module _ {l : Layout} (fit : Assigned l) {f : Setting} {a : State} {p0 : ℕ} {t
         ∙ ap (λ o. is_early_cut (unless_fault (read_fault o) (early_load first_form u.memory u.stops top_on (left (Some 0)) spots many u.ffr))) good
         ∙ ap (is_cut wrong) eq in
         let on_v = left_true (top_on v) (ltb 0 v) (left_true (top_on v && ltb 0 v) (wrong v || stop_at u.stops (rank (left (Some 0)) v)) yes') in
-        cuts_some fit h0 p ls None array x ty c wide makes used d rest h exact spots spots_are (left (Some 0)) first_code v (reads.below fit h0 p ls None array x ty c wide h exact spots spots_are v (omega (arith, hi)) on_v) on_v went cut (is_reached (Some 0) (Some v) went)
+        outcome_some fit h0 p ls None array x ty c wide makes used d rest h exact spots spots_are (left (Some 0)) first_code v (reads.below fit h0 p ls None array x ty c wide h exact spots spots_are v (omega (arith, hi)) on_v) on_v went cut (is_reached (Some 0) (Some v) went)
         (λ e ev. no_fault_at (ap is_some good) e (λ pos. none e (omega arith) ev))
 
     by_fault_at : (b : Bool) → wrong 0 ≡ b → TopEnds

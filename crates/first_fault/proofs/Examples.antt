@@ -14,9 +14,10 @@ use Rattle.a64_code.specs.Table as a64
 use Rattle.sve_code.specs.Table.{p_and, brkb, rdffr_z, setffr, cmpeq, ld1, ldff1, ldnf1}
 use Rattle.machine_model.specs.InstructionTable.{Scalar, Vector}
 use Rattle.vector_order.specs.Orders.{Lane}
-use Rattle.loop_form.specs.declared.loop_item.Source.{Source}
-use Rattle.loop_form.specs.declared.loop_item.Source.TheVariants.{Constant, Outer, LoopIndex, Made}
-use Rattle.loop_form.specs.LoopItems.{Item, item, Load, Store, Test, Quit, loop_items_of}
+use Rattle.loop_form.specs.declared.loop_item.Operand.{Operand}
+use Rattle.loop_form.specs.declared.loop_item.Operand.TheVariants.{Constant, Outer, LoopIndex, Made}
+use Rattle.loop_form.specs.LoopItems.{Item, item, loop_items_of}
+use Rattle.loop_form.specs.LoopItems as ops
 use Rattle.lane_emit.specs.Stretch.{word}
 use Rattle.chunk_emit.specs.Registers.{Layout}
 use Rattle.chunk_emit.specs.Chunk.{Setting}
@@ -24,29 +25,29 @@ use Rattle.chunk_emit.specs.Fits.{Assigned, MakesNothing, NoneBetween}
 use Rattle.first_fault.specs.Region.{On, Broke, Fell, region_way}
 use Rattle.first_fault.specs.RegionCode.{Early, Single, region_words, exits_words, single_words}
 use Rattle.first_fault.specs.Fits.{FitsRegion}
-use Rattle.first_fault.specs.Split.{region_of, rest_of}
+use Rattle.first_fault.specs.BreakRegion.{region_of, rest_of}
 use Rattle.loop_form.proofs.Kernels.{either, three}
 
-abbrev nought : Source
+abbrev nought : Operand
 nought = Constant (Some ty.U8) (pos 0)
 
 abbrev items : List Item
 items =
-    item 3 None (Load (97 ∷ []) (Outer 0) (Some ty.U8) (pos 0))
-    ∷ item 5 None (Test compare.Eq (Some ty.U8) (Made 3) nought)
-    ∷ item 6 None (Quit 5)
+    item 3 None (ops.Load (97 ∷ []) (Outer 0) (Some ty.U8) (pos 0))
+    ∷ item 5 None (ops.Compare compare.Eq (Some ty.U8) (Made 3) nought)
+    ∷ item 6 None (ops.Break 5)
     ∷ []
 
 -- Z0 holds 0, and the value read is in Z1
-abbrev register : Source → ℕ
+abbrev register : Operand → ℕ
 register (Made q) = 1
 register _ = 0
 
-abbrev is_held : Source → Bool
+abbrev is_held : Operand → Bool
 is_held (Constant t z) = true
 is_held _ = false
 
-abbrev type_of : Source → Ty
+abbrev type_of : Operand → Ty
 type_of x = ty.U8
 
 abbrev uses : List ℕ
@@ -78,12 +79,12 @@ single = refl
 
 -- b[i + 1] of u16, b in X1, where the condition in P2 holds:
 -- and p2.b, p0/z, p2.b, p2.b; add x26, x9, #1; add x26, x1, x26, lsl #1; ldnf1h {z1.h}, p2/z, [x26]; rdffr p0.b, p0/z
-masked : region_words Early H layout (item 7 (Some 5) (Load (98 ∷ []) (Outer 1) (Some ty.U16) (pos 1)) ∷ [])
+masked : region_words Early H layout (item 7 (Some 5) (ops.Load (98 ∷ []) (Outer 1) (Some ty.U16) (pos 1)) ∷ [])
     ≡ Vector (word p_and (2 ∷ 2 ∷ 0 ∷ 2 ∷ [])) ∷ Scalar (record { name = a64.add_imm; numbers = 26 ∷ 9 ∷ 1 ∷ 0 ∷ [] }) ∷ Scalar (record { name = a64.add; numbers = 26 ∷ 1 ∷ 1 ∷ 26 ∷ 0 ∷ [] }) ∷ Vector (word ldnf1 (1 ∷ 26 ∷ 2 ∷ 5 ∷ [])) ∷ Vector (word rdffr_z (0 ∷ 0 ∷ [])) ∷ []
 masked = refl
 
 -- and p2.b, p0/z, p2.b, p2.b; add x26, x9, #1; ld1h {z1.h}, p2/z, [x1, x26, lsl #1]
-masked_single : region_words Single H layout (item 7 (Some 5) (Load (98 ∷ []) (Outer 1) (Some ty.U16) (pos 1)) ∷ [])
+masked_single : region_words Single H layout (item 7 (Some 5) (ops.Load (98 ∷ []) (Outer 1) (Some ty.U16) (pos 1)) ∷ [])
     ≡ Vector (word p_and (2 ∷ 2 ∷ 0 ∷ 2 ∷ [])) ∷ Scalar (record { name = a64.add_imm; numbers = 26 ∷ 9 ∷ 1 ∷ 0 ∷ [] }) ∷ Vector (word ld1 (1 ∷ 1 ∷ 2 ∷ 26 ∷ 5 ∷ [])) ∷ []
 masked_single = refl
 
@@ -98,7 +99,7 @@ falls = refl
 
 -- `break if i == 20;`
 abbrev at_twenty : List Item
-at_twenty = item 4 None (Test compare.Eq (Some ty.U64) LoopIndex (Constant (Some ty.U64) (pos 20))) ∷ item 5 None (Quit 4) ∷ []
+at_twenty = item 4 None (ops.Compare compare.Eq (Some ty.U64) LoopIndex (Constant (Some ty.U64) (pos 20))) ∷ item 5 None (ops.Break 4) ∷ []
 
 breaks : region_way [] at_twenty 20 [] fresh ≡ Broke
 breaks = refl
@@ -115,7 +116,7 @@ goes_on = refl
 -- ---- the split
 
 abbrev stored : Item
-stored = item 9 None (Store (98 ∷ []) (Outer 1) (Some ty.U8) (pos 0) nought)
+stored = item 9 None (ops.Store (98 ∷ []) (Outer 1) (Some ty.U8) (pos 0) nought)
 
 split : region_of (items ++ stored ∷ []) ≡ items
 split = refl
@@ -141,7 +142,7 @@ one_truth (suc (suc (suc (suc zero)))) lt = absurd (omega (arith, lt))
 one_truth (suc (suc (suc (suc (suc zero))))) lt = refl
 one_truth (suc (suc (suc (suc (suc (suc q)))))) lt = absurd (omega (arith, lt))
 
-held_zero : (x : Source) → is_held x ≡ true → register x ≡ 0
+held_zero : (x : Operand) → is_held x ≡ true → register x ≡ 0
 held_zero (Constant t z) e = refl
 held_zero (Outer p) e = refl
 held_zero LoopIndex e = refl
@@ -189,15 +190,15 @@ fits = (omega arith, none_at 3, tt, ((omega arith, refl), omega arith, omega ari
 
 -- item q reads the array of parameter x, and item p compares what it read
 abbrev read_of : ℕ → ℕ → Item
-read_of q x = item q None (Load ((97 + x) ∷ []) (Outer x) (Some ty.U8) (pos 0))
+read_of q x = item q None (ops.Load ((97 + x) ∷ []) (Outer x) (Some ty.U8) (pos 0))
 
 abbrev is_zero : ℕ → ℕ → Item
-is_zero q p = item q None (Test compare.Eq (Some ty.U8) (Made p) nought)
+is_zero q p = item q None (ops.Compare compare.Eq (Some ty.U8) (Made p) nought)
 
-two_items : loop_items_of either ≡ read_of 4 0 ∷ is_zero 6 4 ∷ item 7 None (Quit 6) ∷ read_of 8 1 ∷ is_zero 10 8 ∷ item 11 None (Quit 10) ∷ []
+two_items : loop_items_of either ≡ read_of 4 0 ∷ is_zero 6 4 ∷ item 7 None (ops.Break 6) ∷ read_of 8 1 ∷ is_zero 10 8 ∷ item 11 None (ops.Break 10) ∷ []
 two_items = refl
 
-three_items : loop_items_of three ≡ read_of 5 0 ∷ is_zero 7 5 ∷ item 8 None (Quit 7) ∷ read_of 9 1 ∷ is_zero 11 9 ∷ item 12 None (Quit 11) ∷ read_of 14 2 ∷ is_zero 16 14 ∷ item 17 None (Quit 16) ∷ []
+three_items : loop_items_of three ≡ read_of 5 0 ∷ is_zero 7 5 ∷ item 8 None (ops.Break 7) ∷ read_of 9 1 ∷ is_zero 11 9 ∷ item 12 None (ops.Break 11) ∷ read_of 14 2 ∷ is_zero 16 14 ∷ item 17 None (ops.Break 16) ∷ []
 three_items = refl
 
 -- what a value of an item in a place of the listing is needed until

@@ -7,13 +7,13 @@ mod BreakSteps
 mod ReadLanes
 mod SingleReads
 mod EarlyReads
-mod CutsLists
+mod OutcomeLists
 pub mod RegionRuns
 pub mod RegionItems
 pub mod RestHolds
 pub mod Counts
-pub mod Splits
-pub mod TurnWays
+pub mod BreakRegions
+pub mod WayIterations
 pub mod RegionFits
 pub mod TopBreaks
 pub mod LiveTruths

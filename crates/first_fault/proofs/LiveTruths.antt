@@ -9,7 +9,7 @@ use Rattle.kernel_tree.specs.Typing.{Scope, after_action, in_loop, var_scope}
 use Rattle.kernel_tree.proofs.Scopes.{index_after, scope_index}
 use Rattle.reg_assign.specs.declared.interval.RegClass.TheVariants.{P}
 use Rattle.reg_assign.specs.Registers.{Assignment}
-use Rattle.loop_form.specs.Entries.{Content, IsLiteral, IsName, IsRead, IsLet, IsStore, IsUpdate, IsPlain, Entry, entry, kind_of, inner_entries, term_entries, action_entries, block_entries, otherwise_entries, turns_entries, loop_entries, entries_of}
+use Rattle.loop_form.specs.Entries.{Content, IsLiteral, IsName, IsRead, IsLet, IsStore, IsUpdate, IsPlain, Entry, entry, kind_of, inner_entries, term_entries, action_entries, block_entries, otherwise_entries, for_loop_entries, loop_entries, entries_of}
 use Rattle.loop_form.specs.Listing.{has_p, held, last_of}
 use Rattle.loop_form.specs.LoopItems.{Bound, Item, after_env, block_items, loop_env, loop_items}
 use Rattle.loop_form.specs.Numbers.{Numbered}
@@ -17,15 +17,15 @@ use Rattle.loop_form.proofs.Numbers.{term-listed, action-listed}
 use Rattle.chunk_emit.specs.KernelLayout.{last_in, item_last_use, layout_of_loop}
 use Rattle.chunk_emit.proofs.FitsEntries.{AllGive, give_left, give_right, loop_gives}
 use Rattle.chunk_emit.proofs.FitsIntervals.{of_p, first_nothing}
-use Rattle.chunk_emit.proofs.FitsSources.{truth_less}
+use Rattle.chunk_emit.proofs.FitsOperands.{truth_less}
 use Rattle.chunk_emit.specs.Chunk.{Setting}
 use Rattle.first_fault.specs.Fits.{FitsRegion}
-use Rattle.first_fault.specs.Split.{region_of}
+use Rattle.first_fault.specs.BreakRegion.{region_of}
 use Rattle.first_fault.proofs.RegionFits.{last_nothing}
 use Rattle.loop_form.specs.declared.item.ItemKind.TheVariants as kind
 use Rattle.first_fault.specs.KernelFits.{following_region, is_inner_break}
 use Rattle.first_fault.specs.Rest.{NoTruthLive}
-use Rattle.first_fault.proofs.TopBreaks.{breaks_of, following_break, region_end, outer_of, TopAction, goes, ends, top_action, last_quit, IsLast}
+use Rattle.first_fault.proofs.TopBreaks.{breaks_of, following_break, region_end, outer_of, TopAction, goes, ends, top_action, last_break, IsLast}
 
 -- ---- the users of items within a statement stand within it
 
@@ -131,7 +131,7 @@ module _ (k : Program) where
   Closed q = (r : ℕ) → r + 1 < q → item_last_use k P r < q
 
   -- after the last break of a condition: what the listing's `||` uses
-  leave_closed : (c : Term) (b : ℕ) → AllGive k (action_entries k b (Leave c)) → Ended b → Ended (b + action_size i (Leave c)) → Closed (last_quit i b c + 1)
+  leave_closed : (c : Term) (b : ℕ) → AllGive k (action_entries k b (Leave c)) → Ended b → Ended (b + action_size i (Leave c)) → Closed (last_break i b c + 1)
   leave_closed (Either x y) b g before there r lt =
       let mark = b + term_size i x in
       let q = mark + 1 + term_size i y in
@@ -190,19 +190,19 @@ module _ (k : Program) where
   start_closed r lt = start_ended r (omega (arith, lt))
 
   -- up to the last break, but for an item of its number
-  pub closed_region : (l : PlainLoop) → k.turns ≡ Some l → list_any is_inner_break (loop_items k l) ≡ false → (r : ℕ) → r + 1 < following_region k l → item_last_use k P r < following_region k l
-  closed_region l turns outer =
+  pub closed_region : (l : PlainLoop) → k.for_loop ≡ Some l → list_any is_inner_break (loop_items k l) ≡ false → (r : ℕ) → r + 1 < following_region k l → item_last_use k P r < following_region k l
+  closed_region l for_loop outer =
       let b = loop_start k + 1 in
-      let gives : AllGive k (turns_entries k (loop_start k) (Some l)) = subst (λ o. AllGive k (turns_entries k (loop_start k) o)) turns (loop_gives k) in
+      let gives : AllGive k (for_loop_entries k (loop_start k) (Some l)) = subst (λ o. AllGive k (for_loop_entries k (loop_start k) o)) for_loop (loop_gives k) in
       let done = block_ended l.body (in_loop (var_scope k) l) b b (loop_env (var_scope k) l.index) (scope_index k) gives.1 start_closed start_ended (sym (outer_of (loop_items k l)) ∙ outer) in
       subst Closed (sym (region_end b (loop_items k l))) done
 
   -- which makes nothing, as it is a break
-  pub no_truth_live : (l : PlainLoop) (zs ps : Assignment) (f : Setting) → k.turns ≡ Some l → list_any is_inner_break (loop_items k l) ≡ false → FitsRegion (layout_of_loop k zs ps) f (loop_start k + 1) (region_of (loop_items k l)) → NoTruthLive (layout_of_loop k zs ps) (following_region k l)
-  no_truth_live l zs ps f turns outer fits r lt =
+  pub no_truth_live : (l : PlainLoop) (zs ps : Assignment) (f : Setting) → k.for_loop ≡ Some l → list_any is_inner_break (loop_items k l) ≡ false → FitsRegion (layout_of_loop k zs ps) f (loop_start k + 1) (region_of (loop_items k l)) → NoTruthLive (layout_of_loop k zs ps) (following_region k l)
+  no_truth_live l zs ps f for_loop outer fits r lt =
       let less = truth_less k r in
       ⊎_elim
-      (λ (early : r + 1 < following_region k l). let h = closed_region l turns outer r early in omega (arith, h, less))
+      (λ (early : r + 1 < following_region k l). let h = closed_region l for_loop outer r early in omega (arith, h, less))
       (λ (last : following_region k l ≤ r + 1).
       let number : r + 1 ≡ following_region k l = omega (arith, lt, last) in
       let nothing = last_nothing (layout_of_loop k zs ps) f (loop_start k + 1) (loop_items k l) fits (λ unbroken s e. let none = start_ended s (omega (arith, e)) in let small = truth_less k s in omega (arith, none, small, e)) r number in

@@ -1,5 +1,5 @@
 -- The code of an item that is no read has no load.
-use Rattle.std.proofs.Common.{◌≡◌, ℕ, ◌-◌, ◌*◌, Bool, true, false, List, [], ◌∷◌, Some, None, refl}
+use Rattle.std.proofs.Common.{◌≡◌, ℕ, ◌-◌, ◌*◌, Bool, true, false, List, [], ◌∷◌, Some, refl}
 use Rattle.std.specs.Prelude.{if◌then◌else◌, nat_eq, nat_le}
 use Rattle.guest_types.specs.declared.length.Width.{Width}
 use Rattle.guest_types.specs.Length.{width_bits}
@@ -17,14 +17,15 @@ use Rattle.sve_code.specs.Table.{Name, lsl_imm, lsr_imm, asr_imm, m_smax, m_umax
 use Rattle.machine_model.specs.Machine.{State}
 use Rattle.machine_model.specs.OneStep.{cuts_in}
 use Rattle.machine_model.specs.InstructionTable.{Vector}
-use Rattle.loop_form.specs.LoopItems.{Op, Load, Gather, Apply, Combine, Move, Cast, Copy, Pick, Store, Add, Test, Invert, Same, Any, Quit}
+use Rattle.loop_form.specs.LoopItems.{Op}
+use Rattle.loop_form.specs.LoopItems as ops
 use Rattle.lane_emit.specs.Right.{fits}
-use Rattle.lane_emit.specs.Stretch.{Word, word}
+use Rattle.lane_emit.specs.Stretch.{VectorInstruction, word}
 use Rattle.lane_emit.specs.ItemCode.{Registers, op_code}
 use Rattle.lane_emit.specs.LaneCode.{lane_count, unary_leaves, binary_leaves, size_of, z_copy, extension, z_extend, z_settle, unary_code, merged, least_name, greatest_name, binary_code, shift_by, shift_word, cast_code, test_code}
 use Rattle.first_fault.proofs.Stretches.{Plain, plain_none, plain_more}
 
-either_plain : (b : Bool) {c e : List Word} → Plain c → Plain e → Plain (if b then c else e)
+either_plain : (b : Bool) {c e : List VectorInstruction} → Plain c → Plain e → Plain (if b then c else e)
 either_plain true h k = h
 either_plain false h k = k
 
@@ -32,7 +33,7 @@ one_of : (b : Bool) (m n : Name) (ns : List ℕ) (s : State) → cuts_in (Vector
 one_of true m n ns s h k = h
 one_of false m n ns s h k = k
 
-copy_plain : (d a : ℕ) {rest : List Word} → Plain rest → Plain (z_copy d a rest)
+copy_plain : (d a : ℕ) {rest : List VectorInstruction} → Plain rest → Plain (z_copy d a rest)
 copy_plain d a h = either_plain (nat_eq d a) h (plain_more (λ s. refl) h)
 
 extension_plain : (t : Ty) (w : Width) (d a : ℕ) → Plain (extension t w d a)
@@ -57,7 +58,7 @@ unary_plain w unary.Neg t d a = plain_more (λ s. refl) (settle_plain (unary_lea
 unary_plain w unary.Flip t d a = plain_more (λ s. refl) (settle_plain (unary_leaves unary.Flip t) w t d)
 unary_plain w unary.Abs t d a = either_plain (is_signed t) (plain_more (λ s. refl) (settle_plain (unary_leaves unary.Abs t) w t d)) (copy_plain d a plain_none)
 
-merged_plain : (w : Width) (name : Name) (d a b : ℕ) {rest : List Word} → ((ns : List ℕ) (s : State) → cuts_in (Vector (word name ns)) s ≡ false) → Plain rest → Plain (merged w name d a b rest)
+merged_plain : (w : Width) (name : Name) (d a b : ℕ) {rest : List VectorInstruction} → ((ns : List ℕ) (s : State) → cuts_in (Vector (word name ns)) s ≡ false) → Plain rest → Plain (merged w name d a b rest)
 merged_plain w name d a b h rest = either_plain (nat_eq d b) (plain_more (h (d ∷ a ∷ 1 ∷ size_of w ∷ [])) rest) (copy_plain d a (plain_more (h (d ∷ b ∷ 1 ∷ size_of w ∷ [])) rest))
 
 binary_plain : (w : Width) (op : BinaryOp) (t : Ty) (d a b : ℕ) → Plain (binary_code w op t d a b)
@@ -86,23 +87,14 @@ test_plain w compare.Gt t d m a b = plain_more (λ s. one_of (is_signed t) cmpgt
 test_plain w compare.Ge t d m a b = plain_more (λ s. one_of (is_signed t) cmpge cmphs (d ∷ a ∷ m ∷ b ∷ size_of w ∷ []) s refl refl) plain_none
 
 pub op_plain : (w : Width) (r : Registers) (q m : ℕ) (op : Op) → Plain (op_code w r q m op)
-op_plain w r q m (Apply op (Some t) x) = unary_plain w op t (r.z q) (r.source x)
-op_plain w r q m (Combine op (Some t) x y) = binary_plain w op t (r.z q) (r.source x) (r.source y)
-op_plain w r q m (Move left k (Some t) x) = shift_plain w left (lane_count w (shift_count k)) t (r.z q) (r.source x)
-op_plain w r q m (Cast (Some t) to x) = cast_plain w t to (r.z q) (r.source x)
-op_plain w r q m (Copy t x) = copy_plain (r.z q) (r.source x) plain_none
-op_plain w r q m (Pick t c x y) = plain_more (λ s. refl) plain_none
-op_plain w r q m (Test op (Some t) x y) = test_plain w op t (r.p q) m (r.source x) (r.source y)
-op_plain w r q m (Invert c) = plain_more (λ s. refl) plain_none
-op_plain w r q m (Same c) = plain_more (λ s. refl) plain_none
-op_plain w r q m (Any c d) = plain_more (λ s. refl) plain_none
-op_plain w r q m (Apply op None x) = plain_none
-op_plain w r q m (Combine op None x y) = plain_none
-op_plain w r q m (Move left k None x) = plain_none
-op_plain w r q m (Cast None to x) = plain_none
-op_plain w r q m (Test op None x y) = plain_none
-op_plain w r q m (Load a base t c) = plain_none
-op_plain w r q m (Gather a base t c u x) = plain_none
-op_plain w r q m (Store a base t c v) = plain_none
-op_plain w r q m (Add x op t v) = plain_none
-op_plain w r q m (Quit c) = plain_none
+op_plain w r q m (ops.Unary op (Some t) x) = unary_plain w op t (r.z q) (r.source x)
+op_plain w r q m (ops.Binary op (Some t) x y) = binary_plain w op t (r.z q) (r.source x) (r.source y)
+op_plain w r q m (ops.Shift left k (Some t) x) = shift_plain w left (lane_count w (shift_count k)) t (r.z q) (r.source x)
+op_plain w r q m (ops.Cast (Some t) to x) = cast_plain w t to (r.z q) (r.source x)
+op_plain w r q m (ops.Let t x) = copy_plain (r.z q) (r.source x) plain_none
+op_plain w r q m (ops.Select t c x y) = plain_more (λ s. refl) plain_none
+op_plain w r q m (ops.Compare op (Some t) x y) = test_plain w op t (r.p q) m (r.source x) (r.source y)
+op_plain w r q m (ops.Not c) = plain_more (λ s. refl) plain_none
+op_plain w r q m (ops.And c) = plain_more (λ s. refl) plain_none
+op_plain w r q m (ops.Or c d) = plain_more (λ s. refl) plain_none
+op_plain w r q m other = plain_none

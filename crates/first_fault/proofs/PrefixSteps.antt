@@ -14,8 +14,8 @@ use Rattle.kernel_meaning.specs.Operators.{wrapped}
 use Rattle.machine_model.specs.Machine.{State, z_at, p_at}
 use Rattle.machine_model.specs.States.{IsState}
 use Rattle.vector_order.specs.Orders.{Lane, Lanes}
-use Rattle.loop_form.specs.declared.loop_item.Source.{Source}
-use Rattle.loop_form.specs.declared.loop_item.Source.TheVariants.{Constant, Outer, LoopIndex, Made}
+use Rattle.loop_form.specs.declared.loop_item.Operand.{Operand}
+use Rattle.loop_form.specs.declared.loop_item.Operand.TheVariants.{Constant, Outer, LoopIndex, Made}
 use Rattle.lane_emit.proofs.Ranges.{wrap-is_of}
 use Rattle.lane_emit.specs.Right.{IsOf, ZRight, PRight}
 use Rattle.lane_emit.specs.Stretch.{Ready}
@@ -42,7 +42,7 @@ abbrev pub prefix : Setting → State → (n : ℕ) → (ℕ → Lane) → Chunk
 prefix f a n ls = chunk_of (with_count f n) (lanes_of a.memory ls)
 
 -- What the words of item p do to the registers, where k of the lanes come through.
-pub record Turns (mode : Mode) (l : Layout) (f : Setting) (a : State) (p : ℕ) (ls : ℕ → Lane) (s : State) (k : ℕ) (new : ℕ → Lane) (v : State) : Type 0 where
+pub record PrefixStep (mode : Mode) (l : Layout) (f : Setting) (a : State) (p : ℕ) (ls : ℕ → Lane) (s : State) (k : ℕ) (new : ℕ → Lane) (v : State) : Type 0 where
   pub is : IsState v
   pub same : Same l s v
   pub top : IsTop f.w k (p_at v 0)
@@ -79,7 +79,7 @@ module _ {l : Layout} (fit : Assigned l) {f : Setting} {a : State} {p0 : ℕ} {t
     pub top_is : (e : ℕ) → e < count_of f → active f.w (p_at s 0) e ≡ ltb e n
     top_is e lt = top_active f.w n (p_at s 0) h.top e (low e lt)
 
-    pub inside_on : {k : ℕ} {new : ℕ → Lane} {v : State} → k ≤ n → Turns mode l f a p ls s k new v → Inside mode l f a k (p + 1) new v
+    pub inside_on : {k : ℕ} {new : ℕ → Lane} {v : State} → k ≤ n → PrefixStep mode l f a p ls s k new v → Inside mode l f a k (p + 1) new v
     inside_on {k = k} {new = new} {v = v} le m = record {
       is = m.is;
       few = omega (arith, le, h.few);
@@ -130,13 +130,13 @@ module _ {l : Layout} (fit : Assigned l) {f : Setting} {a : State} {p0 : ℕ} {t
       all = λ e lt. ap (λ b. active f.w b e) h.same.all ∙ h0.all e (omega (arith, lt, few_all));
     }
 
-    held_operand : (x : Source) → l.held x ≡ true → ZRight f.w n (z_at s (l.registers.source x)) (operand (prefix f a n ls) x)
+    held_operand : (x : Operand) → l.held x ≡ true → ZRight f.w n (z_at s (l.registers.source x)) (operand (prefix f a n ls) x)
     held_operand x is e lt = ap (λ z. at f.w z e) (h.same.held x is) ∙ (h0.held x is).right (ls (f.i + e)) e (omega (arith, lt, few_all))
 
-    held_typed : (ty : Ty) (x : Source) → l.held x ≡ true → l.type x ≡ ty → AllOf ty n (operand (prefix f a n ls) x)
+    held_typed : (ty : Ty) (x : Operand) → l.held x ≡ true → l.type x ≡ ty → AllOf ty n (operand (prefix f a n ls) x)
     held_typed ty x is same e lt = subst (λ k. IsOf k (operand (prefix f a n ls) x e)) same ((h0.held x is).typed (ls (f.i + e)) e (omega (arith, lt, h.few)))
 
-    pub operand_right : (ty : Ty) (x : Source) → FitsOperand l f.w p ty x → OperandRight (prefix f a n ls) l.registers s ty x
+    pub operand_right : (ty : Ty) (x : Operand) → FitsOperand l f.w p ty x → OperandRight (prefix f a n ls) l.registers s ty x
     operand_right ty (Constant u z) k = record {
       number = fit.held_small (Constant u z) k.0.0;
       wide = k.1;

@@ -14,9 +14,9 @@ use Rattle.kernel_tree.specs.Wrap.{residue}
 use Rattle.machine_model.specs.InstructionTable.{Listed}
 use Rattle.machine_model.specs.Machine.{State, p_at, with_p, next}
 use Rattle.machine_model.proofs.StateSteps.{truths_put}
-use Rattle.label_fix.specs.DraftRun.{Entry, Laid}
+use Rattle.label_fix.specs.DraftRun.{DraftEntry, Laid}
 use Rattle.vector_order.specs.Orders.{Lane, Lanes, Keeps}
-use Rattle.loop_form.specs.declared.loop_item.Source.TheVariants.{Made}
+use Rattle.loop_form.specs.declared.loop_item.Operand.TheVariants.{Made}
 use Rattle.loop_form.specs.LoopItems.{Op, item}
 use Rattle.vector_order.specs.Operands.{with_value, on_mask}
 use Rattle.vector_order.specs.Items.{with_truth, op_effect}
@@ -34,7 +34,7 @@ use Rattle.first_fault.specs.Region.{Way, halted, way_of, item_way}
 use Rattle.first_fault.specs.RegionCode.{Mode, narrow_words, step_words}
 use Rattle.label_fix.specs.Stretches.{Leads}
 use Rattle.first_fault.specs.Prefix.{Same, Inside}
-use Rattle.first_fault.specs.RegionRuns.{Cuts, comes}
+use Rattle.first_fault.specs.RegionRuns.{RegionOutcome, comes}
 use Rattle.first_fault.proofs.Stretches.{rest_at, word_leads, follow, words_lead}
 use Rattle.first_fault.proofs.PlainCode.{op_plain}
 use Rattle.first_fault.proofs.PrefixSteps.{same_then, prefix, in_bytes, byte_made, length_is, few_all, top_is, inside_on, ready}
@@ -75,7 +75,7 @@ only_put r s bytes = record { memory = refl; x = refl; sp = refl; z = refl; p = 
 
 module _ {l : Layout} (fit : Assigned l) {f : Setting} {a : State} {p0 : ℕ} {t0 : Lanes} (h0 : Holds l f p0 t0 a) (d : Laid) where
   -- a mask that has lost the lanes that P0 has lost
-  pub record Narrowed (mode : Mode) (n p : ℕ) (ls : ℕ → Lane) (mask : Option ℕ) (s : State) (inner : List Listed) (rest : List Entry) : Type 0 where
+  pub record Narrowed (mode : Mode) (n p : ℕ) (ls : ℕ → Lane) (mask : Option ℕ) (s : State) (inner : List Listed) (rest : List DraftEntry) : Type 0 where
     pub end : State
     pub inside : Inside mode l f a n p ls end
     pub exact : PRight f.w (count_of f) (p_at end (mask_register l.registers mask)) (within n (mask_of (prefix f a n ls) mask))
@@ -83,7 +83,7 @@ module _ {l : Layout} (fit : Assigned l) {f : Setting} {a : State} {p0 : ℕ} {t
     pub counted : length (narrow_words l mask inner) ≡ words + length inner
     pub leads : Leads d (puts (narrow_words l mask inner) rest) s (puts inner rest) end words
 
-  pub narrowed : {mode : Mode} {n p : ℕ} {ls : ℕ → Lane} {s : State} (mask : Option ℕ) (inner : List Listed) (rest : List Entry) → FitsMask l p mask → Inside mode l f a n p ls s → Narrowed mode n p ls mask s inner rest
+  pub narrowed : {mode : Mode} {n p : ℕ} {ls : ℕ → Lane} {s : State} (mask : Option ℕ) (inner : List Listed) (rest : List DraftEntry) → FitsMask l p mask → Inside mode l f a n p ls s → Narrowed mode n p ls mask s inner rest
   narrowed {n = n} {s = s} None inner rest k h = record {
     end = s;
     inside = h;
@@ -136,7 +136,7 @@ module _ {l : Layout} (fit : Assigned l) {f : Setting} {a : State} {p0 : ℕ} {t
 
 -- ---- an item that makes a value, or a condition
 
-module _ {l : Layout} (fit : Assigned l) {f : Setting} {a : State} {p0 : ℕ} {t0 : Lanes} (h0 : Holds l f p0 t0 a) (d : Laid) (rest : List Entry) {mode : Mode} {n p : ℕ} {ls : ℕ → Lane} {s : State} (h : Inside mode l f a n p ls s) (mask : Option ℕ) (fm : FitsMask l p mask) where
+module _ {l : Layout} (fit : Assigned l) {f : Setting} {a : State} {p0 : ℕ} {t0 : Lanes} (h0 : Holds l f p0 t0 a) (d : Laid) (rest : List DraftEntry) {mode : Mode} {n p : ℕ} {ls : ℕ → Lane} {s : State} (h : Inside mode l f a n p ls s) (mask : Option ℕ) (fm : FitsMask l p mask) where
   abbrev m : ℕ
   m = mask_register l.registers mask
 
@@ -144,23 +144,23 @@ module _ {l : Layout} (fit : Assigned l) {f : Setting} {a : State} {p0 : ℕ} {t
   abbrev pub way_at : Op → ℕ → Lane → Way
   way_at op j b = item_way f.names (item p mask op) j a.memory b
 
-  abbrev pub StepCuts : Op → Type 0
-  StepCuts op = Cuts mode l f d a n (p + 1) (length (step_words mode f.w l p mask op)) ls (puts (step_words mode f.w l p mask op) rest) s rest (way_at op)
+  abbrev pub StepOutcome : Op → Type 0
+  StepOutcome op = RegionOutcome mode l f d a n (p + 1) (length (step_words mode f.w l p mask op)) ls (puts (step_words mode f.w l p mask op) rest) s rest (way_at op)
 
   -- all lanes come through
-  pub all_come : {code : List Entry} {most : ℕ} (new : ℕ → Lane → Lane) (v : State) (op : Op) → ((j : ℕ) (mem : Memory) (b : Lane) → op_effect op f.names p j (on_mask mask b) mem b ≡ Keeps (new j b)) → Leads d code s rest v most → Inside mode l f a n (p + 1) (λ j. new j (ls j)) v → Cuts mode l f d a n (p + 1) most ls code s rest (way_at op)
+  pub all_come : {code : List DraftEntry} {most : ℕ} (new : ℕ → Lane → Lane) (v : State) (op : Op) → ((j : ℕ) (mem : Memory) (b : Lane) → op_effect op f.names p j (on_mask mask b) mem b ≡ Keeps (new j b)) → Leads d code s rest v most → Inside mode l f a n (p + 1) (λ j. new j (ls j)) v → RegionOutcome mode l f d a n (p + 1) most ls code s rest (way_at op)
   all_come new v op does leads ends = comes n (λ j. new j (ls j)) v (omega arith) (λ e en. ap (way_of (halted op)) (does (f.i + e) a.memory (ls (f.i + e)))) leads (λ lt. absurd (omega (arith, lt))) ends
 
   pub value_steps : (op : Op) (val : ℕ → Lane → ℤ) (ty : Ty) → makes_truth op ≡ false → made_type op ≡ Some ty → MakesValue l p ty → ((u : State) → Inside mode l f a n p ls u → OperandsRight (prefix f a n ls) l.registers u op)
       → ((j : ℕ) (mem : Memory) (b : Lane) → op_effect op f.names p j (on_mask mask b) mem b ≡ Keeps (with_value b p (val j b)))
-      → step_words mode f.w l p mask op ≡ (if nat_lt p (l.z_last_use p) then narrow_words l mask (vectors (op_code f.w l.registers p m op)) else []) → StepCuts op
+      → step_words mode f.w l p mask op ≡ (if nat_lt p (l.z_last_use p) then narrow_words l mask (vectors (op_code f.w l.registers p m op)) else []) → StepOutcome op
   value_steps op val ty kind made_is makes operands does words =
-      subst (λ ws. Cuts mode l f d a n (p + 1) (length ws) ls (puts ws rest) s rest (way_at op)) (sym words) (by (nat_lt p (l.z_last_use p)) refl)
+      subst (λ ws. RegionOutcome mode l f d a n (p + 1) (length ws) ls (puts ws rest) s rest (way_at op)) (sym words) (by (nat_lt p (l.z_last_use p)) refl)
     where
       value_is : (e : ℕ) → new_value (prefix f a n ls) op p mask e ≡ val (f.i + e) (ls (f.i + e))
       value_is e = ap (value_after p) (does (f.i + e) a.memory (ls (f.i + e))) ∙ value_same (ls (f.i + e)) p (val (f.i + e) (ls (f.i + e)))
 
-      by : (b : Bool) → nat_lt p (l.z_last_use p) ≡ b → Cuts mode l f d a n (p + 1) (length (if b then narrow_words l mask (vectors (op_code f.w l.registers p m op)) else [])) ls (puts (if b then narrow_words l mask (vectors (op_code f.w l.registers p m op)) else []) rest) s rest (way_at op)
+      by : (b : Bool) → nat_lt p (l.z_last_use p) ≡ b → RegionOutcome mode l f d a n (p + 1) (length (if b then narrow_words l mask (vectors (op_code f.w l.registers p m op)) else [])) ls (puts (if b then narrow_words l mask (vectors (op_code f.w l.registers p m op)) else []) rest) s rest (way_at op)
       by true is_used =
           let code = op_code f.w l.registers p m op in
           let used : IsValueUsed l p = ltb-true p (l.z_last_use p) is_used in
@@ -206,14 +206,14 @@ module _ {l : Layout} (fit : Assigned l) {f : Setting} {a : State} {p0 : ℕ} {t
 
   pub truth_steps : (op : Op) (val : ℕ → Lane → Bool) → makes_truth op ≡ true → MakesTruth l p → ((u : State) → Inside mode l f a n p ls u → OperandsRight (prefix f a n ls) l.registers u op)
       → ((j : ℕ) (mem : Memory) (b : Lane) → op_effect op f.names p j (on_mask mask b) mem b ≡ Keeps (with_truth b p (val j b)))
-      → step_words mode f.w l p mask op ≡ (if nat_lt p (l.p_last_use p) then narrow_words l mask (vectors (op_code f.w l.registers p m op)) else []) → StepCuts op
+      → step_words mode f.w l p mask op ≡ (if nat_lt p (l.p_last_use p) then narrow_words l mask (vectors (op_code f.w l.registers p m op)) else []) → StepOutcome op
   truth_steps op val kind makes operands does words =
-      subst (λ ws. Cuts mode l f d a n (p + 1) (length ws) ls (puts ws rest) s rest (way_at op)) (sym words) (by (nat_lt p (l.p_last_use p)) refl)
+      subst (λ ws. RegionOutcome mode l f d a n (p + 1) (length ws) ls (puts ws rest) s rest (way_at op)) (sym words) (by (nat_lt p (l.p_last_use p)) refl)
     where
       truth_is : (e : ℕ) → new_truth (prefix f a n ls) op p mask e ≡ val (f.i + e) (ls (f.i + e))
       truth_is e = ap (truth_after p) (does (f.i + e) a.memory (ls (f.i + e))) ∙ truth_same (ls (f.i + e)) p (val (f.i + e) (ls (f.i + e)))
 
-      by : (b : Bool) → nat_lt p (l.p_last_use p) ≡ b → Cuts mode l f d a n (p + 1) (length (if b then narrow_words l mask (vectors (op_code f.w l.registers p m op)) else [])) ls (puts (if b then narrow_words l mask (vectors (op_code f.w l.registers p m op)) else []) rest) s rest (way_at op)
+      by : (b : Bool) → nat_lt p (l.p_last_use p) ≡ b → RegionOutcome mode l f d a n (p + 1) (length (if b then narrow_words l mask (vectors (op_code f.w l.registers p m op)) else [])) ls (puts (if b then narrow_words l mask (vectors (op_code f.w l.registers p m op)) else []) rest) s rest (way_at op)
       by true is_used =
           let code = op_code f.w l.registers p m op in
           let used : IsTruthUsed l p = ltb-true p (l.p_last_use p) is_used in

@@ -19,10 +19,11 @@ use Rattle.kernel_meaning.proofs.Residues.{word-add}
 use Rattle.machine_model.specs.InstructionTable.{Listed}
 use Rattle.machine_model.specs.Machine.{State, x_at, p_at}
 use Rattle.machine_model.proofs.StateSteps.{x_put}
-use Rattle.label_fix.specs.DraftRun.{Entry, Laid}
+use Rattle.label_fix.specs.DraftRun.{DraftEntry, Laid}
 use Rattle.vector_order.specs.Orders.{Lane, Lanes, Halts, Keeps}
-use Rattle.loop_form.specs.declared.loop_item.Source.TheVariants.{Outer}
-use Rattle.loop_form.specs.LoopItems.{Load, item}
+use Rattle.loop_form.specs.declared.loop_item.Operand.TheVariants.{Outer}
+use Rattle.loop_form.specs.LoopItems.{item}
+use Rattle.loop_form.specs.LoopItems as ops
 use Rattle.vector_order.specs.Operands.{nth_value, with_value, on_mask, load_effect}
 use Rattle.lane_emit.specs.Right.{IsOf, PRight, within}
 use Rattle.lane_emit.specs.ItemCode.{mask_of, mask_register}
@@ -81,7 +82,7 @@ module _ {l : Layout} (fit : Assigned l) {f : Setting} {a : State} {p0 : ℕ} {t
   x_below {s = s} h r lt = All-get_or (λ v. v < 2 ^ 64) s.x r 0 (omega (arith, lt, h.is.x_count)) h.is.x_small
 
   -- a state in which the index register holds the iteration of the first lane and the offset
-  pub record Indexed (mode : Mode) (n p : ℕ) (ls : ℕ → Lane) (d : Laid) (rest : List Entry) (c : ℤ) (inner : List Listed) (s : State) : Type 0 where
+  pub record Indexed (mode : Mode) (n p : ℕ) (ls : ℕ → Lane) (d : Laid) (rest : List DraftEntry) (c : ℤ) (inner : List Listed) (s : State) : Type 0 where
     pub state : State
     pub words : ℕ
     pub counted : length (with_index c inner) ≡ words + length inner
@@ -90,7 +91,7 @@ module _ {l : Layout} (fit : Assigned l) {f : Setting} {a : State} {p0 : ℕ} {t
     pub truths : state.p ≡ s.p
     pub place : x_at state (index_of c) ≡ word (pos f.i +ℤ c)
 
-  pub indexed : {mode : Mode} {n p : ℕ} {ls : ℕ → Lane} {s : State} (d : Laid) (rest : List Entry) (c : ℤ) (inner : List Listed) → IsNear c → Inside mode l f a n p ls s → Indexed mode n p ls d rest c inner s
+  pub indexed : {mode : Mode} {n p : ℕ} {ls : ℕ → Lane} {s : State} (d : Laid) (rest : List DraftEntry) (c : ℤ) (inner : List Listed) → IsNear c → Inside mode l f a n p ls s → Indexed mode n p ls d rest c inner s
   indexed {s = s} d rest (pos zero) inner near h = record {
     state = s;
     words = 0;
@@ -131,13 +132,7 @@ module _ {l : Layout} (fit : Assigned l) {f : Setting} {a : State} {p0 : ℕ} {t
 -- the address of the first lane in one register
 pub from_address : (t : Ty) (b r e : ℕ) → lane_address ((b + r * 2 ^ memory_size t % 2 ^ 64) % 2 ^ 64) 0 (byte_count t) e ≡ lane_address b r (byte_count t) e
 from_address ty.I8 b r e = omega arith
-from_address ty.U8 b r e = omega arith
-from_address ty.I16 b r e = omega arith
-from_address ty.U16 b r e = omega arith
-from_address ty.I32 b r e = omega arith
-from_address ty.U32 b r e = omega arith
-from_address ty.I64 b r e = omega arith
-from_address ty.U64 b r e = omega arith
+from_address other b r e = omega arith
 
 -- ---- a read over the lanes
 
@@ -164,7 +159,7 @@ module _ {l : Layout} (fit : Assigned l) {f : Setting} {a : State} {p0 : ℕ} {t
   new j = with_value (ls j) p (val j (ls j))
 
   abbrev pub way : ℕ → Lane → Way
-  way j b = item_way f.names (item p mask (Load array (Outer x) (Some ty) c)) j a.memory b
+  way j b = item_way f.names (item p mask (ops.Load array (Outer x) (Some ty) c)) j a.memory b
 
   way_is : (j : ℕ) (b : Lane) → way j b ≡ way_of Fell (if on_mask mask b && is_some (fault j) then Halts else Keeps (with_value b p (val j b)))
   way_is j b = ap (way_of Fell) (read_does ty p b (on_mask mask b) (fault j) (number j))

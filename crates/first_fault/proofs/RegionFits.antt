@@ -2,7 +2,8 @@
 use Rattle.std.proofs.Common.{◌≡◌, ℕ, ◌+◌, ◌≤◌, Bool, true, false, List, [], ◌∷◌, ◌++◌, Option, Some, None, refl, sym, ap, ◌∙◌, subst, arith}
 use Rattle.std.specs.Prelude.{is_some, ◌||◌, ◌&&◌, if◌then◌else◌}
 use Rattle.std.specs.List.{list_any}
-use Rattle.loop_form.specs.LoopItems.{Op, Load, Gather, Apply, Combine, Move, Cast, Copy, Pick, Store, Add, Test, Invert, Same, Any, Quit, Item}
+use Rattle.loop_form.specs.LoopItems.{Op, Item}
+use Rattle.loop_form.specs.LoopItems as ops
 use Rattle.chunk_emit.specs.Registers.{Layout}
 use Rattle.chunk_emit.specs.Chunk.{Setting}
 use Rattle.chunk_emit.specs.Fits.{MakesNothing, FitsItems, following_items}
@@ -10,7 +11,7 @@ use Rattle.chunk_emit.specs.LoopFits as whole
 use Rattle.chunk_emit.specs.LoopFits.{FitsSteps, IsNoBreak, AreNoBreaks}
 use Rattle.chunk_emit.proofs.FitsParts.{first_part, second_part, items_fit}
 use Rattle.first_fault.specs.Fits.{FitsStep, FitsRegion}
-use Rattle.first_fault.specs.Split.{quits, is_quit, writes, is_write, region_of, rest_of}
+use Rattle.first_fault.specs.BreakRegion.{breaks_loop, is_loop_break, writes, is_write, region_of, rest_of}
 use Rattle.first_fault.specs.KernelFits.{is_inner_break}
 
 pub neither : (a b : Bool) → a || b ≡ false → (a ≡ false) × (b ≡ false)
@@ -31,22 +32,19 @@ unmasked : (mask : Option ℕ) → is_some mask ≡ false → mask ≡ None
 unmasked None e = refl
 unmasked (Some q) e = absurd cc
 
-region_step : (l : Layout) (f : Setting) (p : ℕ) (mask : Option ℕ) (op : Op) → writes op ≡ false → quits op && is_some mask ≡ false → whole.FitsStep l f p op → FitsStep l f p mask op
-region_step l f p mask (Quit c) w e h = (unmasked mask e, h.0, h.1)
-region_step l f p mask (Load a base t c) w e h = h
-region_step l f p mask (Gather a base t r u x) w e h = absurd cc
-region_step l f p mask (Apply op t x) w e h = h
-region_step l f p mask (Combine op t x y) w e h = h
-region_step l f p mask (Move left k t x) w e h = h
-region_step l f p mask (Cast s t x) w e h = h
-region_step l f p mask (Copy t x) w e h = h
-region_step l f p mask (Pick t c x y) w e h = h
-region_step l f p mask (Store a base t c v) w e h = absurd cc
-region_step l f p mask (Add x op t v) w e h = absurd cc
-region_step l f p mask (Test op t x y) w e h = h
-region_step l f p mask (Invert c) w e h = h
-region_step l f p mask (Same c) w e h = h
-region_step l f p mask (Any c d) w e h = h
+region_step : (l : Layout) (f : Setting) (p : ℕ) (mask : Option ℕ) (op : Op) → writes op ≡ false → breaks_loop op && is_some mask ≡ false → whole.FitsStep l f p op → FitsStep l f p mask op
+region_step l f p mask (ops.Break c) w e h = (unmasked mask e, h.0, h.1)
+region_step l f p mask (ops.Load a base t c) w e h = h
+region_step l f p mask (ops.Gather a base t r u x) w e h = absurd cc
+region_step l f p mask (ops.Unary op t x) w e h = h
+region_step l f p mask (ops.Binary op t x y) w e h = h
+region_step l f p mask (ops.Shift left k t x) w e h = h
+region_step l f p mask (ops.Cast s t x) w e h = h
+region_step l f p mask (ops.Let t x) w e h = h
+region_step l f p mask (ops.Select t c x y) w e h = h
+region_step l f p mask (ops.Store a base t c v) w e h = absurd cc
+region_step l f p mask (ops.Update x op t v) w e h = absurd cc
+region_step l f p mask other w e h = h
 
 region_fits : (l : Layout) (f : Setting) (p : ℕ) (items : List Item) → list_any is_write items ≡ false → list_any is_inner_break items ≡ false → FitsSteps l f p items → FitsRegion l f p items
 region_fits l f p [] w e h = tt
@@ -57,26 +55,13 @@ region_fits l f p (it ∷ items) w e h =
 
 -- ---- the rest
 
-no_break : (op : Op) → quits op ≡ false → IsNoBreak op
-no_break (Quit c) e = absurd cc
-no_break (Load a base t c) e = tt
-no_break (Gather a base t r u x) e = tt
-no_break (Apply op t x) e = tt
-no_break (Combine op t x y) e = tt
-no_break (Move left k t x) e = tt
-no_break (Cast s t x) e = tt
-no_break (Copy t x) e = tt
-no_break (Pick t c x y) e = tt
-no_break (Store a base t c v) e = tt
-no_break (Add x op t v) e = tt
-no_break (Test op t x y) e = tt
-no_break (Invert c) e = tt
-no_break (Same c) e = tt
-no_break (Any c d) e = tt
+no_break : (op : Op) → breaks_loop op ≡ false → IsNoBreak op
+no_break (ops.Break c) e = absurd cc
+no_break other e = tt
 
-no_breaks : (items : List Item) → list_any is_quit items ≡ false → AreNoBreaks items
+no_breaks : (items : List Item) → list_any is_loop_break items ≡ false → AreNoBreaks items
 no_breaks [] e = tt
-no_breaks (it ∷ items) e = let h = neither (is_quit it) (list_any is_quit items) e in (no_break it.op h.0, no_breaks items h.1)
+no_breaks (it ∷ items) e = let h = neither (is_loop_break it) (list_any is_loop_break items) e in (no_break it.op h.0, no_breaks items h.1)
 
 -- ---- both
 
@@ -85,7 +70,7 @@ pub record BothFit (l : Layout) (f : Setting) (p : ℕ) (items : List Item) : Ty
   pub region : FitsRegion l f p (region_of items)
   pub rest : FitsItems l f (following_items p (region_of items)) (rest_of items)
 
-pub both_fit : (l : Layout) (f : Setting) (p : ℕ) (items : List Item) → region_of items ++ rest_of items ≡ items → list_any is_write (region_of items) ≡ false → list_any is_quit (rest_of items) ≡ false → list_any is_inner_break items ≡ false → FitsSteps l f p items → BothFit l f p items
+pub both_fit : (l : Layout) (f : Setting) (p : ℕ) (items : List Item) → region_of items ++ rest_of items ≡ items → list_any is_write (region_of items) ≡ false → list_any is_loop_break (rest_of items) ≡ false → list_any is_inner_break items ≡ false → FitsSteps l f p items → BothFit l f p items
 both_fit l f p items split unwritten unbroken outer h =
     let parts : FitsSteps l f p (region_of items ++ rest_of items) = subst (FitsSteps l f p) (sym split) h in
     let outer2 = none_left is_inner_break (region_of items) (rest_of items) (ap (list_any is_inner_break) split ∙ outer) in
@@ -96,24 +81,24 @@ both_fit l f p items split unwritten unbroken outer h =
 
 -- ---- the item before the rest
 
-quit_nothing : (l : Layout) (f : Setting) (q : ℕ) (mask : Option ℕ) (op : Op) → quits op ≡ true → FitsStep l f q mask op → MakesNothing l q
-quit_nothing l f q mask (Quit c) e h = h.2
-quit_nothing l f q mask op e h = absurd cc
+break_nothing : (l : Layout) (f : Setting) (q : ℕ) (mask : Option ℕ) (op : Op) → breaks_loop op ≡ true → FitsStep l f q mask op → MakesNothing l q
+break_nothing l f q mask (ops.Break c) e h = h.2
+break_nothing l f q mask op e h = absurd cc
 
 only_first : (a b : Bool) → a || b ≡ true → b ≡ false → a ≡ true
 only_first true b e f = refl
 only_first false b e f = absurd cc
 
 -- it is a break, which makes no condition
-pub last_nothing : (l : Layout) (f : Setting) (p : ℕ) (items : List Item) → FitsRegion l f p (region_of items) → (list_any is_quit items ≡ false → (r : ℕ) → r + 1 ≡ p → l.p_last_use r ≤ r) → (r : ℕ) → r + 1 ≡ following_items p (region_of items) → l.p_last_use r ≤ r
+pub last_nothing : (l : Layout) (f : Setting) (p : ℕ) (items : List Item) → FitsRegion l f p (region_of items) → (list_any is_loop_break items ≡ false → (r : ℕ) → r + 1 ≡ p → l.p_last_use r ≤ r) → (r : ℕ) → r + 1 ≡ following_items p (region_of items) → l.p_last_use r ≤ r
 last_nothing l f p [] h start r e = start refl r e
-last_nothing l f p (it ∷ items) h start r e = by (list_any is_quit (it ∷ items)) refl h e (λ g here same. last_nothing l f (it.item + 1) items g here r same)
+last_nothing l f p (it ∷ items) h start r e = by (list_any is_loop_break (it ∷ items)) refl h e (λ g here same. last_nothing l f (it.item + 1) items g here r same)
   where
-    by : (b : Bool) → list_any is_quit (it ∷ items) ≡ b → FitsRegion l f p (if b then it ∷ region_of items else []) → r + 1 ≡ following_items p (if b then it ∷ region_of items else [])
-        → (FitsRegion l f (it.item + 1) (region_of items) → (list_any is_quit items ≡ false → (r : ℕ) → r + 1 ≡ it.item + 1 → l.p_last_use r ≤ r) → r + 1 ≡ following_items (it.item + 1) (region_of items) → l.p_last_use r ≤ r) → l.p_last_use r ≤ r
+    by : (b : Bool) → list_any is_loop_break (it ∷ items) ≡ b → FitsRegion l f p (if b then it ∷ region_of items else []) → r + 1 ≡ following_items p (if b then it ∷ region_of items else [])
+        → (FitsRegion l f (it.item + 1) (region_of items) → (list_any is_loop_break items ≡ false → (r : ℕ) → r + 1 ≡ it.item + 1 → l.p_last_use r ≤ r) → r + 1 ≡ following_items (it.item + 1) (region_of items) → l.p_last_use r ≤ r) → l.p_last_use r ≤ r
     by false any h e more = start any r e
     by true any h e more =
         more h.4
         (λ none r same.
         let number : it.item ≡ r = omega (arith, same) in
-        subst (λ n. l.p_last_use n ≤ n) number (quit_nothing l f it.item it.mask it.op (only_first (quits it.op) (list_any is_quit items) any none) h.3).1) e
+        subst (λ n. l.p_last_use n ≤ n) number (break_nothing l f it.item it.mask it.op (only_first (breaks_loop it.op) (list_any is_loop_break items) any none) h.3).1) e

@@ -2,7 +2,8 @@
 use Rattle.std.proofs.Common.{◌≡◌, ℕ, ◌+◌, ◌<◌, Bool, true, false, List, [], ◌∷◌, Option, None, refl, sym, ap, ap₂, ◌∙◌, subst, arith}
 use Rattle.kernel_meaning.specs.Eval.{Names}
 use Rattle.vector_order.specs.Orders.{Lane, Lanes, Effect, Halts, Keeps, Writes, Out, Fine, done, go_on, column, by_item}
-use Rattle.loop_form.specs.LoopItems.{Op, Load, Gather, Apply, Combine, Move, Cast, Copy, Pick, Store, Add, Test, Invert, Same, Any, Quit, Item}
+use Rattle.loop_form.specs.LoopItems.{Op, Item}
+use Rattle.loop_form.specs.LoopItems as ops
 use Rattle.vector_order.specs.Operands.{on_mask}
 use Rattle.vector_order.specs.Items.{item_act, acts_of}
 use Rattle.chunk_emit.specs.Registers.{Layout}
@@ -10,25 +11,21 @@ use Rattle.chunk_emit.specs.Chunk.{Setting}
 use Rattle.chunk_emit.proofs.ItemLanes.{first_none, lane_out, Own, OwnColumn, own_fine, own_column}
 use Rattle.first_fault.specs.Region.{Way, On, halted, way_of, way_on, region_way}
 use Rattle.first_fault.specs.Fits.{FitsStep, FitsRegion}
-use Rattle.first_fault.specs.Split.{writes}
-use Rattle.first_fault.proofs.Splits.{IsQuiet, op_quiet}
+use Rattle.first_fault.specs.BreakRegion.{writes}
+use Rattle.first_fault.proofs.BreakRegions.{IsQuiet, op_quiet}
 
 fits_quiet : (l : Layout) (f : Setting) (q : ℕ) (mask : Option ℕ) (op : Op) → FitsStep l f q mask op → writes op ≡ false
-fits_quiet l f q mask (Load a base t c) k = refl
-fits_quiet l f q mask (Gather a base t r u x) k = absurd k
-fits_quiet l f q mask (Apply op t x) k = refl
-fits_quiet l f q mask (Combine op t x y) k = refl
-fits_quiet l f q mask (Move left n t x) k = refl
-fits_quiet l f q mask (Cast own t x) k = refl
-fits_quiet l f q mask (Copy t x) k = refl
-fits_quiet l f q mask (Pick t c x y) k = refl
-fits_quiet l f q mask (Store a base t c v) k = absurd k
-fits_quiet l f q mask (Add x op t v) k = absurd k
-fits_quiet l f q mask (Test op t x y) k = refl
-fits_quiet l f q mask (Invert c) k = refl
-fits_quiet l f q mask (Same c) k = refl
-fits_quiet l f q mask (Any c d) k = refl
-fits_quiet l f q mask (Quit c) k = refl
+fits_quiet l f q mask (ops.Load a base t c) k = refl
+fits_quiet l f q mask (ops.Gather a base t r u x) k = absurd k
+fits_quiet l f q mask (ops.Unary op t x) k = refl
+fits_quiet l f q mask (ops.Binary op t x y) k = refl
+fits_quiet l f q mask (ops.Shift left n t x) k = refl
+fits_quiet l f q mask (ops.Cast own t x) k = refl
+fits_quiet l f q mask (ops.Let t x) k = refl
+fits_quiet l f q mask (ops.Select t c x y) k = refl
+fits_quiet l f q mask (ops.Store a base t c v) k = absurd k
+fits_quiet l f q mask (ops.Update x op t v) k = absurd k
+fits_quiet l f q mask other k = refl
 
 -- whether an effect halts, and what it leaves of a lane
 abbrev halts : Effect → Bool
@@ -52,21 +49,8 @@ record Goes (e : Effect) (l : Lane) (next : Lane → Way) (new : Lane) : Type 0 
   rest : next (kept l e) ≡ On new
 
 halted_goes : (op : Op) (next : Lane → Way) (new : Lane) → way_on (halted op) next ≡ On new → ⊥
-halted_goes (Load a b t c) next new h = cc
-halted_goes (Gather a b t r u x) next new h = cc
-halted_goes (Apply op t x) next new h = cc
-halted_goes (Combine op t x y) next new h = cc
-halted_goes (Move left n t x) next new h = cc
-halted_goes (Cast from to x) next new h = cc
-halted_goes (Copy t x) next new h = cc
-halted_goes (Pick t c x y) next new h = cc
-halted_goes (Store a b t c v) next new h = cc
-halted_goes (Add x op t v) next new h = cc
-halted_goes (Test op t x y) next new h = cc
-halted_goes (Invert c) next new h = cc
-halted_goes (Same c) next new h = cc
-halted_goes (Any c d) next new h = cc
-halted_goes (Quit c) next new h = cc
+halted_goes (ops.Load a b t c) next new h = cc
+halted_goes other next new h = cc
 
 goes : (op : Op) (e : Effect) (l : Lane) (next : Lane → Way) (new : Lane) → way_on (way_of (halted op) e) next ≡ On new → Goes e l next new
 goes op (Keeps m) l next new h = record { stays = refl; rest = h }

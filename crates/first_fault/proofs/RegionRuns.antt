@@ -18,10 +18,10 @@ use Rattle.chunk_emit.proofs.ChunkStates.{inside}
 use Rattle.first_fault.specs.Region.{region_way}
 use Rattle.first_fault.specs.RegionCode.{Early, Single, exits_words, single_words}
 use Rattle.first_fault.specs.Prefix.{IsTop, with_count, lanes_of, Same, Inside}
-use Rattle.first_fault.specs.RegionRuns.{Cuts, ExitsRun, SingleRuns}
+use Rattle.first_fault.specs.RegionRuns.{RegionOutcome, ExitsRun, SingleRuns}
 use Rattle.first_fault.proofs.Stretches.{word_leads}
 use Rattle.first_fault.proofs.PrefixSteps.{in_bytes, byte_made}
-use Rattle.first_fault.proofs.CutsLists.{cuts_following, region_runs}
+use Rattle.first_fault.proofs.OutcomeLists.{outcome_following, region_runs}
 
 -- nothing has changed yet
 same_state : (l : Layout) (s : State) → Same l s s
@@ -63,10 +63,10 @@ module _ {l : Layout} (fit : Assigned l) {f : Setting} {p : ℕ} {t : Lanes} {s 
 
 pub exits_run : ExitsRun
 exits_run l f d rest items p t s fit k h =
-    subst (λ m. Cuts Early l f d s f.n (following_items p items) (length (exits_words f.w l items)) t.lane (puts (exits_words f.w l items) rest) s rest (λ j. region_way f.names items j m)) h.memory
-    (cuts_following (length (exits_words f.w l items)) (omega arith) (word_leads false refl refl) (region_runs fit h d rest Early items k (set_inside fit h h.top)))
+    subst (λ m. RegionOutcome Early l f d s f.n (following_items p items) (length (exits_words f.w l items)) t.lane (puts (exits_words f.w l items) rest) s rest (λ j. region_way f.names items j m)) h.memory
+    (outcome_following (length (exits_words f.w l items)) (omega arith) (word_leads false refl refl) (region_runs fit h d rest Early items k (set_inside fit h h.top)))
 
 pub single_runs : SingleRuns
 single_runs l f d rest items p t s fit k h one =
-    subst (λ m. Cuts Single l f d s f.n (following_items p items) (length (single_words f.w l items)) t.lane (puts (single_words f.w l items) rest) s rest (λ j. region_way f.names items j m)) h.memory
+    subst (λ m. RegionOutcome Single l f d s f.n (following_items p items) (length (single_words f.w l items)) t.lane (puts (single_words f.w l items) rest) s rest (λ j. region_way f.names items j m)) h.memory
     (region_runs fit h d rest Single items k (first_inside fit h one h.top))

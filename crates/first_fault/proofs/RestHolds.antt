@@ -8,11 +8,12 @@ use Rattle.kernel_meaning.specs.Eval.{Names}
 use Rattle.machine_model.specs.Machine.{State, z_at}
 use Rattle.vector_order.specs.Orders.{Share, Lane, Lanes, Effect, Halts, Keeps, Writes}
 use Rattle.vector_order.specs.Regions.{run_lane}
-use Rattle.loop_form.specs.declared.loop_item.Source.TheVariants.{Made}
+use Rattle.loop_form.specs.declared.loop_item.Operand.TheVariants.{Made}
 use Rattle.lane_emit.specs.Right.{IsOf}
 use Rattle.guest_types.specs.Length.{width_bits}
 use Rattle.kernel_tree.specs.Wrap.{residue}
-use Rattle.loop_form.specs.LoopItems.{Op, Load, Gather, Apply, Combine, Move, Cast, Copy, Pick, Store, Add, Test, Invert, Same, Any, Quit, Item}
+use Rattle.loop_form.specs.LoopItems.{Op, Item}
+use Rattle.loop_form.specs.LoopItems as ops
 use Rattle.vector_order.specs.Operands.{on_mask, load_effect}
 use Rattle.vector_order.specs.Items.{op_effect, item_act, acts_of}
 use Rattle.reductions.specs.Folds.{after_all, AreOf, given_to, ShareAlike}
@@ -32,21 +33,8 @@ use Rattle.first_fault.proofs.PureSteps.{and_true}
 -- ---- the way and the items
 
 halted_left : (op : Op) (f : Lane → Way) → lane_left (way_on (halted op) f) ≡ None
-halted_left (Load a b t c) f = refl
-halted_left (Gather a b t r u x) f = refl
-halted_left (Apply op t x) f = refl
-halted_left (Combine op t x y) f = refl
-halted_left (Move left n t x) f = refl
-halted_left (Cast from to x) f = refl
-halted_left (Copy t x) f = refl
-halted_left (Pick t c x y) f = refl
-halted_left (Store a b t c v) f = refl
-halted_left (Add x op t v) f = refl
-halted_left (Test op t x y) f = refl
-halted_left (Invert c) f = refl
-halted_left (Same c) f = refl
-halted_left (Any c d) f = refl
-halted_left (Quit c) f = refl
+halted_left (ops.Load a b t c) f = refl
+halted_left other f = refl
 
 pub way_is_run : WayIsRun
 way_is_run names [] j m l = refl
@@ -71,26 +59,26 @@ load_shares l q true None other h = tt
 load_shares l q true (Some v) other h = refl
 load_shares l q false o other h = h
 
-quit_shares : (l : Lane) (b : Bool) → Shares l.shares (if b then Halts else Keeps l)
-quit_shares l true = tt
-quit_shares l false = refl
+break_shares : (l : Lane) (b : Bool) → Shares l.shares (if b then Halts else Keeps l)
+break_shares l true = tt
+break_shares l false = refl
 
 op_shares : (lay : Layout) (f : Setting) (names : Names) (q j : ℕ) (mask : Option ℕ) (m : Memory) (l : Lane) (op : Op) → FitsStep lay f q mask op → Shares l.shares (op_effect op names q j (on_mask mask l) m l)
-op_shares lay f names q j mask m l (Load a b t c) k = load_shares l q (on_mask mask l) _ _ refl
-op_shares lay f names q j mask m l (Gather a b t r u x) k = absurd k
-op_shares lay f names q j mask m l (Apply op t x) k = refl
-op_shares lay f names q j mask m l (Combine op t x y) k = refl
-op_shares lay f names q j mask m l (Move left n t x) k = refl
-op_shares lay f names q j mask m l (Cast from to x) k = refl
-op_shares lay f names q j mask m l (Copy t x) k = refl
-op_shares lay f names q j mask m l (Pick t c x y) k = refl
-op_shares lay f names q j mask m l (Store a b t c v) k = absurd k
-op_shares lay f names q j mask m l (Add x op t v) k = absurd k
-op_shares lay f names q j mask m l (Test op t x y) k = refl
-op_shares lay f names q j mask m l (Invert c) k = refl
-op_shares lay f names q j mask m l (Same c) k = refl
-op_shares lay f names q j mask m l (Any c d) k = refl
-op_shares lay f names q j mask m l (Quit c) k = quit_shares l (on_mask mask l && l.truth c)
+op_shares lay f names q j mask m l (ops.Load a b t c) k = load_shares l q (on_mask mask l) _ _ refl
+op_shares lay f names q j mask m l (ops.Gather a b t r u x) k = absurd k
+op_shares lay f names q j mask m l (ops.Unary op t x) k = refl
+op_shares lay f names q j mask m l (ops.Binary op t x y) k = refl
+op_shares lay f names q j mask m l (ops.Shift left n t x) k = refl
+op_shares lay f names q j mask m l (ops.Cast from to x) k = refl
+op_shares lay f names q j mask m l (ops.Let t x) k = refl
+op_shares lay f names q j mask m l (ops.Select t c x y) k = refl
+op_shares lay f names q j mask m l (ops.Store a b t c v) k = absurd k
+op_shares lay f names q j mask m l (ops.Update x op t v) k = absurd k
+op_shares lay f names q j mask m l (ops.Compare op t x y) k = refl
+op_shares lay f names q j mask m l (ops.Not c) k = refl
+op_shares lay f names q j mask m l (ops.And c) k = refl
+op_shares lay f names q j mask m l (ops.Or c d) k = refl
+op_shares lay f names q j mask m l (ops.Break c) k = break_shares l (on_mask mask l && l.truth c)
 
 halted_not : (op : Op) (g : Lane → Way) (new : Lane) → way_on (halted op) g ≡ On new → ⊥
 halted_not op g new e = let h = halted_left op g in let k : lane_left (On new) ≡ None = ap lane_left (sym e) ∙ h in absurd cc

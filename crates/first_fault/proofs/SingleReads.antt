@@ -14,7 +14,7 @@ use Rattle.machine_model.specs.Machine.{State, Step, x_at, x_or_sp, z_at, with_z
 use Rattle.machine_model.specs.States.{IsState}
 use Rattle.machine_model.specs.VectorEffects.{do_vector, after_load}
 use Rattle.machine_model.proofs.StateSteps.{load_put}
-use Rattle.label_fix.specs.DraftRun.{Entry, Laid}
+use Rattle.label_fix.specs.DraftRun.{DraftEntry, Laid}
 use Rattle.label_fix.specs.Stretches.{Stops}
 use Rattle.label_fix.proofs.StretchSteps.{put_stops}
 use Rattle.vector_order.specs.Orders.{Lane, Lanes}
@@ -31,7 +31,7 @@ use Rattle.chunk_emit.proofs.Indexes.{lane_place}
 use Rattle.chunk_emit.proofs.Loads.{only_wrote}
 use Rattle.first_fault.specs.RegionCode.{Mode, Early, Single}
 use Rattle.first_fault.specs.Prefix.{IsTop, Same, Inside}
-use Rattle.first_fault.specs.RegionRuns.{Cuts, stops, comes}
+use Rattle.first_fault.specs.RegionRuns.{RegionOutcome, stops, comes}
 use Rattle.first_fault.proofs.PrefixBits.{First, missing, found, first_is}
 use Rattle.first_fault.proofs.Stretches.{word_leads}
 use Rattle.first_fault.proofs.PrefixSteps.{prefix, inside_on}
@@ -81,11 +81,11 @@ module _ {l : Layout} (fit : Assigned l) {f : Setting} {a : State} {p0 : ℕ} {t
         ∙ lane_place ty (nth_value f.names x) c f.i e (x_or_sp u x) (x_at u r) base_is at_index
 
   -- a load that refuses
-  pub refused : {d : Laid} {rest : List Entry} {i : Rattle.machine_model.specs.InstructionTable.Listed} {u : State} (o : Option ℕ) → is_some o ≡ true → (other : Rattle.guest_types.specs.LaneMemory.Loaded) → Rattle.label_fix.specs.DraftRun.effect i u ≡ after_load (or_fault (read_fault o) other) (z_of l p) u → Stops d (Rattle.label_fix.specs.DraftRun.Put i ∷ rest) u Read u.memory 1
+  pub refused : {d : Laid} {rest : List DraftEntry} {i : Rattle.machine_model.specs.InstructionTable.Listed} {u : State} (o : Option ℕ) → is_some o ≡ true → (other : Rattle.guest_types.specs.LaneMemory.Loaded) → Rattle.label_fix.specs.DraftRun.effect i u ≡ after_load (or_fault (read_fault o) other) (z_of l p) u → Stops d (Rattle.label_fix.specs.DraftRun.Put i ∷ rest) u Read u.memory 1
   refused None some other e = absurd cc
   refused {u = u} (Some z) some other e = put_stops u.pc z e
 
-  module _ (d : Laid) (rest : List Entry) {n : ℕ} {u : State} (h : Inside Single l f a n p ls u) (exact : PRight f.w (count_of f) (p_at u (mask_register l.registers mask)) (within n (mask_of (prefix f a n ls) mask))) (low : x < 8) (based : slice_index f.x x ≡ word (nth_value f.names x)) (r : ℕ) (at_index : x_at u r ≡ word (pos f.i +ℤ c)) where
+  module _ (d : Laid) (rest : List DraftEntry) {n : ℕ} {u : State} (h : Inside Single l f a n p ls u) (exact : PRight f.w (count_of f) (p_at u (mask_register l.registers mask)) (within n (mask_of (prefix f a n ls) mask))) (low : x < 8) (based : slice_index f.x x ≡ word (nth_value f.names x)) (r : ℕ) (at_index : x_at u r ≡ word (pos f.i +ℤ c)) where
     abbrev m : ℕ
     m = mask_register l.registers mask
 
@@ -114,7 +114,7 @@ module _ {l : Layout} (fit : Assigned l) {f : Setting} {a : State} {p0 : ℕ} {t
     does = refl
 
     abbrev Result : Type 0
-    Result = Cuts Single l f d a n (p + 1) 1 ls (puts (Vector (load_word f.w ty (z_of l p) m x r) ∷ []) rest) u rest way
+    Result = RegionOutcome Single l f d a n (p + 1) 1 ls (puts (Vector (load_word f.w ty (z_of l p) m x r) ∷ []) rest) u rest way
 
     by : (o : Option ℕ) → first_true test count 0 ≡ o → First test count 0 o → Result
     by o eq (missing none) =

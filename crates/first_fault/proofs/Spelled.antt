@@ -7,7 +7,8 @@ use Rattle.kernel_tree.specs.Items.{stream_offset, term_size, action_size, block
 use Rattle.kernel_tree.specs.Typing.{Scope, own, first, after_action, after_block, left, in_loop, var_scope, array_type}
 use Rattle.kernel_tree.specs.Loops.{is_whole, is_whole_block, is_whole_otherwise, is_outer, has_outer_breaks}
 use Rattle.kernel_tree.proofs.Spelled.{few_params, outer_breaks}
-use Rattle.loop_form.specs.LoopItems.{Bound, accumulator_of, Quit, Item, item, truth_home, after_env, quit_items, leave_items, action_items, block_items, otherwise_items, loop_env, loop_items}
+use Rattle.loop_form.specs.LoopItems.{Bound, accumulator_of, Item, item, truth_home, after_env, break_items, leave_items, action_items, block_items, otherwise_items, loop_env, loop_items}
+use Rattle.loop_form.specs.LoopItems as ops
 use Rattle.first_fault.specs.KernelFits.{is_inner_break, TreeIsSpelled}
 use Rattle.first_fault.proofs.TopBreaks.{breaks_of, outer_of, store_breaks, term_breaks}
 
@@ -39,13 +40,13 @@ mutual
 some_inner : List Item → Bool
 some_inner items = list_any is_inner_break items
 
-outer_quit : (c : Term) (s : Scope) (b : ℕ) (env : List Bound) (rest : List Item) → some_inner (breaks_of (quit_items s None b env c rest)) ≡ some_inner (breaks_of rest)
+outer_break : (c : Term) (s : Scope) (b : ℕ) (env : List Bound) (rest : List Item) → some_inner (breaks_of (break_items s None b env c rest)) ≡ some_inner (breaks_of rest)
 unfolding some_inner
-outer_quit c s b env rest = ap some_inner ((term_breaks c).as_cond s None b env (item (b + term_size s.index c) None (Quit (truth_home s.index b c)) ∷ rest))
+outer_break c s b env rest = ap some_inner ((term_breaks c).as_cond s None b env (item (b + term_size s.index c) None (ops.Break (truth_home s.index b c)) ∷ rest))
 
 outer_leave : (c : Term) (s : Scope) (b : ℕ) (env : List Bound) (rest : List Item) → some_inner (breaks_of (leave_items s None b env c rest)) ≡ some_inner (breaks_of rest)
-outer_leave (Either x y) s b env rest = outer_leave x s b env _ ∙ outer_quit y s (b + term_size s.index x + 1) env rest
-outer_leave c s b env rest = outer_quit c s b env rest
+outer_leave (Either x y) s b env rest = outer_leave x s b env _ ∙ outer_break y s (b + term_size s.index x + 1) env rest
+outer_leave c s b env rest = outer_break c s b env rest
 
 outer_action : (a : Action) (s : Scope) (b : ℕ) (env : List Bound) (rest : List Item) → is_outer a ≡ true → some_inner (breaks_of (action_items s None b env a rest)) ≡ some_inner (breaks_of rest)
 unfolding some_inner
@@ -73,4 +74,4 @@ unfolding some_inner
 outer_loop k l w = outer_of (loop_items k l) ∙ outer_block l.body (in_loop (var_scope k) l) (loop_start k + 1) (loop_env (var_scope k) l.index) w
 
 pub as_spelled : TreeIsSpelled
-as_spelled k l tree turns = record { few = few_params k tree; outer = outer_loop k l (outer_breaks k l tree turns) }
+as_spelled k l tree for_loop = record { few = few_params k tree; outer = outer_loop k l (outer_breaks k l tree for_loop) }

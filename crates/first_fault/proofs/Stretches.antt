@@ -7,13 +7,13 @@ use Rattle.machine_model.specs.Machine.{State, Step, Went, Ended, Stopped}
 use Rattle.machine_model.specs.OneStep.{cuts_in}
 use Rattle.machine_model.specs.Run.{Stop, go_on}
 use Rattle.machine_model.specs.VectorEffects.{do_vector}
-use Rattle.label_fix.specs.DraftRun.{Entry, Put, Laid, effect, draft_run}
+use Rattle.label_fix.specs.DraftRun.{DraftEntry, Put, Laid, effect, draft_run}
 use Rattle.label_fix.specs.Stretches.{Leads, Stops}
-use Rattle.lane_emit.specs.Stretch.{Word, and_then, do_all}
+use Rattle.lane_emit.specs.Stretch.{VectorInstruction, and_then, do_all}
 use Rattle.chunk_emit.specs.ChunkCode.{vectors, puts}
-use Rattle.label_fix.specs.Cuts.{count_on, cuts}
+use Rattle.label_fix.specs.Suppressions.{count_on, cuts}
 
-pub rest_at : {d : Laid} {c : List Entry} {s : State} (most : ℕ) → Leads d c s c s most
+pub rest_at : {d : Laid} {c : List DraftEntry} {s : State} (most : ℕ) → Leads d c s c s most
 rest_at {d = d} {c = c} {s = s} most = record {
   count = 0;
   within = omega arith;
@@ -23,7 +23,7 @@ rest_at {d = d} {c = c} {s = s} most = record {
 }
 
 -- one word
-pub word_leads : {d : Laid} {i : Listed} {rest : List Entry} {s t : State} (b : Bool) → effect i s ≡ Went t → cuts_in i s ≡ b → Leads d (Put i ∷ rest) s rest t 1
+pub word_leads : {d : Laid} {i : Listed} {rest : List DraftEntry} {s t : State} (b : Bool) → effect i s ≡ Went t → cuts_in i s ≡ b → Leads d (Put i ∷ rest) s rest t 1
 word_leads {d = d} {i = i} {rest = rest} {s = s} {t = t} b h is = record {
   count = 1;
   within = omega arith;
@@ -35,7 +35,7 @@ word_leads {d = d} {i = i} {rest = rest} {s = s} {t = t} b h is = record {
       omega (arith, f);
 }
 
-pub follow : {d : Laid} {c e g : List Entry} {s t u : State} {m n : ℕ} (most : ℕ) → m + n ≤ most → Leads d c s e t m → Leads d e t g u n → Leads d c s g u most
+pub follow : {d : Laid} {c e g : List DraftEntry} {s t u : State} {m n : ℕ} (most : ℕ) → m + n ≤ most → Leads d c s e t m → Leads d e t g u n → Leads d c s g u most
 follow {d = d} {c = c} {g = g} {s = s} {u = u} most le a b = record {
   count = a.count + b.count;
   within = omega (arith, a.within, b.within, le);
@@ -52,7 +52,7 @@ follow {d = d} {c = c} {g = g} {s = s} {u = u} most le a b = record {
       omega (arith, f, p, q);
 }
 
-pub stop_following : {d : Laid} {c e : List Entry} {s t : State} {m n : ℕ} {kind : StopKind} {memory : Memory} (most : ℕ) → m + n ≤ most → Leads d c s e t m → Stops d e t kind memory n → Stops d c s kind memory most
+pub stop_following : {d : Laid} {c e : List DraftEntry} {s t : State} {m n : ℕ} {kind : StopKind} {memory : Memory} (most : ℕ) → m + n ≤ most → Leads d c s e t m → Stops d e t kind memory n → Stops d c s kind memory most
 stop_following {d = d} {c = c} {s = s} {kind = kind} {memory = memory} most le a b = record {
   count = a.count + b.count;
   within = omega (arith, a.within, b.within, le);
@@ -67,14 +67,14 @@ stop_following {d = d} {c = c} {s = s} {kind = kind} {memory = memory} most le a
 -- ---- code without a load that may stop early
 
 -- no word ever suppresses a free element
-pub data Plain : List Word → Type 0 where
+pub data Plain : List VectorInstruction → Type 0 where
   plain_none : Plain []
-  plain_more : {v : Word} {vs : List Word} → ((s : State) → cuts_in (Vector v) s ≡ false) → Plain vs → Plain (v ∷ vs)
+  plain_more : {v : VectorInstruction} {vs : List VectorInstruction} → ((s : State) → cuts_in (Vector v) s ≡ false) → Plain vs → Plain (v ∷ vs)
 
-went_same : {d : Laid} {c e : List Entry} {s t u : State} {most : ℕ} → Went t ≡ Went u → Leads d c s e t most → Leads d c s e u most
+went_same : {d : Laid} {c e : List DraftEntry} {s t u : State} {most : ℕ} → Went t ≡ Went u → Leads d c s e t most → Leads d c s e u most
 went_same {d = d} {c = c} {e = e} {s = s} {t = t} {u = u} {most = most} h g = let same : t ≡ u = cc in subst (λ x. Leads d c s e x most) same g
 
-pub words_lead : {d : Laid} {rest : List Entry} (c : List Word) (s t : State) → Plain c → do_all c s ≡ Went t → Leads d (puts (vectors c) rest) s rest t (length (vectors c))
+pub words_lead : {d : Laid} {rest : List DraftEntry} (c : List VectorInstruction) (s t : State) → Plain c → do_all c s ≡ Went t → Leads d (puts (vectors c) rest) s rest t (length (vectors c))
 words_lead [] s t plain h = went_same h (rest_at 0)
 words_lead {d = d} {rest = rest} (v ∷ vs) s t (plain_more one plain) h = by (do_vector v s) refl h (λ u k. words_lead vs u t plain k)
   where
@@ -85,20 +85,20 @@ words_lead {d = d} {rest = rest} (v ∷ vs) s t (plain_more one plain) h = by (d
 
 -- ---- how many free elements
 
-pub word-cut : (d : Laid) (i : Listed) (rest : List Entry) (s t : State) (b : Bool) (h : effect i s ≡ Went t) (is : cuts_in i s ≡ b) → (word_leads {d = d} {i = i} {rest = rest} {s = s} {t = t} b h is).cut ≡ cond b 1 0
+pub word-cut : (d : Laid) (i : Listed) (rest : List DraftEntry) (s t : State) (b : Bool) (h : effect i s ≡ Went t) (is : cuts_in i s ≡ b) → (word_leads {d = d} {i = i} {rest = rest} {s = s} {t = t} b h is).cut ≡ cond b 1 0
 unfolding word_leads
 word-cut d i rest s t b h is = refl
 
-pub follow-cut : {d : Laid} {c e g : List Entry} {s t u : State} {m n : ℕ} (most : ℕ) (le : m + n ≤ most) (a : Leads d c s e t m) (b : Leads d e t g u n) → (follow most le a b).cut ≡ a.cut + b.cut
+pub follow-cut : {d : Laid} {c e g : List DraftEntry} {s t u : State} {m n : ℕ} (most : ℕ) (le : m + n ≤ most) (a : Leads d c s e t m) (b : Leads d e t g u n) → (follow most le a b).cut ≡ a.cut + b.cut
 unfolding follow
 follow-cut most le a b = refl
 
 -- a word that may suppress a free element, and one that does not
-pub record Pair (d : Laid) (c : List Entry) (s : State) (e : List Entry) (t : State) (b : Bool) : Type 0 where
+pub record Pair (d : Laid) (c : List DraftEntry) (s : State) (e : List DraftEntry) (t : State) (b : Bool) : Type 0 where
   pub leads : Leads d c s e t 2
   pub is : leads.cut ≡ cond b 1 0
 
-pub pair : (d : Laid) (i j : Listed) (rest : List Entry) (s t v : State) (b : Bool) → effect i s ≡ Went t → cuts_in i s ≡ b → effect j t ≡ Went v → cuts_in j t ≡ false → Pair d (Put i ∷ Put j ∷ rest) s rest v b
+pub pair : (d : Laid) (i j : Listed) (rest : List DraftEntry) (s t v : State) (b : Bool) → effect i s ≡ Went t → cuts_in i s ≡ b → effect j t ≡ Went v → cuts_in j t ≡ false → Pair d (Put i ∷ Put j ∷ rest) s rest v b
 pair d i j rest s t v b h is k none =
     let le : 1 + 1 ≤ 2 = omega arith in
     let first : Leads d (Put i ∷ Put j ∷ rest) s (Put j ∷ rest) t 1 = word_leads b h is in

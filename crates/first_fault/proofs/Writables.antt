@@ -11,10 +11,11 @@ use Rattle.kernel_tree.specs.Plain.{PlainLoop, Program}
 use Rattle.kernel_tree.specs.Typing.{check_fault}
 use Rattle.reg_assign.specs.declared.interval.RegClass.TheVariants.{Z, P}
 use Rattle.reg_assign.specs.Registers.{Assignment}
-use Rattle.loop_form.specs.declared.loop_item.Source.{Source}
-use Rattle.loop_form.specs.declared.loop_item.Source.TheVariants.{Constant, Outer, LoopIndex, Made}
+use Rattle.loop_form.specs.declared.loop_item.Operand.{Operand}
+use Rattle.loop_form.specs.declared.loop_item.Operand.TheVariants.{Outer}
 use Rattle.loop_form.specs.Lanes.{lane_width_of}
-use Rattle.loop_form.specs.LoopItems.{Op, Load, Gather, Apply, Combine, Move, Cast, Copy, Pick, Store, Add, Test, Invert, Same, Any, Quit, Item, loop_items, turns_items, loop_items_of}
+use Rattle.loop_form.specs.LoopItems.{Op, Item, loop_items, for_loop_items, loop_items_of}
+use Rattle.loop_form.specs.LoopItems as ops
 use Rattle.loop_form.specs.Registers.{FitsKernel}
 use Rattle.dependence.specs.Classes.{class_of}
 use Rattle.dependence.specs.declared.reason.Class.TheVariants.{Vector}
@@ -28,16 +29,14 @@ use Rattle.chunk_emit.specs.LoopFits.{FitsSetting}
 use Rattle.chunk_emit.specs.Writable.{IsPlace, IsWritable, AreWritable}
 use Rattle.first_fault.specs.Fits.{FitsStep, FitsRegion}
 use Rattle.first_fault.specs.KernelFits.{LoopFits, AsSpelled}
-use Rattle.first_fault.specs.Split.{region_of, rest_of}
+use Rattle.first_fault.specs.BreakRegion.{region_of, rest_of}
 use Rattle.first_fault.proofs.LoopFits.{kernel_fits}
 
 -- ---- an operation that fits
 
-fits_place : (f : Setting) (base : Source) (c : ℤ) → FitsBase f base → IsNear c → IsPlace base c
+fits_place : (f : Setting) (base : Operand) (c : ℤ) → FitsBase f base → IsNear c → IsPlace base c
 fits_place f (Outer p) c h near = let small = h.0 in (omega (arith, small), omega (arith, near))
-fits_place f (Constant t z) c h near = elim h [ ]
-fits_place f LoopIndex c h near = elim h [ ]
-fits_place f (Made q) c h near = elim h [ ]
+fits_place f other c h near = elim h [ ]
 
 -- in each size
 narrow : (t : Ty) (w : Width) → bits_of t ≤ width_bits w → memory_size t ≤ size_of w
@@ -68,50 +67,25 @@ narrow ty.U64 H h = absurd (omega (arith, h))
 narrow ty.U64 S h = absurd (omega (arith, h))
 narrow ty.U64 D h = omega arith
 
-fits_general : (f : Setting) (base : Source) → FitsBase f base → base_of base < 32
+fits_general : (f : Setting) (base : Operand) → FitsBase f base → base_of base < 32
 fits_general f (Outer p) h = let small = h.0 in omega (arith, small)
-fits_general f (Constant t z) h = elim h [ ]
-fits_general f LoopIndex h = elim h [ ]
-fits_general f (Made q) h = elim h [ ]
+fits_general f other h = elim h [ ]
 
 op_writable : (l : Layout) (f : Setting) (p : ℕ) (op : Op) → FitsOp l f p op → IsWritable f.w op
-op_writable l f p (Load a base (Some t) c) h = fits_place f base c h.0 h.1
-op_writable l f p (Load a base None c) h = tt
-op_writable l f p (Gather a base (Some t) reach (Some u) x) h = fits_general f base h.0
-op_writable l f p (Gather a base (Some t) reach None x) h = tt
-op_writable l f p (Gather a base None reach u x) h = tt
-op_writable l f p (Store a base (Some t) c v) h = (fits_place f base c h.0 h.1, narrow t f.w h.2.1)
-op_writable l f p (Store a base None c v) h = tt
-op_writable l f p (Apply op t x) h = tt
-op_writable l f p (Combine op t x y) h = tt
-op_writable l f p (Move left k t x) h = tt
-op_writable l f p (Cast s t x) h = tt
-op_writable l f p (Copy t x) h = tt
-op_writable l f p (Pick t c x y) h = tt
-op_writable l f p (Add x op t v) h = tt
-op_writable l f p (Test op t x y) h = tt
-op_writable l f p (Invert c) h = tt
-op_writable l f p (Same c) h = tt
-op_writable l f p (Any c d) h = tt
-op_writable l f p (Quit c) h = tt
+op_writable l f p (ops.Load a base (Some t) c) h = fits_place f base c h.0 h.1
+op_writable l f p (ops.Load a base None c) h = tt
+op_writable l f p (ops.Gather a base (Some t) reach (Some u) x) h = fits_general f base h.0
+op_writable l f p (ops.Gather a base (Some t) reach None x) h = tt
+op_writable l f p (ops.Gather a base None reach u x) h = tt
+op_writable l f p (ops.Store a base (Some t) c v) h = (fits_place f base c h.0 h.1, narrow t f.w h.2.1)
+op_writable l f p other h = tt
 
 step_writable : (l : Layout) (f : Setting) (p : ℕ) (mask : Option ℕ) (op : Op) → FitsStep l f p mask op → IsWritable f.w op
-step_writable l f p mask (Load a base (Some t) c) h = fits_place f base c h.0 h.1
-step_writable l f p mask (Load a base None c) h = tt
-step_writable l f p mask (Gather a base t reach u x) h = elim h [ ]
-step_writable l f p mask (Store a base t c v) h = elim h [ ]
-step_writable l f p mask (Apply op t x) h = tt
-step_writable l f p mask (Combine op t x y) h = tt
-step_writable l f p mask (Move left k t x) h = tt
-step_writable l f p mask (Cast s t x) h = tt
-step_writable l f p mask (Copy t x) h = tt
-step_writable l f p mask (Pick t c x y) h = tt
-step_writable l f p mask (Add x op t v) h = tt
-step_writable l f p mask (Test op t x y) h = tt
-step_writable l f p mask (Invert c) h = tt
-step_writable l f p mask (Same c) h = tt
-step_writable l f p mask (Any c d) h = tt
-step_writable l f p mask (Quit c) h = tt
+step_writable l f p mask (ops.Load a base (Some t) c) h = fits_place f base c h.0 h.1
+step_writable l f p mask (ops.Load a base None c) h = tt
+step_writable l f p mask (ops.Gather a base t reach u x) h = elim h [ ]
+step_writable l f p mask (ops.Store a base t c v) h = elim h [ ]
+step_writable l f p mask other h = tt
 
 items_writable : (l : Layout) (f : Setting) (p : ℕ) (items : List Item) → FitsItems l f p items → AreWritable f.w items
 items_writable l f p [] h = tt
@@ -134,16 +108,16 @@ pub record LoopWritable (k : Program) : Type 0 where
   pub region : AreWritable (lane_width_of k) (region_of (loop_items_of k))
   pub rest : AreWritable (lane_width_of k) (rest_of (loop_items_of k))
 
-pub loop_writable : (k : Program) (a b : Assignment) → check_fault k ≡ None → class_of k ≡ Vector → ((l : PlainLoop) → k.turns ≡ Some l → AsSpelled k l) → FitsKernel k Z a → FitsKernel k P b → LoopWritable k
-loop_writable k a b sound vector spelled fit_z fit_p = by k.turns refl
+pub loop_writable : (k : Program) (a b : Assignment) → check_fault k ≡ None → class_of k ≡ Vector → ((l : PlainLoop) → k.for_loop ≡ Some l → AsSpelled k l) → FitsKernel k Z a → FitsKernel k P b → LoopWritable k
+loop_writable k a b sound vector spelled fit_z fit_p = by k.for_loop refl
   where
-    by : (o : Option PlainLoop) → k.turns ≡ o → LoopWritable k
+    by : (o : Option PlainLoop) → k.for_loop ≡ o → LoopWritable k
     by None e = record { region = rw e tt; rest = rw e tt }
     by (Some l) e =
         let f : Setting = plain_setting k in
         let s : AsSpelled k l = spelled l e in
         let fits : LoopFits k l a b f = kernel_fits k l a b f sound e vector s.few s.outer fit_z fit_p (plain_fits k) in
-        let items : loop_items_of k ≡ loop_items k l = ap (turns_items k) e in
+        let items : loop_items_of k ≡ loop_items k l = ap (for_loop_items k) e in
         record {
           region = subst (λ its. AreWritable (lane_width_of k) (region_of its)) (sym items) (region_writable (layout_of_loop k a b) f _ (region_of (loop_items k l)) fits.region);
           rest = subst (λ its. AreWritable (lane_width_of k) (rest_of its)) (sym items) (items_writable (layout_of_loop k a b) f _ (rest_of (loop_items k l)) fits.rest);

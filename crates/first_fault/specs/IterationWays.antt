@@ -1,4 +1,4 @@
--- How an iteration fares in the break region, and the turn of the scalar loop.
+-- How an iteration fares in the break region, and the iteration of the scalar loop.
 use Rattle.std.specs.Prelude.{◌≡◌, ℕ, List, Some, None}
 use Rattle.guest_types.specs.Memory.{Memory}
 use Rattle.kernel_tree.specs.Plain.{PlainLoop, Program}
@@ -14,16 +14,16 @@ use Rattle.dependence.specs.declared.reason.Class.TheVariants.{Vector}
 use Rattle.vector_order.specs.Orders.{Lane}
 use Rattle.vector_order.specs.Order.{Steady}
 use Rattle.first_fault.specs.Region.{Way, On, Broke, Fell, region_way}
-use Rattle.first_fault.specs.Split.{region_of}
+use Rattle.first_fault.specs.BreakRegion.{region_of}
 
--- an iteration that breaks, or faults, in the region is a turn that does, and has stored nothing
-abbrev pub IsTurn : Way → Memory → BlockEnd Names → Type 0
-IsTurn (On l) m turn = Unit {0}
-IsTurn Broke m (ends.Broke after names) = after ≡ m
-IsTurn Fell m (ends.Faulted after) = after ≡ m
-IsTurn _ m _ = ⊥
+-- an iteration that breaks, or faults, in the region does so in the scalar loop, and has stored nothing
+abbrev pub IsIteration : Way → Memory → BlockEnd Names → Type 0
+IsIteration (On l) m iteration_end = Unit {0}
+IsIteration Broke m (ends.Broke after names) = after ≡ m
+IsIteration Fell m (ends.Faulted after) = after ≡ m
+IsIteration _ m _ = ⊥
 
-abbrev pub WayIsTurn : Type 0
-WayIsTurn =
-    (k : Program) (l : PlainLoop) (args : List ℕ) (start : Memory) (names cur : Names) (i : ℕ) (m : Memory) (lane : Lane) → check_fault k ≡ None → k.turns ≡ Some l → class_of k ≡ Vector → started k args start ≡ Some names → Steady k names cur
-    → IsTurn (region_way names (region_of (loop_items k l)) i m lane) m (iterate (var_scope k) l i m cur)
+abbrev pub WayIsIteration : Type 0
+WayIsIteration =
+    (k : Program) (l : PlainLoop) (args : List ℕ) (start : Memory) (names cur : Names) (i : ℕ) (m : Memory) (lane : Lane) → check_fault k ≡ None → k.for_loop ≡ Some l → class_of k ≡ Vector → started k args start ≡ Some names → Steady k names cur
+    → IsIteration (region_way names (region_of (loop_items k l)) i m lane) m (iterate (var_scope k) l i m cur)

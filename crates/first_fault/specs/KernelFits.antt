@@ -17,7 +17,7 @@ use Rattle.chunk_emit.specs.KernelLayout.{layout_of_loop}
 use Rattle.chunk_emit.specs.LoopFits.{FitsSetting}
 use Rattle.first_fault.specs.Fits.{FitsRegion}
 use Rattle.first_fault.specs.Rest.{NoTruthLive}
-use Rattle.first_fault.specs.Split.{quits, region_of, rest_of}
+use Rattle.first_fault.specs.BreakRegion.{breaks_loop, region_of, rest_of}
 
 -- the number after the last item of the break region; without a break, that of the first item
 abbrev pub following_region : Program → PlainLoop → ℕ
@@ -31,12 +31,12 @@ pub record LoopFits (k : Program) (l : PlainLoop) (a b : Assignment) (f : Settin
 
 -- a break under a mask: one that stands within an `if`
 abbrev pub is_inner_break : Item → Bool
-is_inner_break it = quits it.op && is_some it.mask
+is_inner_break it = breaks_loop it.op && is_some it.mask
 
 -- of kernels with at most eight parameters whose breaks stand in the loop's own block, as the grammar has it
 abbrev pub KernelFits : Type 0
 KernelFits =
-    (k : Program) (l : PlainLoop) (a b : Assignment) (f : Setting) → check_fault k ≡ None → k.turns ≡ Some l → class_of k ≡ Vector → length k.params ≤ 8 → list_any is_inner_break (loop_items k l) ≡ false → FitsKernel k Z a → FitsKernel k P b → FitsSetting k f → LoopFits k l a b f
+    (k : Program) (l : PlainLoop) (a b : Assignment) (f : Setting) → check_fault k ≡ None → k.for_loop ≡ Some l → class_of k ≡ Vector → length k.params ≤ 8 → list_any is_inner_break (loop_items k l) ≡ false → FitsKernel k Z a → FitsKernel k P b → FitsSetting k f → LoopFits k l a b f
 
 -- what the grammar says of a kernel
 pub record AsSpelled (k : Program) (l : PlainLoop) : Type 0 where
@@ -44,4 +44,4 @@ pub record AsSpelled (k : Program) (l : PlainLoop) : Type 0 where
   pub outer : list_any is_inner_break (loop_items k l) ≡ false
 
 abbrev pub TreeIsSpelled : Type 0
-TreeIsSpelled = (k : Program) (l : PlainLoop) → ∥ IsTree k ∥₁ → k.turns ≡ Some l → AsSpelled k l
+TreeIsSpelled = (k : Program) (l : PlainLoop) → ∥ IsTree k ∥₁ → k.for_loop ≡ Some l → AsSpelled k l

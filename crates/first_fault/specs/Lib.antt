@@ -4,7 +4,7 @@ pub mod Fits
 pub mod Prefix
 pub mod RegionRuns
 pub mod Rest
-pub mod Split
+pub mod BreakRegion
 pub mod IterationWays
 pub mod KernelFits
 pub mod View

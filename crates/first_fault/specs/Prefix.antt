@@ -5,7 +5,7 @@ use Rattle.guest_types.specs.Elements.{active}
 use Rattle.machine_model.specs.Machine.{State, x_at, z_at, p_at}
 use Rattle.machine_model.specs.States.{IsState}
 use Rattle.vector_order.specs.Orders.{Lane, Lanes}
-use Rattle.loop_form.specs.declared.loop_item.Source.{Source}
+use Rattle.loop_form.specs.declared.loop_item.Operand.{Operand}
 use Rattle.lane_emit.specs.Right.{PRight}
 use Rattle.lane_emit.specs.ItemCode.{truth_of}
 use Rattle.chunk_emit.specs.Registers.{Layout, p_of}
@@ -27,7 +27,7 @@ pub record Same (l : Layout) (a s : State) : Type 0 where
   pub vl : s.vl ≡ a.vl
   pub x : (r : ℕ) → r ≢ 26 → x_at s r ≡ x_at a r
   pub all : p_at s 1 ≡ p_at a 1
-  pub held : (x : Source) → l.held x ≡ true → z_at s (l.registers.source x) ≡ z_at a (l.registers.source x)
+  pub held : (x : Operand) → l.held x ≡ true → z_at s (l.registers.source x) ≡ z_at a (l.registers.source x)
   pub sums : (x : List ℕ) → l.updated x ≡ true → z_at s (l.sum x) ≡ z_at a (l.sum x)
 
 -- Before item p, in a region that began in state a: the first n lanes have come, and what they hold is right in the registers.

@@ -3,7 +3,8 @@ use Rattle.std.specs.Prelude.{ℕ, List, [], ◌∷◌, Option, Some, None}
 use Rattle.guest_types.specs.Memory.{Memory}
 use Rattle.kernel_meaning.specs.Eval.{Names}
 use Rattle.vector_order.specs.Orders.{Lane, Effect, Halts, Keeps, Writes}
-use Rattle.loop_form.specs.LoopItems.{Op, Quit, Item}
+use Rattle.loop_form.specs.LoopItems.{Op, Item}
+use Rattle.loop_form.specs.LoopItems as ops
 use Rattle.vector_order.specs.Items.{item_act}
 
 -- an iteration goes on with what its lane then holds, breaks, or faults
@@ -14,7 +15,7 @@ pub data Way : Type 0 where
 
 -- why an item halts: a break breaks, and all else faults
 abbrev pub halted : Op → Way
-halted (Quit c) = Broke
+halted (ops.Break c) = Broke
 halted _ = Fell
 
 -- no item of the region writes

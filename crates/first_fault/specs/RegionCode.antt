@@ -7,8 +7,9 @@ use Rattle.kernel_tree.specs.declared.ops.Ty.{Ty}
 use Rattle.a64_code.specs.Table as a64
 use Rattle.sve_code.specs.Table.{p_and, brkb, rdffr_z, setffr, ldff1, ldnf1}
 use Rattle.machine_model.specs.InstructionTable.{Listed, Scalar, Vector}
-use Rattle.loop_form.specs.LoopItems.{Op, Load, Quit, Item}
-use Rattle.lane_emit.specs.Stretch.{Word, word}
+use Rattle.loop_form.specs.LoopItems.{Op, Item}
+use Rattle.loop_form.specs.LoopItems as ops
+use Rattle.lane_emit.specs.Stretch.{VectorInstruction, word}
 use Rattle.lane_emit.specs.ItemCode.{mask_register, op_code}
 use Rattle.chunk_emit.specs.Registers.{Layout, z_of, p_of, base_of, is_used}
 use Rattle.chunk_emit.specs.ChunkCode.{with_index, index_of, memory_size, dtype_of, load_word, vectors}
@@ -24,11 +25,11 @@ narrow_words l None rest = rest
 narrow_words l (Some q) rest = Vector (word p_and (p_of l q ∷ p_of l q ∷ 0 ∷ p_of l q ∷ [])) ∷ rest
 
 -- LDFF1 d, P0/Z, [base, index, lsl]
-abbrev pub first_fault_word : Width → Ty → (d base index : ℕ) → Word
+abbrev pub first_fault_word : Width → Ty → (d base index : ℕ) → VectorInstruction
 first_fault_word w t d base index = word ldff1 (d ∷ base ∷ 0 ∷ index ∷ dtype_of t w ∷ [])
 
 -- LDNF1 d, m/Z, [X26]
-abbrev pub non_fault_word : Width → Ty → (d m : ℕ) → Word
+abbrev pub non_fault_word : Width → Ty → (d m : ℕ) → VectorInstruction
 non_fault_word w t d m = word ldnf1 (d ∷ 26 ∷ m ∷ dtype_of t w ∷ [])
 
 -- ADD X26, base, index, LSL the size
@@ -49,8 +50,8 @@ abbrev pub break_word : Layout → (c : ℕ) → Listed
 break_word l c = Vector (word brkb (0 ∷ p_of l c ∷ 0 ∷ []))
 
 abbrev pub step_words : Mode → Width → Layout → (q : ℕ) → Option ℕ → Op → List Listed
-step_words mode w l q mask (Load a base (Some t) c) = narrow_words l mask (with_index c (load_words mode w l q mask t (base_of base) (index_of c)))
-step_words mode w l q mask (Quit c) = break_word l c ∷ []
+step_words mode w l q mask (ops.Load a base (Some t) c) = narrow_words l mask (with_index c (load_words mode w l q mask t (base_of base) (index_of c)))
+step_words mode w l q mask (ops.Break c) = break_word l c ∷ []
 step_words mode w l q mask op = if is_used l op q then narrow_words l mask (vectors (op_code w l.registers q (mask_register l.registers mask) op)) else []
 
 abbrev pub region_words : Mode → Width → Layout → List Item → List Listed

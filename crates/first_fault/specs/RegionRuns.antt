@@ -3,7 +3,7 @@
 use Rattle.std.specs.Prelude.{◌≡◌, ℕ, ◌+◌, ◌<◌, ◌≤◌, List, length}
 use Rattle.machine_model.specs.declared.outcome.StopKind.TheVariants.{Read}
 use Rattle.machine_model.specs.Machine.{State}
-use Rattle.label_fix.specs.DraftRun.{Entry, Laid}
+use Rattle.label_fix.specs.DraftRun.{DraftEntry, Laid}
 use Rattle.label_fix.specs.Stretches.{Stops}
 use Rattle.vector_order.specs.Orders.{Lane, Lanes}
 use Rattle.loop_form.specs.LoopItems.{Item}
@@ -25,19 +25,19 @@ pub data Why (mode : Mode) (way : Way) (cut : ℕ) : Type 0 where
 
 -- What a stretch of code does over the first n lanes, where `way` is how a lane fares: it stops, where the first lane faults;
 -- else the first k of them come through, and there is a reason where lane k does not.
-pub data Cuts (mode : Mode) (l : Layout) (f : Setting) (d : Laid) (a : State) (n q most : ℕ) (ls : ℕ → Lane) (code : List Entry) (s : State) (rest : List Entry) (way : ℕ → Lane → Way) : Type 0 where
-  stops : 0 < n → way f.i (ls f.i) ≡ Fell → Stops d code s Read a.memory most → Cuts mode l f d a n q most ls code s rest way
+pub data RegionOutcome (mode : Mode) (l : Layout) (f : Setting) (d : Laid) (a : State) (n q most : ℕ) (ls : ℕ → Lane) (code : List DraftEntry) (s : State) (rest : List DraftEntry) (way : ℕ → Lane → Way) : Type 0 where
+  stops : 0 < n → way f.i (ls f.i) ≡ Fell → Stops d code s Read a.memory most → RegionOutcome mode l f d a n q most ls code s rest way
   comes : (k : ℕ) (new : ℕ → Lane) (end : State) → k ≤ n → ((e : ℕ) → e < k → way (f.i + e) (ls (f.i + e)) ≡ On (new (f.i + e))) → (leads : Leads d code s rest end most) → (k < n → Why mode (way (f.i + k) (ls (f.i + k))) leads.cut) → Inside mode l f a k q new end
-      → Cuts mode l f d a n q most ls code s rest way
+      → RegionOutcome mode l f d a n q most ls code s rest way
 
 -- The region over a chunk, from a state that holds its lanes.
 abbrev pub ExitsRun : Type 0
 ExitsRun =
-    (l : Layout) (f : Setting) (d : Laid) (rest : List Entry) (items : List Item) (p : ℕ) (t : Lanes) (s : State) → Assigned l → FitsRegion l f p items → Holds l f p t s
-    → Cuts Early l f d s f.n (following_items p items) (length (exits_words f.w l items)) t.lane (puts (exits_words f.w l items) rest) s rest (λ j. region_way f.names items j t.memory)
+    (l : Layout) (f : Setting) (d : Laid) (rest : List DraftEntry) (items : List Item) (p : ℕ) (t : Lanes) (s : State) → Assigned l → FitsRegion l f p items → Holds l f p t s
+    → RegionOutcome Early l f d s f.n (following_items p items) (length (exits_words f.w l items)) t.lane (puts (exits_words f.w l items) rest) s rest (λ j. region_way f.names items j t.memory)
 
 -- The region over one lane.
 abbrev pub SingleRuns : Type 0
 SingleRuns =
-    (l : Layout) (f : Setting) (d : Laid) (rest : List Entry) (items : List Item) (p : ℕ) (t : Lanes) (s : State) → Assigned l → FitsRegion l f p items → Holds l f p t s → f.n ≤ 1
-    → Cuts Single l f d s f.n (following_items p items) (length (single_words f.w l items)) t.lane (puts (single_words f.w l items) rest) s rest (λ j. region_way f.names items j t.memory)
+    (l : Layout) (f : Setting) (d : Laid) (rest : List DraftEntry) (items : List Item) (p : ℕ) (t : Lanes) (s : State) → Assigned l → FitsRegion l f p items → Holds l f p t s → f.n ≤ 1
+    → RegionOutcome Single l f d s f.n (following_items p items) (length (single_words f.w l items)) t.lane (puts (single_words f.w l items) rest) s rest (λ j. region_way f.names items j t.memory)

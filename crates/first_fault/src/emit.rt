@@ -20,7 +20,7 @@ use chunk_emit::{
 use kernel_tree::Ty;
 use label_fix::Draft;
 use lane_emit::emit_item;
-use loop_form::{LoopItem, LoopOp, Source};
+use loop_form::{LoopItem, LoopOp, Operand};
 use std::alloc::{AllocError, Global};
 use sve_code::OffsetReg;
 
@@ -117,7 +117,7 @@ fn emit_load(
     layout: &LoopLayout<'_>,
     item: u32,
     mask: Option<u32>,
-    base: Source,
+    base: Operand,
     ty: Ty,
     offset: i32,
     draft: &mut Draft,
@@ -189,7 +189,7 @@ fn emit_step(
             offset,
             ..
         } => emit_load(mode, layout, item.item, item.mask, base, ty, offset, draft)?,
-        LoopOp::Quit(condition) => draft.put(leave(layout.registers.p(condition)))?,
+        LoopOp::Break(condition) => draft.put(leave(layout.registers.p(condition)))?,
         _ => emit_used(alloc, layout, item, draft)?,
     }
     Ok(())

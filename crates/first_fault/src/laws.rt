@@ -9,7 +9,7 @@ ghost use Rattle.loop_form.specs.View.{program};
 ghost use Rattle.dependence.specs.Classes.{class_of};
 ghost use Rattle.dependence.specs.declared.reason.Class.TheVariants.{Vector};
 ghost use Rattle.chunk_emit.specs.Writable.{AreWritable};
-ghost use Rattle.first_fault.specs.Split.{region_of, rest_of};
+ghost use Rattle.first_fault.specs.BreakRegion.{region_of, rest_of};
 
 use kernel_tree::Checked;
 use reg_assign::VectorRegs;

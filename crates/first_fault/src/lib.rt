@@ -2,21 +2,21 @@
 //! and over one lane by plain loads.
 #![tactic(auto)]
 
+mod break_region;
 mod emit;
 mod laws;
 pub mod mode;
-mod split;
 mod words;
 
 ghost use Rattle.first_fault.specs.KernelFits.{KernelFits, TreeIsSpelled};
 ghost use Rattle.first_fault.specs.RegionRuns.{ExitsRun, SingleRuns};
 ghost use Rattle.first_fault.specs.Rest.{AlwaysFew, RestHolds, WayIsRun};
-ghost use Rattle.first_fault.specs.Split.{RegionSplits};
-ghost use Rattle.first_fault.specs.IterationWays.{WayIsTurn};
+ghost use Rattle.first_fault.specs.BreakRegion.{RegionSplits};
+ghost use Rattle.first_fault.specs.IterationWays.{WayIsIteration};
 
+pub use break_region::{has_break, region, rest};
 pub use emit::{emit_exits, emit_single};
 pub use laws::writable_items;
-pub use split::{has_break, region, rest};
 
 /// The code of the region over a chunk, with every stop list: a prefix of the lanes comes through, with their values in the
 /// registers and P0 exactly these lanes; the first lane left out breaks, faults, or a free element was suppressed. It stops
@@ -53,9 +53,9 @@ pub fn region_splits()
     ensures { RegionSplits }
 {}
 
-/// An iteration that breaks, or faults, in the region is a turn of the scalar loop that does, with the memory as it was.
-pub fn way_is_turn()
-    ensures { WayIsTurn }
+/// An iteration that breaks, or faults, in the region does so in the scalar loop, with the memory as it was.
+pub fn way_is_iteration()
+    ensures { WayIsIteration }
 {}
 
 /// Registers that fit a checked kernel of class Vector make a layout of its loop that its items fit: those of the break region

@@ -6,7 +6,7 @@ use Rattle.kernel_tree.specs.Plain.{Program}
 use Rattle.kernel_front.specs.Verdict.{Sound, IsVerdict}
 use Rattle.refusals.specs.declared.refusal.Refusal.{Refusal}
 use Rattle.refusals.specs.declared.refusal.Refusal.TheVariants.{TooManyLive, Kernel, Elf, Map, Memory}
-use Rattle.command_answers.specs.Answer.{Held, Expected, Answer, answer_of, IsFileAnswer}
+use Rattle.command_answers.specs.Answer.{HeldFiles, Expected, Answer, answer_of, IsFileAnswer}
 use Rattle.command_answers.specs.Reads.{file_of, task_files, AfterRead}
 use Rattle.command_answers.specs.Works.{WhereExpected, RefusesProgram}
 use Rattle.command_answers.proofs.Reading.{read_is, is_err}
@@ -28,7 +28,7 @@ refused_one x z wanted next read refusal result e is h = λ work w. by refusal i
     by (Kernel fault) is h work n w = (Err (Kernel fault), subst (λ r. AfterRead r next (Err (Kernel fault))) e (h work n), inl is)
     by other is h work n w = absurd h
 
-pub text_refused : (x y z : ℕ) (held : Option Held) (from bytes : List ℕ) (next : List ℕ → Expected → Type 0) (found : Result (List ℕ) Refusal) (refusal : Refusal) (result : Answer) → found ≡ Ok bytes → IsErrAnd result (λ r. r ≡ refusal) → IfSome held (λ h. IsFileAnswer x y (file_of h from) found) → RefusesText (next bytes) refusal → IfSome held (λ h. WhereExpected (AfterRead (file_of h from) next) (λ work. IsFileAnswer x z (answer_of work) result))
+pub text_refused : (x y z : ℕ) (held : Option HeldFiles) (from bytes : List ℕ) (next : List ℕ → Expected → Type 0) (found : Result (List ℕ) Refusal) (refusal : Refusal) (result : Answer) → found ≡ Ok bytes → IsErrAnd result (λ r. r ≡ refusal) → IfSome held (λ h. IsFileAnswer x y (file_of h from) found) → RefusesText (next bytes) refusal → IfSome held (λ h. WhereExpected (AfterRead (file_of h from) next) (λ work. IsFileAnswer x z (answer_of work) result))
 text_refused x y z None from bytes next found refusal result is err read h = tt
 text_refused x y z (Some held) from bytes next found refusal result is err read h =
     refused_one x z (file_of held from) next bytes refusal result (read_is x y (file_of held from) bytes (subst (IsFileAnswer x y (file_of held from)) is read)) (is_err refusal result err) h
@@ -52,7 +52,7 @@ refused_two x z wanted next read (Map fault) result e is h = λ work w. (Err (Ma
 refused_two x z wanted next read other result e is h = absurd h
 
 -- a kernel or a map that was read and is refused
-pub eval_not_run : (x y : ℕ) (held : Option Held) (task : Task) (read : List ℕ × List ℕ) (found : Result (List ℕ × List ℕ) Refusal) (next : List ℕ × List ℕ → Expected → Type 0) (refusal : Refusal) (result : Answer) → found ≡ Ok read → IfSome held (λ h. IsFileAnswer x y (task_files h task) found) → IsErrAnd result (λ r. r ≡ refusal) → RefusesEval (next read) refusal → IfSome held (λ h. WhereExpected (AfterRead (task_files h task) next) (λ work. IsFileAnswer x y (answer_of work) result))
+pub eval_not_run : (x y : ℕ) (held : Option HeldFiles) (task : Task) (read : List ℕ × List ℕ) (found : Result (List ℕ × List ℕ) Refusal) (next : List ℕ × List ℕ → Expected → Type 0) (refusal : Refusal) (result : Answer) → found ≡ Ok read → IfSome held (λ h. IsFileAnswer x y (task_files h task) found) → IsErrAnd result (λ r. r ≡ refusal) → RefusesEval (next read) refusal → IfSome held (λ h. WhereExpected (AfterRead (task_files h task) next) (λ work. IsFileAnswer x y (answer_of work) result))
 eval_not_run x y None task read found next refusal result is answer err h = tt
 eval_not_run x y (Some held) task read found next refusal result is answer err h =
     refused_two x y (task_files held task) next read refusal result (read_is x y (task_files held task) read (subst (IsFileAnswer x y (task_files held task)) is answer)) (is_err refusal result err) h

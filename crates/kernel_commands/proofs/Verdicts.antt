@@ -1,7 +1,7 @@
 -- Some work is wanted of each text of a kernel, and one alone.
 use Rattle.std.proofs.Common.{◌≡◌, ℕ, Bool, true, false, cond, List, length, Option, Some, None, Result, Ok, Err, refl, sym, ap, ◌∙◌, subst}
 use Rattle.std.specs.Prelude.{nat_lt, option_map}
-use Rattle.kernel_tree.specs.Word.{Word}
+use Rattle.kernel_tree.specs.TextToken.{TextToken}
 use Rattle.kernel_tree.specs.Plain.{Program}
 use Rattle.kernel_tree.specs.Tokens.{tokens_of}
 use Rattle.kernel_tree.specs.Limits.{most_bytes, most_tokens}
@@ -71,10 +71,10 @@ deep_limit : (o : Option ℕ) → IsLimit (option_map reading.TooDeep o)
 deep_limit None = tt
 deep_limit (Some token) = tt
 
-words_limit : (words : List Word) → IsLimit (words_fault words)
+words_limit : (words : List TextToken) → IsLimit (words_fault words)
 words_limit words = either_limit (nat_lt most_tokens (length words)) (Some reading.TooLong) (option_map reading.TooDeep (deep_place words)) tt (deep_limit (deep_place words))
 
-tokens_limit : (r : Result (List Word) ℕ) → IsLimit (tokens_fault r)
+tokens_limit : (r : Result (List TextToken) ℕ) → IsLimit (tokens_fault r)
 tokens_limit (Ok words) = words_limit words
 tokens_limit (Err at) = tt
 

@@ -14,7 +14,7 @@ use Rattle.refusals.specs.declared.refusal.Refusal.{Refusal}
 use Rattle.refusals.specs.declared.refusal.Refusal.TheVariants.{Usage, TooManyLive, Kernel, Elf, Map, Asm, Pipe, Memory as NoMemory}
 use Rattle.refusals.specs.declared.refusal.Done.{Done}
 use Rattle.refusals.specs.declared.refusal.Done.TheVariants as done
-use Rattle.command_answers.specs.Answer.{Held, Expected, Answer}
+use Rattle.command_answers.specs.Answer.{HeldFiles, Expected, Answer}
 use Rattle.command_answers.specs.Reads.{and_then, file_of, task_files, AfterRead}
 use Rattle.command_answers.specs.Works.{ended, mapped, dump_of}
 use Rattle.kernel_commands.specs.Kernels.{ByVerdict}
@@ -28,7 +28,7 @@ abbrev pub CheckExpects : List ℕ → Expected → Type 0
 CheckExpects text work = ByVerdict checked text work
 
 -- what is wanted of `check` for the file under a name
-abbrev pub ExpectsCheck : Held → List ℕ → Expected → Type 0
+abbrev pub ExpectsCheck : HeldFiles → List ℕ → Expected → Type 0
 ExpectsCheck held from work = AfterRead (file_of held from) CheckExpects work
 
 -- ---- eval
@@ -65,7 +65,7 @@ abbrev pub EvalExpects : Task → (text map : List ℕ) → Expected → Type 0
 EvalExpects task text map work = ByVerdict (eval_kernel task map) text work
 
 -- what is wanted of `eval` for the files of a task
-abbrev pub ExpectsEval : Held → Task → Expected → Type 0
+abbrev pub ExpectsEval : HeldFiles → Task → Expected → Type 0
 ExpectsEval held task work = AfterRead (task_files held task) (λ files. EvalExpects task files.0 files.1) work
 
 -- ---- refusals

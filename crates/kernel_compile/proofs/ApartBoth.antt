@@ -474,7 +474,7 @@ module _ (k : Program) (args : List ℕ) where
         first_part true c e = refl
         first_part false c e = absurd cc
 
-    separate : (n : ℕ) → by_use.Spread args n (used_of k) → Separate k args n
+    separate : (n : ℕ) → by_use.ApartInRange args n (used_of k) → Separate k args n
     separate n h = record {
       few = h.0;
       based = λ p some. is_based n p (is_used n p some) h.1;
@@ -492,10 +492,10 @@ module _ (k : Program) (args : List ℕ) where
     }
 
 -- the loop's bound is a parameter, with its argument as its value
-pub apart_both : (k : Program) (args : List ℕ) (l : PlainLoop) → ((s : Stream) → In s (streams_of k) → IsTyped k.params s) → ((r : Reach) → Among r (reaches_of k) → IsReadTyped k.params r) → k.turns ≡ Some l → bound_of l (argument_names k.params args) ≡ slice_index args (bound_place k) → by_use.Apart k args → StreamsApart k args
+pub apart_both : (k : Program) (args : List ℕ) (l : PlainLoop) → ((s : Stream) → In s (streams_of k) → IsTyped k.params s) → ((r : Reach) → Among r (reaches_of k) → IsReadTyped k.params r) → k.for_loop ≡ Some l → bound_of l (argument_names k.params args) ≡ slice_index args (bound_place k) → by_use.Apart k args → StreamsApart k args
 apart_both k args l typed read_typed is bound h = subst (λ o. StreamsApartBy k args o) (sym is) (by h)
   where
     by : by_use.Apart k args → StreamsApartBy k args (Some l)
     by (inl none) = inl (none_stored k args typed read_typed none)
     by (inr (inl few)) = inr (inl (alone k args typed read_typed few))
-    by (inr (inr spread)) = inr (inr (subst (λ n. Separate k args n) (sym bound) (separate k args typed read_typed (slice_index args (bound_place k)) spread)))
+    by (inr (inr in_range)) = inr (inr (subst (λ n. Separate k args n) (sym bound) (separate k args typed read_typed (slice_index args (bound_place k)) in_range)))

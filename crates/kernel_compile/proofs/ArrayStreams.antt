@@ -5,7 +5,7 @@ use Rattle.std.specs.List.{cons_option}
 use Rattle.kernel_tree.specs.declared.ops.Ty.{Ty}
 use Rattle.kernel_tree.specs.Plain.{Term, Literal, Variable, Element, Unary, Operation, Shift, Conversion, Choice, Comparison, Both, Either, Not, Action, Define, Put, Update, Choose, Leave, Block, Done, Then, Otherwise, Nothing, Else, Parameter, PlainLoop, Program}
 use Rattle.kernel_tree.specs.Items.{stream_offset, loop_index, index_items, loop_start}
-use Rattle.kernel_tree.specs.Typing.{Scope, Local, Role, Value, lookup, element_type, as_value, read_faults, wanted, first, own, faults, inner_faults, index_faults, action_faults, block_faults, otherwise_faults, after_action, after_block, defined, left, in_loop, var_scope, turns_faults, check_fault}
+use Rattle.kernel_tree.specs.Typing.{Scope, Local, Role, Value, lookup, element_type, as_value, read_faults, wanted, first, own, faults, inner_faults, index_faults, action_faults, block_faults, otherwise_faults, after_action, after_block, defined, left, in_loop, var_scope, for_loop_faults, check_fault}
 use Rattle.kernel_tree.proofs.Names.{array_of, array_before}
 use Rattle.kernel_tree.proofs.Faultless.{nil-left, nil-right, loop_faultless}
 use Rattle.kernel_tree.proofs.NoFault.{read_some, target_some}
@@ -14,7 +14,7 @@ use Rattle.loop_form.specs.declared.stream.Stream.{Stream}
 use Rattle.loop_form.specs.declared.reach.Reach.{Reach}
 use Rattle.loop_form.specs.Reaches.{read_reach, reached, reach_in, reach_at, reaches_of}
 use Rattle.vector_order.specs.Apart.{Among}
-use Rattle.loop_form.specs.Entries.{Content, IsLiteral, IsName, IsRead, IsLet, IsStore, IsUpdate, IsPlain, Entry, inner_entries, term_entries, action_entries, block_entries, otherwise_entries, turns_entries, loop_entries}
+use Rattle.loop_form.specs.Entries.{Content, IsLiteral, IsName, IsRead, IsLet, IsStore, IsUpdate, IsPlain, Entry, inner_entries, term_entries, action_entries, block_entries, otherwise_entries, for_loop_entries, loop_entries}
 use Rattle.loop_form.specs.Streams.{place_of, access, access_of, stream_of, streams_of, type_of_place, In}
 use Rattle.loop_form.proofs.ArrayNames.{head_fits}
 use Rattle.kernel_tree.specs.declared.ops.Ty.TheVariants as ty
@@ -111,12 +111,12 @@ module _ (k : Program) where
   head_found : (l : PlainLoop) → Found k.params (in_loop (var_scope k) l).visible
   head_found l a t e = let r = head_fits k l a t e in (r.0, r.2, r.3)
 
-  turns_arrays : (from f : ℕ) (o : Option PlainLoop) → (var_scope k).index ≡ loop_index k → turns_faults (var_scope k) from o ≡ [] → AreArrays k.params (turns_entries k f o)
-  turns_arrays from f None q h = tt
-  turns_arrays from f (Some l) q h = (tt, block_arrays l.body (in_loop (var_scope k) l) _ _ q (head_found l) (nil-right _ _ (nil-right _ _ h)))
+  for_loop_arrays : (from f : ℕ) (o : Option PlainLoop) → (var_scope k).index ≡ loop_index k → for_loop_faults (var_scope k) from o ≡ [] → AreArrays k.params (for_loop_entries k f o)
+  for_loop_arrays from f None q h = tt
+  for_loop_arrays from f (Some l) q h = (tt, block_arrays l.body (in_loop (var_scope k) l) _ _ q (head_found l) (nil-right _ _ (nil-right _ _ h)))
 
 loop_arrays : (k : Program) → check_fault k ≡ None → AreArrays k.params (loop_entries k)
-loop_arrays k e = turns_arrays k _ (loop_start k) k.turns (scope_index k) (loop_faultless k e)
+loop_arrays k e = for_loop_arrays k _ (loop_start k) k.for_loop (scope_index k) (loop_faultless k e)
 
 -- ---- the accesses
 

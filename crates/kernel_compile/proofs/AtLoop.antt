@@ -137,7 +137,7 @@ pub record Bounded (R : ℕ → ℕ) (k : Program) (l : PlainLoop) (args : List 
   pub first : bound_of l (argument_names k.params args) ≡ slice_index args (bound_place k)
   pub held : x_at s (bound_place k) ≡ slice_index args (bound_place k)
 
-pub bounded : (R : ℕ → ℕ) (k : Program) (l : PlainLoop) (args : List ℕ) (m : Memory) (names : Names) (s : State) → check_fault k ≡ None → k.turns ≡ Some l → All (λ arg. arg < 2 ^ 64) args → started k args m ≡ Some names → AreHeld (kernel_homes R k) names s → Bounded R k l args names s
+pub bounded : (R : ℕ → ℕ) (k : Program) (l : PlainLoop) (args : List ℕ) (m : Memory) (names : Names) (s : State) → check_fault k ≡ None → k.for_loop ≡ Some l → All (λ arg. arg < 2 ^ 64) args → started k args m ≡ Some names → AreHeld (kernel_homes R k) names s → Bounded R k l args names s
 bounded R k l args m names s sound is small start h =
     let seen = bound_scalar k l sound is in
     let more = started_names k args m names start in

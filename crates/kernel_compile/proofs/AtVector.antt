@@ -78,10 +78,10 @@ at_same R k i names m s t low same sized memory at = record {
 
 -- ---- a kernel of class Vector has a loop
 
-pub has_loop : (k : Program) → class_of k ≡ Vector → (l : PlainLoop) × (k.turns ≡ Some l)
-has_loop k e = by k.turns refl e
+pub has_loop : (k : Program) → class_of k ≡ Vector → (l : PlainLoop) × (k.for_loop ≡ Some l)
+has_loop k e = by k.for_loop refl e
   where
-    by : (o : Option PlainLoop) → k.turns ≡ o → (if is_none o then Scalar why.NoLoop else class_by (reason k (loop_entries k))) ≡ Vector → (l : PlainLoop) × (k.turns ≡ Some l)
+    by : (o : Option PlainLoop) → k.for_loop ≡ o → (if is_none o then Scalar why.NoLoop else class_by (reason k (loop_entries k))) ≡ Vector → (l : PlainLoop) × (k.for_loop ≡ Some l)
     by None f e = absurd cc
     by (Some l) f e = (l, f)
 
@@ -89,9 +89,9 @@ has_loop k e = by k.turns refl e
 
 -- the ground of a loop that begins in a state
 abbrev pub ground_of : (k : Program) (l : PlainLoop) (a b : Assignment) (args : List ℕ) (m : Memory) (names : Names) (s : State) → Ground
-ground_of k l a b args m names s = record { kernel = k; turns = l; vectors = a; predicates = b; args = args; start = m; names = names; vl = s.vl; x = s.x }
+ground_of k l a b args m names s = record { kernel = k; for_loop = l; vectors = a; predicates = b; args = args; start = m; names = names; vl = s.vl; x = s.x }
 
-pub is_ground : (R : ℕ → ℕ) (k : Program) (l : PlainLoop) (a b : Assignment) (args : List ℕ) (m : Memory) (names : Names) (s : State) → ∥ IsTree k ∥₁ → check_fault k ≡ None → class_of k ≡ Vector → length k.params ≤ 8 → bound_place k ≤ 7 → FitsKernel k Z a → FitsKernel k P b → k.turns ≡ Some l
+pub is_ground : (R : ℕ → ℕ) (k : Program) (l : PlainLoop) (a b : Assignment) (args : List ℕ) (m : Memory) (names : Names) (s : State) → ∥ IsTree k ∥₁ → check_fault k ≡ None → class_of k ≡ Vector → length k.params ≤ 8 → bound_place k ≤ 7 → FitsKernel k Z a → FitsKernel k P b → k.for_loop ≡ Some l
     → All (λ arg. arg < 2 ^ 64) args → started k args m ≡ Some names → AtIteration R k 0 names m s → IsLength s.vl → by_use.Apart k args → IsGround (ground_of k l a b args m names s)
 is_ground R k l a b args m names s spelled sound vector few near z p loops small start at sized apart =
     let bound = bounded R k l args m names s sound loops small start at.held in

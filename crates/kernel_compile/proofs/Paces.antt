@@ -6,11 +6,11 @@ use Rattle.guest_types.specs.Memory.{Memory}
 use Rattle.machine_model.specs.declared.outcome.StopKind.{StopKind}
 use Rattle.machine_model.specs.Machine.{State}
 use Rattle.machine_model.specs.Run.{End, Stop}
-use Rattle.label_fix.specs.DraftRun.{Entry, Laid, draft_run}
-use Rattle.label_fix.specs.Cuts.{cuts}
+use Rattle.label_fix.specs.DraftRun.{DraftEntry, Laid, draft_run}
+use Rattle.label_fix.specs.Suppressions.{cuts}
 use Rattle.label_fix.specs.Stretches.{Goes, Paced, StopsPaced, EndsPaced}
 
-paced_after : {d : Laid} {c e : List Entry} {s t : State} {most : ℕ} (count unit base : ℕ) → (g : Goes d c s e t most) → Paced d e t count unit base → Paced d c s (g.count + count) unit (most + base)
+paced_after : {d : Laid} {c e : List DraftEntry} {s t : State} {most : ℕ} (count unit base : ℕ) → (g : Goes d c s e t most) → Paced d e t count unit base → Paced d c s (g.count + count) unit (most + base)
 paced_after {d = d} {c = c} {e = e} {s = s} {t = t} {most = most} count unit base g p n lt =
     ⊎_elim
     (λ (before : n < g.count). let a = g.within in omega (arith, before, a))
@@ -24,7 +24,7 @@ paced_after {d = d} {c = c} {e = e} {s = s} {t = t} {most = most} count unit bas
     omega (arith, q, a, b, same))
     (cases_lt n g.count)
 
-pub end_paced : {d : Laid} {c e : List Entry} {s t : State} {most : ℕ} {m : Memory} {result unit base : ℕ} → Goes d c s e t most → EndsPaced d e t m result unit base → EndsPaced d c s m result unit (most + base)
+pub end_paced : {d : Laid} {c e : List DraftEntry} {s t : State} {most : ℕ} {m : Memory} {result unit base : ℕ} → Goes d c s e t most → EndsPaced d e t m result unit base → EndsPaced d c s m result unit (most + base)
 end_paced {d = d} {c = c} {s = s} {m = m} {result = result} {unit = unit} {base = base} a b = record {
   count = a.count + b.count;
   by = λ k taken.
@@ -34,7 +34,7 @@ end_paced {d = d} {c = c} {s = s} {m = m} {result = result} {unit = unit} {base 
   paced = paced_after b.count unit base a b.paced;
 }
 
-pub stop_paced : {d : Laid} {c e : List Entry} {s t : State} {most : ℕ} {kind : StopKind} {m : Memory} {unit base : ℕ} → Goes d c s e t most → StopsPaced d e t kind m unit base → StopsPaced d c s kind m unit (most + base)
+pub stop_paced : {d : Laid} {c e : List DraftEntry} {s t : State} {most : ℕ} {kind : StopKind} {m : Memory} {unit base : ℕ} → Goes d c s e t most → StopsPaced d e t kind m unit base → StopsPaced d c s kind m unit (most + base)
 stop_paced {d = d} {c = c} {s = s} {kind = kind} {m = m} {unit = unit} {base = base} a b = record {
   count = a.count + b.count;
   pc = b.pc;
@@ -46,17 +46,17 @@ stop_paced {d = d} {c = c} {s = s} {kind = kind} {m = m} {unit = unit} {base = b
   paced = paced_after b.count unit base a b.paced;
 }
 
-pub end_count : {d : Laid} {c e : List Entry} {s t : State} {most : ℕ} {m : Memory} {result unit base : ℕ} (a : Goes d c s e t most) (b : EndsPaced d e t m result unit base) → (end_paced a b).count ≡ a.count + b.count
+pub end_count : {d : Laid} {c e : List DraftEntry} {s t : State} {most : ℕ} {m : Memory} {result unit base : ℕ} (a : Goes d c s e t most) (b : EndsPaced d e t m result unit base) → (end_paced a b).count ≡ a.count + b.count
 unfolding end_paced
 end_count a b = refl
 
-pub stop_count : {d : Laid} {c e : List Entry} {s t : State} {most : ℕ} {kind : StopKind} {m : Memory} {unit base : ℕ} (a : Goes d c s e t most) (b : StopsPaced d e t kind m unit base) → (stop_paced a b).count ≡ a.count + b.count
+pub stop_count : {d : Laid} {c e : List DraftEntry} {s t : State} {most : ℕ} {kind : StopKind} {m : Memory} {unit base : ℕ} (a : Goes d c s e t most) (b : StopsPaced d e t kind m unit base) → (stop_paced a b).count ≡ a.count + b.count
 unfolding stop_paced
 stop_count a b = refl
 
 -- ---- the bound
 
 -- a run within a pace that gives no more words has come to its end
-pub enough : (d : Laid) (c : List Entry) (s : State) (count unit base steps : ℕ) → base + unit * cuts d steps c s ≤ steps → Paced d c s count unit base → count ≤ steps
+pub enough : (d : Laid) (c : List DraftEntry) (s : State) (count unit base steps : ℕ) → base + unit * cuts d steps c s ≤ steps → Paced d c s count unit base → count ≤ steps
 enough d c s count unit base steps few paced =
     ⊎_elim (λ (short : steps < count). (let lt = paced steps short in absurd (omega (arith, lt, few)))) (λ (long : count ≤ steps). long) (cases_lt steps count)

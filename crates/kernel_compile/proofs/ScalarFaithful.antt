@@ -11,7 +11,7 @@ use Rattle.kernel_meaning.specs.ScalarRun as scalar
 use Rattle.kernel_meaning.specs.ScalarRun.{begun, scalar_run}
 use Rattle.kernel_meaning.proofs.RunsFrom.{start_within, whole_run}
 use Rattle.close_bound.specs.CloseBound.{iteration_steps, outside_steps}
-use Rattle.label_fix.specs.DraftRun.{Entry, Laid, draft_run}
+use Rattle.label_fix.specs.DraftRun.{DraftEntry, Laid, draft_run}
 use Rattle.label_fix.specs.Finished.{AreFit, StandAt, size, words_of}
 use Rattle.label_fix.specs.Stretches.{Goes, Resolves}
 use Rattle.label_fix.proofs.StretchSteps.{stop_after, end_after}
@@ -26,12 +26,12 @@ use Rattle.kernel_compile.proofs.FileStart.{starts, start_memory, words_stand}
 
 -- ---- runs that end
 
-pub comes_after : {D : Laid} {c e : List Entry} {s t : State} {K F G i a : ℕ} {r : scalar.Run} → F + a ≤ G → Goes D c s e t a → Comes D e t K F i r → Comes D c s K G i r
+pub comes_after : {D : Laid} {c e : List DraftEntry} {s t : State} {K F G i a : ℕ} {r : scalar.Run} → F + a ≤ G → Goes D c s e t a → Comes D e t K F i r → Comes D c s K G i r
 comes_after {K = K} {G = G} le g (ends_so n e h) = ends_so n e (end_after (K * n + G) (omega arith) g h)
 comes_after {K = K} {G = G} le g (faults_so n kind e ok h) = faults_so n kind e ok (stop_after (K * n + G) (omega arith) g h)
 
 -- the outcome of a run of enough steps
-pub comes_follow : {D : Laid} {c : List Entry} {s : State} {K F : ℕ} {r : scalar.Run} (k : Program) (args : List ℕ) (vl steps : ℕ) → K * begun r + F ≤ steps → Comes D c s K F 0 r → Follows k args vl r (draft_run D steps 0 c s)
+pub comes_follow : {D : Laid} {c : List DraftEntry} {s : State} {K F : ℕ} {r : scalar.Run} (k : Program) (args : List ℕ) (vl steps : ℕ) → K * begun r + F ≤ steps → Comes D c s K F 0 r → Follows k args vl r (draft_run D steps 0 c s)
 comes_follow {D = D} {c = c} {s = s} {K = K} {F = F} k args vl steps le (ends_so {bg = bg} n e h) =
     let z : bg ≡ n = omega (arith, e) in
     let p = ap (λ x. K * x) z in
@@ -61,11 +61,11 @@ module _ (R : ℕ → ℕ) (k : Program) (begins : BeginRuns R k) (runs : Scalar
       → Comes D (begin_code R k 0 (scalar_code R k n [])) s (iteration_steps k) (outside_steps k) 0 (scalar_run k args m)
   code_comes D n args m s given all res =
       let b = begins D 0 (scalar_code R k n []) args m s given all in
-      let c = runs.reached D n [] 0 b.names m b.end res (start_within k.turns b.names) b.at in
+      let c = runs.reached D n [] 0 b.names m b.end res (start_within k.for_loop b.names) b.at in
       subst (λ r. Comes D (begin_code R k 0 (scalar_code R k n [])) s (iteration_steps k) (outside_steps k) 0 r) (whole_run k args m b.names b.starts) (comes_after (omega arith) b.goes c)
 
   -- Entries that are the code of a kernel, after a front, come to a file that does what the kernel says.
-  pub compiled : (labels n : ℕ) (entries front : List Entry) (words : List ℕ) → entries ≡ front ++ scalar_code R k n [] → entries ≡ begin_code R k 0 (scalar_code R k n []) → Once entries → AreFit labels entries → size entries ≤ 65536 → words ≡ words_of entries → All (λ w. w < 2 ^ 32) words
+  pub compiled : (labels n : ℕ) (entries front : List DraftEntry) (words : List ℕ) → entries ≡ front ++ scalar_code R k n [] → entries ≡ begin_code R k 0 (scalar_code R k n []) → Once entries → AreFit labels entries → size entries ≤ 65536 → words ≡ words_of entries → All (λ w. w < 2 ^ 32) words
       → CloseSlowFaithful k (file_of words)
   compiled labels n entries front words following begun_by placed fits few is small =
       let many : length words ≤ 65536 = omega (arith, ap length is, words_length entries) in
@@ -89,12 +89,12 @@ module _ (R : ℕ → ℕ) (k : Program) (begins : BeginRuns R k) (runs : Scalar
       }
 
 -- what the two emitting calls leave in a draft
-pub record Emitted (R : ℕ → ℕ) (k : Program) (n : ℕ) (entries front : List Entry) : Type 0 where
+pub record Emitted (R : ℕ → ℕ) (k : Program) (n : ℕ) (entries front : List DraftEntry) : Type 0 where
   pub following : entries ≡ front ++ scalar_code R k n []
   pub begun_by : entries ≡ begin_code R k 0 (scalar_code R k n [])
   pub placed : Once entries
 
-pub emitted : (R : ℕ → ℕ) (k : Program) (l0 l1 : ℕ) (e0 e1 e2 : List Entry) → e0 ≡ [] → l0 ≡ 0 → l1 ≡ l0 + begin_labels k → ((rest : List Entry) → e1 ++ rest ≡ e0 ++ begin_code R k l0 rest) → ((rest : List Entry) → e2 ++ rest ≡ e1 ++ scalar_code R k l1 rest) → Emitted R k l1 e2 e1
+pub emitted : (R : ℕ → ℕ) (k : Program) (l0 l1 : ℕ) (e0 e1 e2 : List DraftEntry) → e0 ≡ [] → l0 ≡ 0 → l1 ≡ l0 + begin_labels k → ((rest : List DraftEntry) → e1 ++ rest ≡ e0 ++ begin_code R k l0 rest) → ((rest : List DraftEntry) → e2 ++ rest ≡ e1 ++ scalar_code R k l1 rest) → Emitted R k l1 e2 e1
 emitted R k l0 l1 e0 e1 e2 none first next begin scalar =
     let code = scalar_code R k l1 [] in
     let following : e2 ≡ e1 ++ code = sym (append-nil e2) ∙ scalar [] in

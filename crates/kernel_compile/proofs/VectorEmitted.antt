@@ -2,13 +2,13 @@
 use Rattle.std.proofs.Common.{◌≡◌, ℕ, ◌+◌, ◌*◌, ◌<◌, ◌≤◌, List, [], ◌∷◌, ◌++◌, length, append-nil, Option, Some, None, sym, ap, ◌∙◌, subst, arith}
 use Rattle.kernel_tree.specs.Plain.{PlainLoop, Returned, Program}
 use Rattle.kernel_tree.specs.Items.{size_of, loop_index}
-use Rattle.label_fix.specs.DraftRun.{Entry, Branch, Place, Always}
+use Rattle.label_fix.specs.DraftRun.{DraftEntry, Branch, Place, Always}
 use Rattle.label_fix.specs.Finished.{size}
 use Rattle.label_fix.proofs.LabelsOnce.{Once}
 use Rattle.label_fix.proofs.PlacedRuns.{size-append}
 use Rattle.reg_assign.specs.Registers.{Assignment}
 use Rattle.dependence.specs.Apart.{used_of}
-use Rattle.scalar_emit.specs.Kernel.{begin_code, begin_labels, scalar_code, scalar_labels, turns_labels}
+use Rattle.scalar_emit.specs.Kernel.{begin_code, begin_labels, scalar_code, scalar_labels, for_loop_labels}
 use Rattle.overlap_guard.specs.Guard.{is_free, guard_code}
 use Rattle.overlap_guard.proofs.Placed.{guard_words}
 use Rattle.vector_emit.specs.VectorCode.{vector_code}
@@ -19,30 +19,30 @@ use Rattle.kernel_compile.proofs.VectorFiles.{IsWhole}
 
 -- Drafts one after another, each by its labels and entries, and how each comes of the one before it: a label for the vector
 -- part, the code before the loop, a branch, scalar code, the label's place, the guard and the vector part.
-pub record Emitted (R : ℕ → ℕ) (k : Program) (a b : Assignment) (vector scalar n0 n1 n2 n3 n4 n5 n6 : ℕ) (e0 e1 e2 e3 e4 e5 e6 e7 : List Entry) : Type 0 where
+pub record Emitted (R : ℕ → ℕ) (k : Program) (a b : Assignment) (vector scalar n0 n1 n2 n3 n4 n5 n6 : ℕ) (e0 e1 e2 e3 e4 e5 e6 e7 : List DraftEntry) : Type 0 where
   pub none : e0 ≡ []
   pub first : n0 ≡ 0
   pub label : vector ≡ n0
   pub one : n1 ≡ n0 + 1
   pub same : e1 ≡ e0
   pub begun : n2 ≡ n1 + begin_labels k
-  pub begin : (rest : List Entry) → e2 ++ rest ≡ e1 ++ begin_code R k n1 rest
+  pub begin : (rest : List DraftEntry) → e2 ++ rest ≡ e1 ++ begin_code R k n1 rest
   pub branched : n3 ≡ n2
-  pub branch : (rest : List Entry) → e3 ++ rest ≡ e2 ++ Branch Always vector ∷ rest
+  pub branch : (rest : List DraftEntry) → e3 ++ rest ≡ e2 ++ Branch Always vector ∷ rest
   pub entry : scalar ≡ n3
   pub looped : n4 ≡ n3 + scalar_labels k
-  pub loop : (rest : List Entry) → e4 ++ rest ≡ e3 ++ scalar_code R k n3 rest
+  pub loop : (rest : List DraftEntry) → e4 ++ rest ≡ e3 ++ scalar_code R k n3 rest
   pub placed : n5 ≡ n4
-  pub place : (rest : List Entry) → e5 ++ rest ≡ e4 ++ Place vector ∷ rest
+  pub place : (rest : List DraftEntry) → e5 ++ rest ≡ e4 ++ Place vector ∷ rest
   pub guarded : n6 ≡ guard_end k n5
-  pub guard : (rest : List Entry) → e6 ++ rest ≡ e5 ++ guard_code k scalar n5 rest
-  pub lanes : (rest : List Entry) → e7 ++ rest ≡ e6 ++ vector_code R k a b scalar n6 rest
+  pub guard : (rest : List DraftEntry) → e6 ++ rest ≡ e5 ++ guard_code k scalar n5 rest
+  pub lanes : (rest : List DraftEntry) → e7 ++ rest ≡ e6 ++ vector_code R k a b scalar n6 rest
 
 -- scalar code has a label
 some_label : (k : Program) → 1 ≤ scalar_labels k
-some_label k = by (loop_index k) k.turns k.answer
+some_label k = by (loop_index k) k.for_loop k.answer
   where
-    by : (i : Option (List ℕ)) (l : Option PlainLoop) (answer : Option Returned) → 1 ≤ turns_labels i l answer
+    by : (i : Option (List ℕ)) (l : Option PlainLoop) (answer : Option Returned) → 1 ≤ for_loop_labels i l answer
     by i None answer = omega arith
     by i (Some l) answer = omega arith
 
@@ -50,7 +50,7 @@ some_label k = by (loop_index k) k.turns k.answer
 pub label_given : (k : Program) (scalar n3 n4 n5 n6 : ℕ) → scalar ≡ n3 → n4 ≡ n3 + scalar_labels k → n5 ≡ n4 → n6 ≡ guard_end k n5 → scalar < n6
 label_given k scalar n3 n4 n5 n6 s v u g = let h = grows_by (is_free (used_of k)) n5 (used_of k) in omega (arith, s, u, v, g, h, some_label k)
 
-module _ {R : ℕ → ℕ} {k : Program} {a b : Assignment} {vector scalar n0 n1 n2 n3 n4 n5 n6 : ℕ} {e0 e1 e2 e3 e4 e5 e6 e7 : List Entry} (d : Emitted R k a b vector scalar n0 n1 n2 n3 n4 n5 n6 e0 e1 e2 e3 e4 e5 e6 e7) where
+module _ {R : ℕ → ℕ} {k : Program} {a b : Assignment} {vector scalar n0 n1 n2 n3 n4 n5 n6 : ℕ} {e0 e1 e2 e3 e4 e5 e6 e7 : List DraftEntry} (d : Emitted R k a b vector scalar n0 n1 n2 n3 n4 n5 n6 e0 e1 e2 e3 e4 e5 e6 e7) where
   zero_label : vector ≡ 0
   zero_label = d.label ∙ d.first
 

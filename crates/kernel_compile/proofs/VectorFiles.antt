@@ -13,8 +13,8 @@ use Rattle.kernel_tree.specs.Plain.{Program}
 use Rattle.kernel_meaning.specs.ScalarRun.{begun, scalar_run}
 use Rattle.reg_assign.specs.Registers.{Assignment}
 use Rattle.close_bound.specs.CloseBound.{close_bound}
-use Rattle.label_fix.specs.DraftRun.{Entry, Laid, Place, draft_run}
-use Rattle.label_fix.specs.Cuts.{cuts}
+use Rattle.label_fix.specs.DraftRun.{DraftEntry, Laid, Place, draft_run}
+use Rattle.label_fix.specs.Suppressions.{cuts}
 use Rattle.label_fix.specs.Finished.{AreFit, StandAt, size, words_of}
 use Rattle.label_fix.proofs.LabelsOnce.{Once, resolves_in}
 use Rattle.label_fix.proofs.PlacedRuns.{runs_as_draft, cuts_are_suppressed, words_length}
@@ -23,7 +23,7 @@ use Rattle.scalar_emit.specs.Runs.{HasArguments}
 use Rattle.promises.specs.Faithful.{Follows, IsFaithful, IsAny, FreeEnds, CloseFaithful, end_steps}
 use Rattle.kernel_compile.proofs.FileStart.{image_memory, starts, start_memory, words_stand}
 use Rattle.kernel_compile.proofs.VectorPlaced.{whole_code}
-use Rattle.kernel_compile.proofs.VectorJoin.{scalar_part, guard_part, vector_part, IsJoined, Suffices, by_close, by_turns, code_follows}
+use Rattle.kernel_compile.proofs.VectorJoin.{scalar_part, guard_part, vector_part, IsJoined, Suffices, by_close, by_iterations, code_follows}
 
 -- ---- the state at the start
 
@@ -47,13 +47,13 @@ start_length words args pages vl stops = refl
 -- ---- the file
 
 -- Entries are the code of a kernel, and each part of it stands after a front.
-pub record IsWhole (R : ℕ → ℕ) (k : Program) (a b : Assignment) (n1 n2 n3 : ℕ) (entries : List Entry) : Type 0 where
+pub record IsWhole (R : ℕ → ℕ) (k : Program) (a b : Assignment) (n1 n2 n3 : ℕ) (entries : List DraftEntry) : Type 0 where
   pub all : entries ≡ whole_code R k a b n1 n2 n3
-  pub before_scalar : List Entry
+  pub before_scalar : List DraftEntry
   pub scalar : entries ≡ before_scalar ++ scalar_part R k a b n1 n2 n3
-  pub before_guard : List Entry
+  pub before_guard : List DraftEntry
   pub guard : entries ≡ before_guard ++ Place 0 ∷ guard_part R k a b n1 n2 n3
-  pub before_vector : List Entry
+  pub before_vector : List DraftEntry
   pub vector : entries ≡ before_vector ++ vector_part R k a b n1 n3
   pub placed : Once entries
 
@@ -61,7 +61,7 @@ pub record IsWhole (R : ℕ → ℕ) (k : Program) (a b : Assignment) (n1 n2 n3 
 abbrev IsBound : Program → (Program → (args : List ℕ) (vl m q : ℕ) → ℕ) → Type 0
 IsBound k enough = (args : List ℕ) (vl m cut q steps : ℕ) → cut ≤ q → enough k args vl m q ≤ steps → Suffices k args vl m cut steps
 
-file_within : (enough : Program → (args : List ℕ) (vl m q : ℕ) → ℕ) (k : Program) (a b c : Assignment) (labels n1 n2 n3 : ℕ) (entries : List Entry) (words : List ℕ) → IsBound k enough → IsJoined k a b c → IsWhole (register_in c) k a b n1 n2 n3 entries → AreFit labels entries → size entries ≤ 65536
+file_within : (enough : Program → (args : List ℕ) (vl m q : ℕ) → ℕ) (k : Program) (a b c : Assignment) (labels n1 n2 n3 : ℕ) (entries : List DraftEntry) (words : List ℕ) → IsBound k enough → IsJoined k a b c → IsWhole (register_in c) k a b n1 n2 n3 entries → AreFit labels entries → size entries ≤ 65536
     → words ≡ words_of entries → All (λ w. w < 2 ^ 32) words → IsFaithful enough IsAny k (file_of words)
 file_within enough k a b c labels n1 n2 n3 entries words suffices j w fits few is small =
     let many : length words ≤ 65536 = omega (arith, ap length is, words_length entries) in
@@ -102,8 +102,8 @@ pub record Promised (k : Program) (file : List ℕ) : Type 0 where
   pub close : CloseFaithful k file
   pub ends : FreeEnds k file
 
-pub vector_file : (k : Program) (a b c : Assignment) (labels n1 n2 n3 : ℕ) (entries : List Entry) (words : List ℕ) → IsJoined k a b c → IsWhole (register_in c) k a b n1 n2 n3 entries → AreFit labels entries → size entries ≤ 65536 → words ≡ words_of entries → All (λ w. w < 2 ^ 32) words → Promised k (file_of words)
+pub vector_file : (k : Program) (a b c : Assignment) (labels n1 n2 n3 : ℕ) (entries : List DraftEntry) (words : List ℕ) → IsJoined k a b c → IsWhole (register_in c) k a b n1 n2 n3 entries → AreFit labels entries → size entries ≤ 65536 → words ≡ words_of entries → All (λ w. w < 2 ^ 32) words → Promised k (file_of words)
 vector_file k a b c labels n1 n2 n3 entries words j w fits few is small = record {
   close = file_within close_bound k a b c labels n1 n2 n3 entries words (λ args vl m cut q steps few le. by_close q few le) j w fits few is small;
-  ends = file_within end_steps k a b c labels n1 n2 n3 entries words (λ args vl m cut q steps few le. by_turns q le) j w fits few is small;
+  ends = file_within end_steps k a b c labels n1 n2 n3 entries words (λ args vl m cut q steps few le. by_iterations q le) j w fits few is small;
 }

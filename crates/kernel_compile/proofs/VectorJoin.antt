@@ -28,8 +28,8 @@ use Rattle.close_bound.proofs.CloseBounds.{pass_few, last_few, outside_few}
 use Rattle.dependence.specs.Classes.{class_of}
 use Rattle.dependence.specs.declared.reason.Class.TheVariants.{Vector}
 use Rattle.dependence.proofs.Bounds.{tested}
-use Rattle.label_fix.specs.DraftRun.{Entry, Laid, Branch, Place, Always, following, address_of, draft_run}
-use Rattle.label_fix.specs.Cuts.{cuts}
+use Rattle.label_fix.specs.DraftRun.{DraftEntry, Laid, Branch, Place, Always, following, address_of, draft_run}
+use Rattle.label_fix.specs.Suppressions.{cuts}
 use Rattle.label_fix.specs.Finished.{AreFit}
 use Rattle.label_fix.specs.Stretches.{Goes, Resolves, Paced}
 use Rattle.label_fix.proofs.StretchSteps.{chain, taken_goes}
@@ -70,7 +70,7 @@ one_by_one k args vector not = ap (λ c. is_vector c && is_apart k args) vector 
 -- the bound that counts iterations alone.
 pub data Suffices (k : Program) (args : List ℕ) (vl m cut steps : ℕ) : Type 0 where
   by_close : (q : ℕ) → cut ≤ q → close_bound k args vl m q ≤ steps → Suffices k args vl m cut steps
-  by_turns : (q : ℕ) → end_steps k args vl m q ≤ steps → Suffices k args vl m cut steps
+  by_iterations : (q : ℕ) → end_steps k args vl m q ≤ steps → Suffices k args vl m cut steps
 
 -- the words up to the loop
 abbrev reach_steps : Program → ℕ
@@ -79,7 +79,7 @@ reach_steps k = 2 + length k.params + 4 * vars_size (loop_index k) k.vars + guar
 -- ---- outcomes
 
 -- a run that ends within the bound
-ends_within : (d : Laid) (c : List Entry) (s : State) (k : Program) (args : List ℕ) (vl steps : ℕ) (m : Memory) (r bg count : ℕ) → count ≤ steps → ((n taken : ℕ) → draft_run d (count + n) taken c s ≡ End m r (taken + count)) → Follows k args vl (scalar.End m r bg) (draft_run d steps 0 c s)
+ends_within : (d : Laid) (c : List DraftEntry) (s : State) (k : Program) (args : List ℕ) (vl steps : ℕ) (m : Memory) (r bg count : ℕ) → count ≤ steps → ((n taken : ℕ) → draft_run d (count + n) taken c s ≡ End m r (taken + count)) → Follows k args vl (scalar.End m r bg) (draft_run d steps 0 c s)
 ends_within d c s k args vl steps m r bg count le by =
     let f : count + (steps - count) ≡ steps = omega (arith, le) in
     (0 + count, ap (λ j. draft_run d j 0 c s) (sym f) ∙ by (steps - count) 0)
@@ -96,7 +96,7 @@ module _ (g : Ground) (is : IsGround g) (memory left faulted : Memory) (bg : ℕ
       (cases_lt a (2 ^ 64))
 
 -- what is mapped at a fault of scalar code, that of the state in which it is entered
-fault_map : {D : Laid} {o : List Entry} {t : State} {K F i bg : ℕ} {m : Memory} (a : ℕ) → Comes D o t K F i (scalar.Fault m bg) → can_read m a ≡ can_read t.memory a
+fault_map : {D : Laid} {o : List DraftEntry} {t : State} {K F i bg : ℕ} {m : Memory} (a : ℕ) → Comes D o t K F i (scalar.Fault m bg) → can_read m a ≡ can_read t.memory a
 fault_map {D = D} {o = o} {t = t} a (faults_so n kind e ok h) = ap (λ x. can_read (memory_left x) a) (sym (h.by 0 0)) ∙ draft_map D (h.count + 0) 0 o t a
 
 -- the bound, by whether the iterations are run in chunks
@@ -106,13 +106,13 @@ close_as k args vl m q steps b e le = subst (λ c. outside_steps k + loop_steps 
 -- the words of scalar code, where iterations are run one by one
 scalar_suffices : (k : Program) (args : List ℕ) (vl m cut steps : ℕ) → length k.params ≤ 8 → runs_in_chunks k args ≡ false → Suffices k args vl m cut steps → iteration_steps k * m + (reach_steps k + ending_steps k) ≤ steps
 scalar_suffices k args vl m cut steps params alone (by_close q few le) = let h = close_as k args vl m q steps false alone le in omega (arith, h)
-scalar_suffices k args vl m cut steps params alone (by_turns q le) =
+scalar_suffices k args vl m cut steps params alone (by_iterations q le) =
     let out = outside_few k params in
     let each : iteration_steps k * m ≤ (32 + 8 * size_of k) * 2 * m = mul-le-mul_right m (let f : iteration_steps k ≤ (32 + 8 * size_of k) * 2 = omega arith in f) in
     omega (arith, out, each, le)
 
 -- A run through the vector part: c is the whole code from the state s on, e the vector part and o the scalar part, both from t on.
-record Entered (g : Ground) (D : Laid) (c e o : List Entry) (s t : State) (vl : ℕ) (m : Memory) : Type 0 where
+record Entered (g : Ground) (D : Laid) (c e o : List DraftEntry) (s t : State) (vl : ℕ) (m : Memory) : Type 0 where
   is : IsGround g
   bound : limit g ≡ slice_index g.args (bound_place g.kernel)
   params : length g.kernel.params ≤ 8
@@ -124,7 +124,7 @@ record Entered (g : Ground) (D : Laid) (c e o : List Entry) (s t : State) (vl : 
   here : t.memory ≡ m
 
 -- so many are run at once
-at_lanes : {g : Ground} {D : Laid} {c e o : List Entry} {s t : State} {vl : ℕ} {m : Memory} → Entered g D c e o s t vl m → at_once g.kernel g.args vl ≡ most_lanes g
+at_lanes : {g : Ground} {D : Laid} {c e o : List DraftEntry} {s t : State} {vl : ℕ} {m : Memory} → Entered g D c e o s t vl m → at_once g.kernel g.args vl ≡ most_lanes g
 at_lanes {g = g} {vl = vl} x = ap (λ b. if b then lanes vl (lane_width_of g.kernel) else 1) x.chunks ∙ x.lanes
 
 -- the words of the passes, with those of some free elements
@@ -132,7 +132,7 @@ in_bound : (U D e r q base rest out last steps : ℕ) → r ≤ q → base + 1 +
 in_bound U D e r q base rest out last steps few within le = let up : U * e * r ≤ U * e * q = mul-le-mul_left (U * e) few in omega (arith, up, within, le)
 
 -- so many steps are not fewer than the words of such a run
-in_steps : {g : Ground} {D : Laid} {c e o : List Entry} {s t : State} {vl : ℕ} {m : Memory} → Entered g D c e o s t vl m → (bg count steps : ℕ) → Suffices g.kernel g.args vl bg (cuts D steps c s) steps
+in_steps : {g : Ground} {D : Laid} {c e o : List DraftEntry} {s t : State} {vl : ℕ} {m : Memory} → Entered g D c e o s t vl m → (bg count steps : ℕ) → Suffices g.kernel g.args vl bg (cuts D steps c s) steps
     → Paced D c s count (vector_unit g) (reach_steps g.kernel + vector_base g bg) → count ≤ reach_steps g.kernel + vector_most g bg → count ≤ steps
 in_steps {g = g} {D = D} {c = c} {s = s} {vl = vl} x bg count steps (by_close q cut le) paced few =
     let k = g.kernel in
@@ -140,14 +140,14 @@ in_steps {g = g} {D = D} {c = c} {s = s} {vl = vl} x bg count steps (by_close q 
     let here : outside_steps k + (pass_steps k * passes k (most_lanes g) bg q + last_steps (has_break k) k) ≤ steps = subst (λ n. outside_steps k + (pass_steps k * passes k n bg q + last_steps (has_break k) k) ≤ steps) x.lanes whole in
     enough D c s count (vector_unit g) (reach_steps k + vector_base g bg) steps
     (in_bound (pass_steps k) (div_ceil bg (most_lanes g)) (spare (has_break k)) (cuts D steps c s) q (reach_steps k) (edge_steps k) (outside_steps k) (last_steps (has_break k) k) steps cut (omega arith) here) paced
-in_steps {g = g} x bg count steps (by_turns q le) paced few =
+in_steps {g = g} x bg count steps (by_iterations q le) paced few =
     let k = g.kernel in
     let out = outside_few k x.params in
     let last = last_few (has_break k) k in
     let each : pass_steps k * (2 * bg + 2) ≤ (32 + 8 * size_of k) * (2 * bg + 2) = mul-le-mul_right (2 * bg + 2) (pass_few k) in
     omega (arith, le, few, out, last, each)
 
-follows_chunk : {g : Ground} {D : Laid} {c e o : List Entry} {s t : State} {vl steps K F : ℕ} {m : Memory} {r : scalar.Run} → Entered g D c e o s t vl m → vectors.Follows g D e t (vector_unit g) (vector_base g) (vector_most g) r → Comes D o t K F 0 r
+follows_chunk : {g : Ground} {D : Laid} {c e o : List DraftEntry} {s t : State} {vl steps K F : ℕ} {m : Memory} {r : scalar.Run} → Entered g D c e o s t vl m → vectors.Follows g D e t (vector_unit g) (vector_base g) (vector_most g) r → Comes D o t K F 0 r
     → Suffices g.kernel g.args vl (begun r) (cuts D steps c s) steps → Follows g.kernel g.args vl r (draft_run D steps 0 c s)
 follows_chunk {g = g} {D = D} {c = c} {s = s} {vl = vl} {steps = steps} x (vectors.ends_so {m = left} {r = result} {bg = bg} w most) h le =
     let all = end_paced x.goes w in
@@ -175,13 +175,13 @@ follows_chunk {g = g} {D = D} {c = c} {s = s} {t = t} {vl = vl} {steps = steps} 
 -- ---- the code
 
 -- the parts of the code, each with what stands after it
-abbrev pub vector_part : (ℕ → ℕ) → Program → (a b : Assignment) → (n1 n3 : ℕ) → List Entry
+abbrev pub vector_part : (ℕ → ℕ) → Program → (a b : Assignment) → (n1 n3 : ℕ) → List DraftEntry
 vector_part R k a b n1 n3 = vector_code R k a b n1 n3 []
 
-abbrev pub guard_part : (ℕ → ℕ) → Program → (a b : Assignment) → (n1 n2 n3 : ℕ) → List Entry
+abbrev pub guard_part : (ℕ → ℕ) → Program → (a b : Assignment) → (n1 n2 n3 : ℕ) → List DraftEntry
 guard_part R k a b n1 n2 n3 = guard_code k n1 n2 (vector_part R k a b n1 n3)
 
-abbrev pub scalar_part : (ℕ → ℕ) → Program → (a b : Assignment) → (n1 n2 n3 : ℕ) → List Entry
+abbrev pub scalar_part : (ℕ → ℕ) → Program → (a b : Assignment) → (n1 n2 n3 : ℕ) → List DraftEntry
 scalar_part R k a b n1 n2 n3 = scalar_code R k n1 (Place 0 ∷ guard_part R k a b n1 n2 n3)
 
 -- The draft of a kernel's code, laid; each part stands where its labels lead.
@@ -244,7 +244,7 @@ module _ (k : Program) (a b c : Assignment) (j : IsJoined k a b c) where
       let whole = whole_code R k a b n1 n2 n3 in
       let at = at_same R k 0 h.names m h.end pass.end (homes_low k c j.x j.few) pass.others pass.sized pass.memory h.at in
       let there : Goes D whole s (following D n1) pass.end (reach_steps k) = chain (reach_steps k) (omega arith) h.goes pass.goes in
-      let entered = j.runs.entered D n1 (Place 0 ∷ guard_part R k a b n1 n2 n3) 0 h.names m pass.end is.scalar (start_within k.turns h.names) at in
+      let entered = j.runs.entered D n1 (Place 0 ∷ guard_part R k a b n1 n2 n3) 0 h.names m pass.end is.scalar (start_within k.for_loop h.names) at in
       let comes : Comes D whole s (iteration_steps k) (reach_steps k + ending_steps k) 0 (scalar_run k args m) =
       subst (λ r. Comes D whole s (iteration_steps k) (reach_steps k + ending_steps k) 0 r) (whole_run k args m h.names h.starts) (comes_after (omega arith) there entered) in
       comes_follow k args s.vl steps (scalar_suffices k args s.vl (begun (scalar_run k args m)) cut steps j.few (one_by_one k args j.vector not) le) comes
@@ -266,7 +266,7 @@ module _ (k : Program) (a b c : Assignment) (j : IsJoined k a b c) where
       let bound = bounded R k loop.0 args m h.names pass.end j.sound loop.1 given.words h.starts at.held in
       let reaches = λ (i : ℕ) (names : Names) (memory : Memory) (t : State). j.runs.entered D n1 (Place 0 ∷ guard_part R k a b n1 n2 n3) i names memory t is.scalar in
       let run = j.vectors g c D n1 n3 [] m pass.end ground j.x kept.0 refl at (λ r low. refl) is.vector reaches in
-      let entered = reaches 0 h.names m pass.end (start_within k.turns h.names) at in
+      let entered = reaches 0 h.names m pass.end (start_within k.for_loop h.names) at in
       let same = whole_run k args m h.names h.starts in
       let x : Entered g D whole part (following D n1) s pass.end s.vl m = record {
         is = ground;

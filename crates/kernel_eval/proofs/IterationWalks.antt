@@ -7,9 +7,9 @@ use Rattle.kernel_meaning.specs.Ends.{BlockEnd, Going, go_on}
 use Rattle.kernel_meaning.specs.Eval.{value_of}
 use Rattle.kernel_meaning.specs.ScalarRun.{argument, argument_names}
 use Rattle.kernel_eval.specs.Slots.{Slots}
-use Rattle.kernel_eval.specs.Plans.{LoopPlan, turn, slot_iterations}
+use Rattle.kernel_eval.specs.Plans.{LoopPlan, slot_iteration, slot_iterations}
 
-pub iterations_step : (l : LoopPlan) (count at : ℕ) (m : Memory) (vs : Slots) (stand : BlockEnd Slots) → at < count → stand ≡ turn l at m vs → go_on stand at (slot_iterations l (count - (at + 1)) (at + 1)) ≡ slot_iterations l (count - at) at m vs
+pub iterations_step : (l : LoopPlan) (count at : ℕ) (m : Memory) (vs : Slots) (stand : BlockEnd Slots) → at < count → stand ≡ slot_iteration l at m vs → go_on stand at (slot_iterations l (count - (at + 1)) (at + 1)) ≡ slot_iterations l (count - at) at m vs
 unfolding slot_iterations
 iterations_step l count at m vs stand lt h =
     let e : count - at ≡ suc (count - (at + 1)) = omega arith in

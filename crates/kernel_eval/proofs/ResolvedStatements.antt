@@ -19,44 +19,44 @@ use Rattle.kernel_meaning.specs.Iterate.{with_name, assigned, cut, define, updat
 use Rattle.kernel_eval.specs.Slots.{Slots, slot_at, stream_number, tree_value, set_slot, write as write_slots, store, branch, quit, then_go, do_task, do_tasks}
 use Rattle.kernel_eval.specs.Trees.{Tree}
 use Rattle.kernel_eval.specs.Resolve.{most_slots, slot_of, index_slot, let_slot, store_task, resolved, resolved_action, resolved_block, resolved_otherwise}
-use Rattle.kernel_eval.proofs.HeldSlots.{Held, value-held, assigned-held, named-held, cut-held, held-length}
+use Rattle.kernel_eval.proofs.HeldSlots.{AreInSlots, value-held, assigned-held, named-held, cut-held, held-length}
 use Rattle.kernel_eval.proofs.ResolvedValues.{same, stream-alike, address-word}
 use Rattle.kernel_meaning.proofs.Extends.{Extends, extends_none, extends_on, visible_after, visible_block}
 
--- two turns that leave the same memory, and in the slots what the names have: those of the scope after the statements, or
+-- two ends that leave the same memory, and in the slots what the names have: those of the scope after the statements, or
 -- of a wider one than theirs where a `break` ended the loop
 pub data Matches (s t : Scope) : BlockEnd Names → BlockEnd Slots → Type 0 where
-  Nexts : (m : Memory) (ns : Names) (vs : Slots) → Held t.visible ns vs → length vs ≡ most_slots → Matches s t (Next m ns) (Next m vs)
-  Breaks : (m : Memory) (ns : Names) (vs : Slots) (u : Scope) → Extends s.visible u.visible → Held u.visible ns vs → length vs ≡ most_slots → Matches s t (Broke m ns) (Broke m vs)
+  Nexts : (m : Memory) (ns : Names) (vs : Slots) → AreInSlots t.visible ns vs → length vs ≡ most_slots → Matches s t (Next m ns) (Next m vs)
+  Breaks : (m : Memory) (ns : Names) (vs : Slots) (u : Scope) → Extends s.visible u.visible → AreInSlots u.visible ns vs → length vs ≡ most_slots → Matches s t (Broke m ns) (Broke m vs)
   Faults : (m : Memory) → Matches s t (Faulted m) (Faulted m)
 
 -- the same after a block
 pub data Closed (s : Scope) : BlockEnd Names → BlockEnd Slots → Type 0 where
-  NextsIn : (m : Memory) (ns : Names) (vs : Slots) → Held s.visible ns vs → length vs ≡ most_slots → Closed s (Next m ns) (Next m vs)
-  BreaksIn : (m : Memory) (ns : Names) (vs : Slots) → Held s.visible ns vs → length vs ≡ most_slots → Closed s (Broke m ns) (Broke m vs)
+  NextsIn : (m : Memory) (ns : Names) (vs : Slots) → AreInSlots s.visible ns vs → length vs ≡ most_slots → Closed s (Next m ns) (Next m vs)
+  BreaksIn : (m : Memory) (ns : Names) (vs : Slots) → AreInSlots s.visible ns vs → length vs ≡ most_slots → Closed s (Broke m ns) (Broke m vs)
   FaultsIn : (m : Memory) → Closed s (Faulted m) (Faulted m)
 
 -- ---- statements, by what their expressions give
 
-define-same : (s : Scope) (x : List ℕ) (want : Option Ty) (m : Memory) (ns : Names) (vs : Slots) (o : Option ℤ) → Held s.visible ns vs → length vs ≡ most_slots → length s.visible + 1 ≤ most_slots → Matches s (defined s x want) (define x want m ns o) (set_slot (let_slot s want) m vs o)
+define-same : (s : Scope) (x : List ℕ) (want : Option Ty) (m : Memory) (ns : Names) (vs : Slots) (o : Option ℤ) → AreInSlots s.visible ns vs → length vs ≡ most_slots → length s.visible + 1 ≤ most_slots → Matches s (defined s x want) (define x want m ns o) (set_slot (let_slot s want) m vs o)
 define-same s x None m ns vs None h l room = Faults m
 define-same s x (Some t) m ns vs None h l room = Faults m
 define-same s x None m ns vs (Some v) h l room =
-    Nexts m ns (slice_set vs most_slots v) (subst (λ ws. Held s.visible ns ws) (sym (set_past vs most_slots v (omega arith))) h) (length-set vs most_slots v ∙ l)
+    Nexts m ns (slice_set vs most_slots v) (subst (λ ws. AreInSlots s.visible ns ws) (sym (set_past vs most_slots v (omega arith))) h) (length-set vs most_slots v ∙ l)
 define-same s x (Some t) m ns vs (Some v) h l room =
     Nexts m (with_name x ns v) (slice_set vs (length s.visible) v) (named-held s.visible ns vs x (binding.Value t) v h (omega arith)) (length-set vs (length s.visible) v ∙ l)
 
-update-same : (s : Scope) (x : List ℕ) (op : UpdateOp) (want : Option Ty) (m : Memory) (ns : Names) (vs : Slots) (o : Option ℤ) → Held s.visible ns vs → length vs ≡ most_slots → Matches s s (update x op want m ns o) (set_slot (slot_of s x) m vs (on_both (binary_value (operator_of op) want) (Some (slot_at vs (slot_of s x))) o))
+update-same : (s : Scope) (x : List ℕ) (op : UpdateOp) (want : Option Ty) (m : Memory) (ns : Names) (vs : Slots) (o : Option ℤ) → AreInSlots s.visible ns vs → length vs ≡ most_slots → Matches s s (update x op want m ns o) (set_slot (slot_of s x) m vs (on_both (binary_value (operator_of op) want) (Some (slot_at vs (slot_of s x))) o))
 update-same s x op want m ns vs None h l = Faults m
 update-same s x op want m ns vs (Some v) h l =
     subst (λ w. Matches s s (update x op want m ns (Some v)) (Next m (slice_set vs (slot_of s x) (binary_value (operator_of op) want w v)))) (sym (value-held s.visible ns vs x h (omega arith)))
     (Nexts m (assigned x (binary_value (operator_of op) want (value_at ns x) v) ns) (slice_set vs (slot_of s x) (binary_value (operator_of op) want (value_at ns x) v)) (assigned-held s.visible ns vs x (binary_value (operator_of op) want (value_at ns x) v) h) (length-set vs (slot_of s x) (binary_value (operator_of op) want (value_at ns x) v) ∙ l))
 
-write-same : (s : Scope) (m : Memory) (ns : Names) (vs : Slots) (r : Result Memory AccessFault) → Held s.visible ns vs → length vs ≡ most_slots → Matches s s (write m ns r) (write_slots m vs r)
+write-same : (s : Scope) (m : Memory) (ns : Names) (vs : Slots) (r : Result Memory AccessFault) → AreInSlots s.visible ns vs → length vs ≡ most_slots → Matches s s (write m ns r) (write_slots m vs r)
 write-same s m ns vs (Ok after) h l = Nexts after ns vs h l
 write-same s m ns vs (Err f) h l = Faults m
 
-put-words : (s : Scope) (t : Option Ty) (base : ℤ) (m : Memory) (ns : Names) (vs : Slots) (v : Option ℤ) (x y : ℤ) → word y ≡ word x → Held s.visible ns vs → length vs ≡ most_slots → Matches s s (put t base m ns v (Some x)) (store t base m vs v (Some y))
+put-words : (s : Scope) (t : Option Ty) (base : ℤ) (m : Memory) (ns : Names) (vs : Slots) (v : Option ℤ) (x y : ℤ) → word y ≡ word x → AreInSlots s.visible ns vs → length vs ≡ most_slots → Matches s s (put t base m ns v (Some x)) (store t base m vs v (Some y))
 put-words s t base m ns vs None x y e h l = Faults m
 put-words s None base m ns vs (Some v) x y e h l = Faults m
 put-words s (Some t) base m ns vs (Some v) x y e h l =
@@ -67,12 +67,12 @@ put-none : (s : Scope) (t : Option Ty) (base : ℤ) (m : Memory) (ns : Names) (v
 put-none s t base m ns vs None = Faults m
 put-none s t base m ns vs (Some v) = Faults m
 
-put-same : (s : Scope) (t : Option Ty) (base : ℤ) (m : Memory) (ns : Names) (vs : Slots) (v x : Option ℤ) → Held s.visible ns vs → length vs ≡ most_slots → Matches s s (put t base m ns v x) (store t base m vs v x)
+put-same : (s : Scope) (t : Option Ty) (base : ℤ) (m : Memory) (ns : Names) (vs : Slots) (v x : Option ℤ) → AreInSlots s.visible ns vs → length vs ≡ most_slots → Matches s s (put t base m ns v x) (store t base m vs v x)
 put-same s t base m ns vs v None h l = put-none s t base m ns vs v
 put-same s t base m ns vs v (Some x) h l = put-words s t base m ns vs v x x refl h l
 
 -- a store, by the offset of its index or its computed number
-store-same : (s : Scope) (a : List ℕ) (c : Option ℤ) (i e : Tree) (m : Memory) (ns : Names) (vs : Slots) (x v : Option ℤ) → Held s.visible ns vs → length vs ≡ most_slots → tree_value i m vs ≡ x → tree_value e m vs ≡ v → Matches s s (put (array_type s a) (value_at ns a) m ns v (element_number c (iteration s.index ns) x)) (do_task (store_task s a c i e) m vs)
+store-same : (s : Scope) (a : List ℕ) (c : Option ℤ) (i e : Tree) (m : Memory) (ns : Names) (vs : Slots) (x v : Option ℤ) → AreInSlots s.visible ns vs → length vs ≡ most_slots → tree_value i m vs ≡ x → tree_value e m vs ≡ v → Matches s s (put (array_type s a) (value_at ns a) m ns v (element_number c (iteration s.index ns) x)) (do_task (store_task s a c i e) m vs)
 store-same s a None i e m ns vs x v h l is of =
     let put-is = put (array_type s a) (value_at ns a) m ns v x in
     subst (λ base. Matches s s put-is (store (array_type s a) base m vs (tree_value e m vs) (tree_value i m vs))) (sym (value-held s.visible ns vs a h (omega arith)))
@@ -86,21 +86,21 @@ store-same s a (Some c) i e m ns vs x v h l is of =
     (subst (λ o. Matches s s put-is (store (array_type s a) (value_at ns a) m vs o (Some number))) (sym of)
     (put-words s (array_type s a) (value_at ns a) m ns vs v (iteration s.index ns +ℤ c) number (stream-alike s c ns vs h le) h l))
 
-leave-same : (s : Scope) (m : Memory) (ns : Names) (vs : Slots) (o : Option Bool) → Held s.visible ns vs → length vs ≡ most_slots → Matches s s (leave m ns o) (quit m vs o)
+leave-same : (s : Scope) (m : Memory) (ns : Names) (vs : Slots) (o : Option Bool) → AreInSlots s.visible ns vs → length vs ≡ most_slots → Matches s s (leave m ns o) (quit m vs o)
 leave-same s m ns vs None h l = Faults m
 leave-same s m ns vs (Some true) h l = Breaks m ns vs s (extends_none s.visible) h l
 leave-same s m ns vs (Some false) h l = Nexts m ns vs h l
 
-narrow : (s u : Scope) (n : ℕ) (ns : Names) (vs : Slots) → Extends s.visible u.visible → n ≡ length s.visible → Held u.visible ns vs → Held s.visible (take n ns) vs
-narrow s u n ns vs g e h = subst (λ k. Held s.visible (take k ns) vs) (sym e) (cut-held s.visible g.more ns vs (subst (λ ls. Held ls ns vs) g.is h))
+narrow : (s u : Scope) (n : ℕ) (ns : Names) (vs : Slots) → Extends s.visible u.visible → n ≡ length s.visible → AreInSlots u.visible ns vs → AreInSlots s.visible (take n ns) vs
+narrow s u n ns vs g e h = subst (λ k. AreInSlots s.visible (take k ns) vs) (sym e) (cut-held s.visible g.more ns vs (subst (λ ls. AreInSlots ls ns vs) g.is h))
 
-pub cut-same : (s t : Scope) (n : ℕ) (turn : BlockEnd Names) (stand : BlockEnd Slots) → Matches s t turn stand → Extends s.visible t.visible → n ≡ length s.visible → Closed s (cut n turn) stand
+pub cut-same : (s t : Scope) (n : ℕ) (iteration_end : BlockEnd Names) (stand : BlockEnd Slots) → Matches s t iteration_end stand → Extends s.visible t.visible → n ≡ length s.visible → Closed s (cut n iteration_end) stand
 cut-same s t n _ _ (Nexts m ns vs h l) g e = NextsIn m (take n ns) vs (narrow s t n ns vs g e h) l
 cut-same s t n _ _ (Breaks m ns vs u w h l) g e = BreaksIn m (take n ns) vs (narrow s u n ns vs w e h) l
 cut-same s t n _ _ (Faults m) g e = FaultsIn m
 
-reopen : (s t : Scope) (turn : BlockEnd Names) (stand : BlockEnd Slots) → t.visible ≡ s.visible → Closed s turn stand → Matches s t turn stand
-reopen s t _ _ e (NextsIn m ns vs h l) = Nexts m ns vs (subst (λ ls. Held ls ns vs) (sym e) h) l
+reopen : (s t : Scope) (iteration_end : BlockEnd Names) (stand : BlockEnd Slots) → t.visible ≡ s.visible → Closed s iteration_end stand → Matches s t iteration_end stand
+reopen s t _ _ e (NextsIn m ns vs h l) = Nexts m ns vs (subst (λ ls. AreInSlots ls ns vs) (sym e) h) l
 reopen s t _ _ e (BreaksIn m ns vs h l) = Breaks m ns vs s (extends_none s.visible) h l
 reopen s t _ _ e (FaultsIn m) = Faults m
 
@@ -109,12 +109,12 @@ branch-same s t m None one other a b p q = Faults m
 branch-same s t m (Some true) one other a b p q = p
 branch-same s t m (Some false) one other a b p q = q
 
-pub widen : (r s t : Scope) (turn : BlockEnd Names) (stand : BlockEnd Slots) → Extends r.visible s.visible → Matches s t turn stand → Matches r t turn stand
+pub widen : (r s t : Scope) (iteration_end : BlockEnd Names) (stand : BlockEnd Slots) → Extends r.visible s.visible → Matches s t iteration_end stand → Matches r t iteration_end stand
 widen r s t _ _ g (Nexts m ns vs h l) = Nexts m ns vs h l
 widen r s t _ _ g (Breaks m ns vs u w h l) = Breaks m ns vs u (extends_on g w) h l
 widen r s t _ _ g (Faults m) = Faults m
 
-then-same : (r s t : Scope) (turn : BlockEnd Names) (stand : BlockEnd Slots) (rest : Memory → Names → BlockEnd Names) (others : Memory → Slots → BlockEnd Slots) → Matches r s turn stand → Extends r.visible s.visible → ((m : Memory) (ns : Names) (vs : Slots) → Held s.visible ns vs → length vs ≡ most_slots → Matches s t (rest m ns) (others m vs)) → Matches r t (then_do turn rest) (then_go stand others)
+then-same : (r s t : Scope) (iteration_end : BlockEnd Names) (stand : BlockEnd Slots) (rest : Memory → Names → BlockEnd Names) (others : Memory → Slots → BlockEnd Slots) → Matches r s iteration_end stand → Extends r.visible s.visible → ((m : Memory) (ns : Names) (vs : Slots) → AreInSlots s.visible ns vs → length vs ≡ most_slots → Matches s t (rest m ns) (others m vs)) → Matches r t (then_do iteration_end rest) (then_go stand others)
 then-same r s t _ _ rest others (Nexts m ns vs h l) g next = widen r s t (rest m ns) (others m vs) g (next m ns vs h l)
 then-same r s t _ _ rest others (Breaks m ns vs u w h l) g next = Breaks m ns vs u w h l
 then-same r s t _ _ rest others (Faults m) g next = Faults m
@@ -146,7 +146,7 @@ action_room s other = omega arith
 -- ---- statements
 
 mutual
-  act-same : (a : Action) (s : Scope) (m : Memory) (ns : Names) (vs : Slots) → Held s.visible ns vs → length vs ≡ most_slots → length s.visible + action_lets a ≤ most_slots → Matches s (after_action s a) (act s a m ns) (do_task (resolved_action s a) m vs)
+  act-same : (a : Action) (s : Scope) (m : Memory) (ns : Names) (vs : Slots) → AreInSlots s.visible ns vs → length vs ≡ most_slots → length s.visible + action_lets a ≤ most_slots → Matches s (after_action s a) (act s a m ns) (do_task (resolved_action s a) m vs)
   act-same (Define x t e) s m ns vs h l room =
       let want = first t (own s e) in
       let v = (same s e m ns vs h (omega arith)).value_is want in
@@ -175,13 +175,13 @@ mutual
       let truth = (same s c m ns vs h (omega arith)).holds_is None in
       subst (λ o. Matches s s (leave m ns (holds s c m ns)) (quit m vs o)) (sym truth) (leave-same s m ns vs (holds s c m ns) h l)
 
-  pub block-same : (b : Block) (s : Scope) (m : Memory) (ns : Names) (vs : Slots) → Held s.visible ns vs → length vs ≡ most_slots → length s.visible + block_lets b ≤ most_slots → Matches s (after_block s b) (do_block s b m ns) (do_tasks (resolved_block s b) m vs)
+  pub block-same : (b : Block) (s : Scope) (m : Memory) (ns : Names) (vs : Slots) → AreInSlots s.visible ns vs → length vs ≡ most_slots → length s.visible + block_lets b ≤ most_slots → Matches s (after_block s b) (do_block s b m ns) (do_tasks (resolved_block s b) m vs)
   block-same Done s m ns vs h l room = Nexts m ns vs h l
   block-same (Then a b) s m ns vs h l room =
       let r = action_room s a in
       then-same s (after_action s a) (after_block (after_action s a) b) (act s a m ns) (do_task (resolved_action s a) m vs) (do_block (after_action s a) b) (do_tasks (resolved_block (after_action s a) b))
       (act-same a s m ns vs h l (omega arith)) (visible_after s a) (λ m' ns' vs' h' l'. block-same b (after_action s a) m' ns' vs' h' l' (omega arith))
 
-  otherwise-same : (d : Otherwise) (s : Scope) (n : ℕ) (m : Memory) (ns : Names) (vs : Slots) → Held s.visible ns vs → length vs ≡ most_slots → length s.visible + otherwise_lets d ≤ most_slots → n ≡ length s.visible → Closed s (cut n (do_otherwise s d m ns)) (do_tasks (resolved_otherwise s d) m vs)
+  otherwise-same : (d : Otherwise) (s : Scope) (n : ℕ) (m : Memory) (ns : Names) (vs : Slots) → AreInSlots s.visible ns vs → length vs ≡ most_slots → length s.visible + otherwise_lets d ≤ most_slots → n ≡ length s.visible → Closed s (cut n (do_otherwise s d m ns)) (do_tasks (resolved_otherwise s d) m vs)
   otherwise-same Nothing s n m ns vs h l room e = cut-same s s n (Next m ns) (Next m vs) (Nexts m ns vs h l) (extends_none s.visible) e
   otherwise-same (Else b) s n m ns vs h l room e = cut-same s (after_block s b) n (do_block s b m ns) (do_tasks (resolved_block s b) m vs) (block-same b s m ns vs h l room) (visible_block s b) e

@@ -15,7 +15,7 @@ use Rattle.kernel_eval.specs.Trees.{Tree}
 use Rattle.kernel_eval.specs.Slots.{Slots, slot_at, stream_number, tree_value, tree_holds}
 use Rattle.kernel_eval.specs.Resolve.{most_slots, index_slot, read_tree, resolved}
 use Rattle.kernel_meaning.proofs.Residues.{word-below, word-mul, word-add}
-use Rattle.kernel_eval.proofs.HeldSlots.{Held, value-held}
+use Rattle.kernel_eval.proofs.HeldSlots.{AreInSlots, value-held}
 
 -- ---- addresses
 
@@ -42,16 +42,16 @@ read-alike t memory base _ _ Neither = refl
 read-alike None memory base _ _ (Words x y e) = refl
 read-alike (Some t) memory base _ _ (Words x y e) = ap (λ a. read_value t (loaded memory a (byte_count t))) (address-word t base x y e)
 
-index-held : (ls : List Local) (index : Option (List ℕ)) (ns : Names) (vs : Slots) → Held ls ns vs → length vs ≤ most_slots → slot_at vs (index_slot ls index) ≡ iteration index ns
+index-held : (ls : List Local) (index : Option (List ℕ)) (ns : Names) (vs : Slots) → AreInSlots ls ns vs → length vs ≤ most_slots → slot_at vs (index_slot ls index) ≡ iteration index ns
 index-held ls None ns vs h le = get_or_past vs most_slots (pos 0) le
 index-held ls (Some i) ns vs h le = value-held ls ns vs i h le
 
 -- the number of a stream's element is that of the kernel, modulo 2^64
-pub stream-alike : (s : Scope) (c : ℤ) (ns : Names) (vs : Slots) → Held s.visible ns vs → length vs ≤ most_slots → word (stream_number (slot_at vs (index_slot s.visible s.index)) (wrap ty.U64 c)) ≡ word (iteration s.index ns +ℤ c)
+pub stream-alike : (s : Scope) (c : ℤ) (ns : Names) (vs : Slots) → AreInSlots s.visible ns vs → length vs ≤ most_slots → word (stream_number (slot_at vs (index_slot s.visible s.index)) (wrap ty.U64 c)) ≡ word (iteration s.index ns +ℤ c)
 stream-alike s c ns vs h le = stream-word (slot_at vs (index_slot s.visible s.index)) c ∙ ap (λ i. word (i +ℤ c)) (index-held s.visible s.index ns vs h le)
 
 -- an element is that of the kernel
-read-same : (s : Scope) (a : List ℕ) (c : Option ℤ) (t : Tree) (o : Option ℤ) (memory : Memory) (ns : Names) (vs : Slots) → Held s.visible ns vs → length vs ≤ most_slots → tree_value t memory vs ≡ o → tree_value (read_tree s a c t) memory vs ≡ option_and_then (read_element (array_type s a) memory (value_at ns a)) (element_number c (iteration s.index ns) o)
+read-same : (s : Scope) (a : List ℕ) (c : Option ℤ) (t : Tree) (o : Option ℤ) (memory : Memory) (ns : Names) (vs : Slots) → AreInSlots s.visible ns vs → length vs ≤ most_slots → tree_value t memory vs ≡ o → tree_value (read_tree s a c t) memory vs ≡ option_and_then (read_element (array_type s a) memory (value_at ns a)) (element_number c (iteration s.index ns) o)
 read-same s a None t o memory ns vs h le e =
     ap₂ (λ base p. option_and_then (read_element (array_type s a) memory base) p) (value-held s.visible ns vs a h le) e
 read-same s a (Some c) t o memory ns vs h le e =
@@ -70,7 +70,7 @@ pub record Same (s : Scope) (e : plain.Term) (memory : Memory) (ns : Names) (vs 
   pub value_is : (want : Option Ty) → tree_value (resolved s want e) memory vs ≡ value s want e memory ns
   pub holds_is : (want : Option Ty) → tree_holds (resolved s want e) memory vs ≡ holds s e memory ns
 
-pub same : (s : Scope) (e : plain.Term) (memory : Memory) (ns : Names) (vs : Slots) → Held s.visible ns vs → length vs ≤ most_slots → Same s e memory ns vs
+pub same : (s : Scope) (e : plain.Term) (memory : Memory) (ns : Names) (vs : Slots) → AreInSlots s.visible ns vs → length vs ≤ most_slots → Same s e memory ns vs
 same s (plain.Literal n) memory ns vs h le = record { value_is = λ want. refl; holds_is = λ want. refl }
 same s (plain.Variable x) memory ns vs h le = record { value_is = λ want. ap Some (value-held s.visible ns vs x h le); holds_is = λ want. refl }
 same s (plain.Element a i) memory ns vs h le =

@@ -2,7 +2,7 @@
 use Rattle.std.specs.Prelude.{ℕ, zero, suc, ◌+◌, ◌-◌, pos, List, [], ◌∷◌, ◌++◌, map, length, replicate, Option, Some, None, option_map, nat_lt, min, slice_set, if◌then◌else◌, true}
 use Rattle.kernel_tree.specs.declared.fault.Binding.TheVariants as binding
 use Rattle.kernel_tree.specs.Plain.{Accumulator, PlainLoop, Returned, Program}
-use Rattle.kernel_tree.specs.Typing.{Scope, declared, in_loop, after_turns, param_scope, var_scope}
+use Rattle.kernel_tree.specs.Typing.{Scope, declared, in_loop, after_for_loop, param_scope, var_scope}
 use Rattle.guest_types.specs.Memory.{Memory}
 use Rattle.kernel_meaning.specs.Ends.{BlockEnd, Next, Broke, Faulted, LoopState, Going, Left, Failed, go_on}
 use Rattle.kernel_meaning.specs.Operators.{word}
@@ -26,14 +26,14 @@ pub record LoopPlan : Type 0 where
 
 pub record Planned : Type 0 where
   pub start : Tasks
-  pub turns : Option LoopPlan
+  pub for_loop : Option LoopPlan
   pub answer : Option Tree
 
 abbrev pub loop_plan_of : ResolvedLoop → LoopPlan
 loop_plan_of c = record { bound = c.bound; index = c.index; body = tasks_of c.body.items }
 
 abbrev pub planned_of : Plan → Planned
-planned_of p = record { start = tasks_of p.start.items; turns = option_map loop_plan_of p.turns; answer = option_map tree_of p.answer }
+planned_of p = record { start = tasks_of p.start.items; for_loop = option_map loop_plan_of p.for_loop; answer = option_map tree_of p.answer }
 
 -- ---- kernels
 
@@ -48,9 +48,9 @@ resolved_body scope l = resolved_block (record scope { inside = true }) l.body
 abbrev pub resolved_loop : Scope → PlainLoop → LoopPlan
 resolved_loop scope l = record { bound = slot_of scope l.bound; index = length scope.visible; body = resolved_block (in_loop scope l) l.body }
 
-abbrev pub resolved_turns : Scope → Option PlainLoop → Option LoopPlan
-resolved_turns scope None = None
-resolved_turns scope (Some l) = Some (resolved_loop scope l)
+abbrev pub resolved_for_loop : Scope → Option PlainLoop → Option LoopPlan
+resolved_for_loop scope None = None
+resolved_for_loop scope (Some l) = Some (resolved_loop scope l)
 
 abbrev pub resolved_answer : Scope → Option Returned → Option Tree
 resolved_answer scope None = None
@@ -59,8 +59,8 @@ resolved_answer scope (Some a) = Some (resolved scope (Some a.type) a.value)
 abbrev pub planned : Program → Planned
 planned k = record {
   start = resolved_vars (param_scope k) k.vars;
-  turns = resolved_turns (var_scope k) k.turns;
-  answer = resolved_answer (after_turns (var_scope k) k.turns) k.answer;
+  for_loop = resolved_for_loop (var_scope k) k.for_loop;
+  answer = resolved_answer (after_for_loop (var_scope k) k.for_loop) k.answer;
 }
 
 -- ---- runs
@@ -75,13 +75,13 @@ loop_state_of (code.Left at) memory slots = Left memory slots at.number
 loop_state_of (code.Failed at) memory slots = Failed memory at.number
 
 -- iteration i
-abbrev pub turn : LoopPlan → ℕ → Memory → Slots → BlockEnd Slots
-turn l i memory slots = do_tasks l.body memory (slice_set slots l.index (pos i))
+abbrev pub slot_iteration : LoopPlan → ℕ → Memory → Slots → BlockEnd Slots
+slot_iteration l i memory slots = do_tasks l.body memory (slice_set slots l.index (pos i))
 
 -- so many iterations, from iteration i on
 unfoldable pub slot_iterations : LoopPlan → ℕ → ℕ → Memory → Slots → LoopState Slots
 slot_iterations l zero i memory slots = Going memory slots
-slot_iterations l (suc count) i memory slots = go_on (turn l i memory slots) i (slot_iterations l count (i + 1))
+slot_iterations l (suc count) i memory slots = go_on (slot_iteration l i memory slots) i (slot_iterations l count (i + 1))
 
 abbrev pub slot_answer : Option Tree → Memory → Slots → Option ℕ
 slot_answer None memory slots = Some 0
@@ -109,12 +109,12 @@ slot_finish answer index n limit (Failed memory i) = Ended (Fault memory (i + 1)
 abbrev pub slot_loop : Option Tree → LoopPlan → ℕ → ℕ → Memory → Slots → Limited
 slot_loop answer l limit n memory slots = slot_finish answer l.index n limit (slot_iterations l (min n limit) 0 memory slots)
 
-abbrev pub slot_turns : Option Tree → Option LoopPlan → ℕ → Memory → Slots → Limited
-slot_turns answer None limit memory slots = Ended (ended memory 0 (slot_answer answer memory slots))
-slot_turns answer (Some l) limit memory slots = slot_loop answer l limit (word (slot_at slots l.bound)) memory slots
+abbrev pub slot_for_loop : Option Tree → Option LoopPlan → ℕ → Memory → Slots → Limited
+slot_for_loop answer None limit memory slots = Ended (ended memory 0 (slot_answer answer memory slots))
+slot_for_loop answer (Some l) limit memory slots = slot_loop answer l limit (word (slot_at slots l.bound)) memory slots
 
 abbrev pub slot_begun : Planned → ℕ → BlockEnd Slots → Limited
-slot_begun p limit (Next memory slots) = slot_turns p.answer p.turns limit memory slots
+slot_begun p limit (Next memory slots) = slot_for_loop p.answer p.for_loop limit memory slots
 slot_begun p limit (Broke memory slots) = Ended (Fault memory 0)
 slot_begun p limit (Faulted memory) = Ended (Fault memory 0)
 

@@ -2,7 +2,7 @@
 
 ghost use Rattle.std.specs.Prelude.{◌≡◌, IfOk, Some, option_map};
 ghost use Rattle.kernel_tree.specs.declared.fault.Binding.TheVariants as binding;
-ghost use Rattle.kernel_tree.specs.Plain.{name_of, parameters_of, accumulators_of, turns_of, returned_of, program_of};
+ghost use Rattle.kernel_tree.specs.Plain.{name_of, parameters_of, accumulators_of, for_loop_of, returned_of, program_of};
 ghost use Rattle.kernel_tree.specs.Items as items;
 ghost use Rattle.kernel_tree.specs.Typing as typing;
 ghost use Rattle.kernel_eval.specs.Trees.{tree_of, tasks_of, followed};
@@ -72,32 +72,32 @@ fn resolve_answer(
 fn resolve_body<'a>(
     alloc: Global,
     scope: &mut Scope<'a>,
-    turns: &'a Loop,
+    for_loop: &'a Loop,
 ) -> Result<Vec<Step>, AllocError>
-    ensures { IfOk result (λ v. tasks_of v.items ≡ plans.resolved_body (scope_of scope.old) (turns_of turns.now)) }
+    ensures { IfOk result (λ v. tasks_of v.items ≡ plans.resolved_body (scope_of scope.old) (for_loop_of for_loop.now)) }
 {
     scope.inside = true;
-    resolve_block(alloc, scope, &turns.body)
+    resolve_block(alloc, scope, &for_loop.body)
 }
 
 // The loop and the returned value after it.
 fn resolve_loop<'a>(
     alloc: Global,
     scope: &mut Scope<'a>,
-    turns: &'a Loop,
+    for_loop: &'a Loop,
     answer: &Option<Answer>,
 ) -> Result<(Option<ResolvedLoop>, Option<Node>), AllocError>
     ensures cycle { IfOk result (λ p. option_map plans.loop_plan_of p.0
-        ≡ Some (plans.resolved_loop (scope_of scope.old) (turns_of turns.now))) }
+        ≡ Some (plans.resolved_loop (scope_of scope.old) (for_loop_of for_loop.now))) }
     ensures answer { IfOk result (λ p. option_map tree_of p.1
-        ≡ plans.resolved_answer (typing.declared (scope_of scope.old) (name_of turns.now.index) binding.Index)
+        ≡ plans.resolved_answer (typing.declared (scope_of scope.old) (name_of for_loop.now.index) binding.Index)
         (option_map returned_of answer.now)) }
 {
-    let bound = slot(scope, &turns.bound);
+    let bound = slot(scope, &for_loop.bound);
     let index = visible_count(scope);
-    declare(scope, &turns.index, Binding::Index)?;
+    declare(scope, &for_loop.index, Binding::Index)?;
     let answer = resolve_answer(alloc, scope, answer)?;
-    let body = resolve_body(alloc, scope, turns)?;
+    let body = resolve_body(alloc, scope, for_loop)?;
     Ok((Some(ResolvedLoop { bound, index, body }), answer))
 }
 
@@ -107,10 +107,10 @@ fn resolve_rest<'a>(
     scope: &mut Scope<'a>,
     kernel: &'a Kernel,
 ) -> Result<(Option<ResolvedLoop>, Option<Node>), AllocError>
-    ensures turns { IfOk result (λ p. option_map plans.loop_plan_of p.0
-        ≡ plans.resolved_turns (scope_of scope.old) (option_map turns_of kernel.now.body)) }
+    ensures for_loop { IfOk result (λ p. option_map plans.loop_plan_of p.0
+        ≡ plans.resolved_for_loop (scope_of scope.old) (option_map for_loop_of kernel.now.body)) }
     ensures answer { IfOk result (λ p. option_map tree_of p.1
-        ≡ plans.resolved_answer (typing.after_turns (scope_of scope.old) (option_map turns_of kernel.now.body))
+        ≡ plans.resolved_answer (typing.after_for_loop (scope_of scope.old) (option_map for_loop_of kernel.now.body))
         (option_map returned_of kernel.now.answer)) }
 {
     match &kernel.body {
@@ -118,7 +118,7 @@ fn resolve_rest<'a>(
             let answer = resolve_answer(alloc, scope, &kernel.answer)?;
             Ok((None, answer))
         }
-        Some(turns) => resolve_loop(alloc, scope, turns, &kernel.answer),
+        Some(for_loop) => resolve_loop(alloc, scope, for_loop, &kernel.answer),
     }
 }
 
@@ -132,10 +132,10 @@ fn resolve_parts<'a>(
     requires { scope_of scope.old ≡ typing.empty (items.loop_index (program_of kernel.now)) }
     ensures start { let k = program_of kernel.now in IfOk result (λ _. tasks_of start.new.items
         ≡ followed (tasks_of start.old.items) (plans.resolved_vars (typing.param_scope k) k.vars)) }
-    ensures turns { let k = program_of kernel.now in IfOk result (λ p. option_map plans.loop_plan_of p.0
-        ≡ plans.resolved_turns (typing.var_scope k) k.turns) }
+    ensures for_loop { let k = program_of kernel.now in IfOk result (λ p. option_map plans.loop_plan_of p.0
+        ≡ plans.resolved_for_loop (typing.var_scope k) k.for_loop) }
     ensures answer { let k = program_of kernel.now in IfOk result (λ p. option_map tree_of p.1
-        ≡ plans.resolved_answer (typing.after_turns (typing.var_scope k) k.turns) k.answer) }
+        ≡ plans.resolved_answer (typing.after_for_loop (typing.var_scope k) k.for_loop) k.answer) }
 {
     declare_params(scope, &kernel.params)?;
     push_vars(alloc, scope, start, &kernel.vars)?;
@@ -148,10 +148,10 @@ pub fn resolve_kernel(alloc: Global, kernel: &Kernel) -> Result<Plan, AllocError
 {
     let mut scope = empty(alloc, loop_index(&kernel.body));
     let mut start = Vec::new(alloc);
-    let (turns, answer) = resolve_parts(alloc, &mut scope, &mut start, kernel)?;
+    let (for_loop, answer) = resolve_parts(alloc, &mut scope, &mut start, kernel)?;
     Ok(Plan {
         start,
-        turns,
+        for_loop,
         answer,
     })
 }

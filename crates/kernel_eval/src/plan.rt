@@ -18,6 +18,6 @@ pub struct ResolvedLoop {
 pub struct Plan {
     /// What sets the accumulators.
     pub start: Vec<Step>,
-    pub turns: Option<ResolvedLoop>,
+    pub for_loop: Option<ResolvedLoop>,
     pub answer: Option<Node>,
 }

@@ -35,11 +35,11 @@ fn iterate<M: GuestMemory>(
     slots: &mut [i128],
 ) -> BlockEnd
     ensures { block_end_of result (M.memory memory.new) slots.new
-        ≡ plans.turn (loop_plan_of resolved.now) at (M.memory memory.old) slots.old }
+        ≡ plans.slot_iteration (loop_plan_of resolved.now) at (M.memory memory.old) slots.old }
 {
     put(slots, resolved.index, at as i128);
-    let turn = perform(&resolved.body, memory, slots);
-    turn
+    let iteration_end = perform(&resolved.body, memory, slots);
+    iteration_end
 }
 
 // So many iterations.
@@ -156,17 +156,17 @@ fn run_loop<M: GuestMemory>(
     finish(resolved, answer, count, limit, state, &*memory, slots)
 }
 
-fn run_turns<M: GuestMemory>(
+fn run_for_loop<M: GuestMemory>(
     plan: &Plan,
     limit: u64,
     memory: &mut M,
     slots: &mut [i128],
 ) -> ScalarOutcome
     ensures { limited_of result (M.memory memory.new)
-        ≡ plans.slot_turns (planned_of plan.now).answer (planned_of plan.now).turns limit
+        ≡ plans.slot_for_loop (planned_of plan.now).answer (planned_of plan.now).for_loop limit
         (M.memory memory.old) slots.old }
 {
-    match &plan.turns {
+    match &plan.for_loop {
         None => ended(result_of(&plan.answer, &*memory, slots), 0),
         Some(resolved) => run_loop(resolved, &plan.answer, limit, memory, slots),
     }
@@ -183,7 +183,7 @@ pub fn run<M: GuestMemory>(
         ≡ plans.slot_run (planned_of plan.now) limit (M.memory memory.old) slots.old }
 {
     match perform(&plan.start, memory, slots) {
-        BlockEnd::Next => run_turns(plan, limit, memory, slots),
+        BlockEnd::Next => run_for_loop(plan, limit, memory, slots),
         BlockEnd::Broke => ScalarOutcome::Fault { begun: 0 },
         BlockEnd::Faulted => ScalarOutcome::Fault { begun: 0 },
     }

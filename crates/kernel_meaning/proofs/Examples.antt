@@ -5,7 +5,7 @@ use Rattle.kernel_tree.specs.declared.ops.Ty.TheVariants as ty
 use Rattle.kernel_tree.specs.declared.ast.Shape.TheVariants as shape
 use Rattle.kernel_tree.specs.declared.ast.Stmt.{Stmt}
 use Rattle.kernel_tree.specs.declared.mark.Mark.TheVariants as mark
-use Rattle.kernel_tree.specs.Word.{Word, IsName, IsNumber, IsType, IsMark}
+use Rattle.kernel_tree.specs.TextToken.{TextToken, IsName, IsNumber, IsType, IsMark}
 use Rattle.kernel_tree.specs.declared.ast.Param.{Param}
 use Rattle.kernel_tree.specs.declared.ast.Var.{Var}
 use Rattle.kernel_tree.specs.Plain.{Variable, Done, Program, name_of, block_of, parameters_of, accumulators_of}
@@ -18,11 +18,11 @@ counting = record {
   name = codes "f";
   params = record { name = codes "n"; shape = shape.Scalar ty.U64 } ∷ [];
   vars = [];
-  turns = Some (record { index = codes "i"; bound = codes "n"; body = Done });
+  for_loop = Some (record { index = codes "i"; bound = codes "n"; body = Done });
   answer = Some (record { type = ty.U64; value = Variable (codes "i") });
 }
 
-abbrev words : List Word
+abbrev words : List TextToken
 words =
     IsMark mark.Kernel ∷ IsName (codes "f") ∷ IsMark mark.OpenParen ∷ IsName (codes "n") ∷ IsMark mark.Colon ∷ IsType ty.U64 ∷ IsMark mark.CloseParen ∷ IsMark mark.Arrow ∷ IsType ty.U64 ∷ IsMark mark.OpenBrace
     ∷ IsMark mark.For ∷ IsName (codes "i") ∷ IsMark mark.In ∷ IsNumber 0 ∷ IsMark mark.Range ∷ IsName (codes "n") ∷ IsMark mark.OpenBrace ∷ IsMark mark.CloseBrace
@@ -40,5 +40,5 @@ counting_types = refl
 one_param : (xs ys : List Param) (p : Param) → xs ≡ ys ++ p ∷ [] → ys ≡ [] → name_of p.name ≡ codes "n" → p.shape ≡ shape.Scalar ty.U64 → parameters_of xs ≡ record { name = codes "n"; shape = shape.Scalar ty.U64 } ∷ []
 one_param xs ys p e f g h = rw (e, f, g, h) refl
 
-pub counting_parts : (f i n x : List ℕ) (ps qs : List Param) (p : Param) (vs : List Var) (b : List Stmt) → f ≡ codes "f" → ps ≡ qs ++ p ∷ [] → qs ≡ [] → name_of p.name ≡ codes "n" → p.shape ≡ shape.Scalar ty.U64 → vs ≡ [] → i ≡ codes "i" → n ≡ codes "n" → b ≡ [] → x ≡ codes "i" → record { name = f; params = parameters_of ps; vars = accumulators_of vs; turns = Some (record { index = i; bound = n; body = block_of b }); answer = Some (record { type = ty.U64; value = Variable x }) } ≡ counting
+pub counting_parts : (f i n x : List ℕ) (ps qs : List Param) (p : Param) (vs : List Var) (b : List Stmt) → f ≡ codes "f" → ps ≡ qs ++ p ∷ [] → qs ≡ [] → name_of p.name ≡ codes "n" → p.shape ≡ shape.Scalar ty.U64 → vs ≡ [] → i ≡ codes "i" → n ≡ codes "n" → b ≡ [] → x ≡ codes "i" → record { name = f; params = parameters_of ps; vars = accumulators_of vs; for_loop = Some (record { index = i; bound = n; body = block_of b }); answer = Some (record { type = ty.U64; value = Variable x }) } ≡ counting
 counting_parts f i n x ps qs p vs b e g h j k l m o q r = rw (e, one_param ps qs p g h j k, l, m, o, q, r) refl

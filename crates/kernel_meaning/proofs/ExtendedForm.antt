@@ -14,9 +14,9 @@ use Rattle.kernel_tree.specs.declared.ops.BinaryOp.{BinaryOp}
 use Rattle.kernel_tree.specs.declared.ops.BinaryOp.TheVariants as binary
 use Rattle.kernel_tree.specs.Wrap.{wrap, bits_of, is_signed}
 use Rattle.kernel_meaning.specs.Operators.{word, unary_on, binary_on, shift_on}
-use Rattle.kernel_meaning.specs.TypeValues.{IsOf, fits, unary_leaves, binary_leaves, shift_leaves}
+use Rattle.kernel_meaning.specs.TypeValues.{IsOf, unary_leaves, binary_leaves, shift_leaves}
 use Rattle.kernel_meaning.proofs.Residues.{word-below}
-use Rattle.kernel_meaning.proofs.TypeRanges.{InBits, in_bits, wrap-of, of-fits, of-cond, of-shr, of-flip, abs-unsigned}
+use Rattle.kernel_meaning.proofs.TypeRanges.{InBits, in_bits, wrap-of, of-cond, of-shr, of-flip, abs-unsigned}
 
 -- ---- the bits above a type, in a word
 
@@ -145,7 +145,3 @@ unary-kept unary.Abs t x h e = let same = abs-unsigned t x e h in ap word (wrap-
 pub shift-kept : (left : Bool) (c : ℕ) (t : Ty) (x : ℤ) → IsOf t x → shift_leaves left ≡ false → word (wrap t (shift_on left c x)) ≡ word (shift_on left c x)
 shift-kept true c t x h e = absurd cc
 shift-kept false c t x h e = ap word (wrap-of t _ (of-shr t c x h))
-
--- a cast to a type that has each value of the operand's type changes nothing
-pub cast-kept : (s t : Ty) (x : ℤ) → fits s t ≡ true → IsOf s x → wrap t x ≡ x
-cast-kept s t x e h = wrap-of t x (of-fits s t x e h)

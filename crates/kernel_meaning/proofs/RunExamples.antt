@@ -48,7 +48,7 @@ looped body = record { index = i; bound = n; body = body }
 
 -- a kernel with one loop
 abbrev loop_of : List Parameter → Block → Program
-loop_of ps body = record { name = codes "k"; params = ps ++ scalar n ty.U64 ∷ []; vars = []; turns = Some (looped body); answer = None }
+loop_of ps body = record { name = codes "k"; params = ps ++ scalar n ty.U64 ∷ []; vars = []; for_loop = Some (looped body); answer = None }
 
 -- the memory after a run, from its number of bytes at an address
 abbrev left_at : Run → ℕ → ℕ → ℕ
@@ -71,7 +71,7 @@ next = record {
   name = codes "f";
   params = scalar (codes "x") ty.U64 ∷ [];
   vars = [];
-  turns = None;
+  for_loop = None;
   answer = Some (record { type = ty.U64; value = Operation binary.Add (Variable (codes "x")) (Literal (pos 1)) });
 }
 
@@ -184,7 +184,7 @@ bright-leaves = refl
 -- ---- accumulators
 
 abbrev sum_of : Ty → ℤ → Block → Ty → Program → Program
-sum_of t z body r k = record k { vars = record { name = s; type = t; init = Literal z } ∷ []; turns = Some (looped body); answer = Some (record { type = r; value = Variable s }) }
+sum_of t z body r k = record k { vars = record { name = s; type = t; init = Literal z } ∷ []; for_loop = Some (looped body); answer = Some (record { type = r; value = Variable s }) }
 
 -- kernel pre(a: [u64], n: u64) { var s: u64 = 0; for i in 0..n { s += a[i]; a[i] = s; } }
 abbrev pre : Program

@@ -6,7 +6,7 @@ use Rattle.kernel_tree.specs.Typing.{Scope, var_scope}
 use Rattle.kernel_meaning.specs.Ends.{BlockEnd, Next, Broke, Faulted, LoopState, Going, Left, Failed, go_on}
 use Rattle.kernel_meaning.specs.Eval.{Names}
 use Rattle.kernel_meaning.specs.Iterate.{iterate}
-use Rattle.kernel_meaning.specs.ScalarRun.{iterations, bound_of, Fault, closed, finish, run_turns, run_named, started, scalar_run, turns_from, run_from, IsWithin}
+use Rattle.kernel_meaning.specs.ScalarRun.{iterations, bound_of, Fault, closed, finish, run_for_loop, run_named, started, scalar_run, for_loop_from, run_from, IsWithin}
 
 -- ---- where a course ends
 
@@ -74,30 +74,30 @@ none_done s l i m ns now names h = let g : Going m ns ≡ Going now names = sym 
 
 -- ---- the run from an iteration on
 
-pub from_start : (s : Scope) (turns : Option PlainLoop) (answer : Option Returned) (m : Memory) (names : Names) → turns_from s turns answer 0 m names ≡ run_turns s turns answer m names
+pub from_start : (s : Scope) (for_loop : Option PlainLoop) (answer : Option Returned) (m : Memory) (names : Names) → for_loop_from s for_loop answer 0 m names ≡ run_for_loop s for_loop answer m names
 from_start s None answer m names = refl
 from_start s (Some l) answer m names = let e : bound_of l names - 0 ≡ bound_of l names = omega arith in ap (λ n. finish s l answer (bound_of l names) (iterations s l n 0 m names)) e
 
-pub start_within : (turns : Option PlainLoop) (names : Names) → IsWithin turns 0 names
+pub start_within : (for_loop : Option PlainLoop) (names : Names) → IsWithin for_loop 0 names
 start_within None names = refl
 start_within (Some l) names = omega arith
 
 -- from iteration 0 on it is the whole run
 pub whole_run : (k : Program) (args : List ℕ) (m : Memory) (names : Names) → started k args m ≡ Some names → run_from k 0 m names ≡ scalar_run k args m
-whole_run k args m names starts = from_start (var_scope k) k.turns k.answer m names ∙ sym (ap (run_named k m) starts)
+whole_run k args m names starts = from_start (var_scope k) k.for_loop k.answer m names ∙ sym (ap (run_named k m) starts)
 
 -- it is that from a later iteration to which the iterations between lead
-pub turns_on : (s : Scope) (l : PlainLoop) (answer : Option Returned) (b a i : ℕ) (m : Memory) (ns : Names) (now : Memory) (names : Names) → bound_of l ns ≡ b → bound_of l names ≡ b → i + a ≤ b → iterations s l a i m ns ≡ Going now names
-    → turns_from s (Some l) answer i m ns ≡ turns_from s (Some l) answer (i + a) now names
-turns_on s l answer b a i m ns now names e f le h =
+pub for_loop_on : (s : Scope) (l : PlainLoop) (answer : Option Returned) (b a i : ℕ) (m : Memory) (ns : Names) (now : Memory) (names : Names) → bound_of l ns ≡ b → bound_of l names ≡ b → i + a ≤ b → iterations s l a i m ns ≡ Going now names
+    → for_loop_from s (Some l) answer i m ns ≡ for_loop_from s (Some l) answer (i + a) now names
+for_loop_on s l answer b a i m ns now names e f le h =
     let split : b - i ≡ a + (b - (i + a)) = omega (arith, le) in
     ap (λ n. finish s l answer n (iterations s l (n - i) i m ns)) e
     ∙ ap (λ n. finish s l answer b (iterations s l n i m ns)) split
     ∙ ap (finish s l answer b) (iterations_on s l a (b - (i + a)) i m ns now names h)
     ∙ ap (λ n. finish s l answer n (iterations s l (n - (i + a)) (i + a) now names)) (sym f)
 
-pub turns_fail : (s : Scope) (l : PlainLoop) (answer : Option Returned) (b a i : ℕ) (m : Memory) (ns : Names) (now : Memory) (j : ℕ) → bound_of l ns ≡ b → i + a ≤ b → iterations s l a i m ns ≡ Failed now j → turns_from s (Some l) answer i m ns ≡ Fault now (j + 1)
-turns_fail s l answer b a i m ns now j e le h =
+pub for_loop_fails : (s : Scope) (l : PlainLoop) (answer : Option Returned) (b a i : ℕ) (m : Memory) (ns : Names) (now : Memory) (j : ℕ) → bound_of l ns ≡ b → i + a ≤ b → iterations s l a i m ns ≡ Failed now j → for_loop_from s (Some l) answer i m ns ≡ Fault now (j + 1)
+for_loop_fails s l answer b a i m ns now j e le h =
     let split : b - i ≡ a + (b - (i + a)) = omega (arith, le) in
     ap (λ n. finish s l answer n (iterations s l (n - i) i m ns)) e
     ∙ ap (λ n. finish s l answer b (iterations s l n i m ns)) split
@@ -106,37 +106,37 @@ turns_fail s l answer b a i m ns now j e le h =
 -- ---- one iteration more
 
 pub one_on : (s : Scope) (l : PlainLoop) (answer : Option Returned) (i : ℕ) (m : Memory) (names : Names) → i < bound_of l names
-    → turns_from s (Some l) answer i m names ≡ finish s l answer (bound_of l names) (go_on (iterate s l i m names) i (iterations s l (bound_of l names - (i + 1)) (i + 1)))
+    → for_loop_from s (Some l) answer i m names ≡ finish s l answer (bound_of l names) (go_on (iterate s l i m names) i (iterations s l (bound_of l names - (i + 1)) (i + 1)))
 unfolding iterations
 one_on s l answer i m names lt =
     let more : bound_of l names - i ≡ suc (bound_of l names - (i + 1)) = omega (arith, lt) in
     ap (λ n. finish s l answer (bound_of l names) (iterations s l n i m names)) more
 
-turn_is : (k : Program) (l : PlainLoop) (i : ℕ) (m : Memory) (names : Names) → k.turns ≡ Some l → run_from k i m names ≡ turns_from (var_scope k) (Some l) k.answer i m names
-turn_is k l i m names has = ap (λ t. turns_from (var_scope k) t k.answer i m names) has
+for_loop_is : (k : Program) (l : PlainLoop) (i : ℕ) (m : Memory) (names : Names) → k.for_loop ≡ Some l → run_from k i m names ≡ for_loop_from (var_scope k) (Some l) k.answer i m names
+for_loop_is k l i m names has = ap (λ t. for_loop_from (var_scope k) t k.answer i m names) has
 
 -- one that ends so
-turn_ends : (k : Program) (l : PlainLoop) (i : ℕ) (m : Memory) (names : Names) (t : BlockEnd Names) → k.turns ≡ Some l → i < bound_of l names → iterate (var_scope k) l i m names ≡ t
+iteration_ended : (k : Program) (l : PlainLoop) (i : ℕ) (m : Memory) (names : Names) (t : BlockEnd Names) → k.for_loop ≡ Some l → i < bound_of l names → iterate (var_scope k) l i m names ≡ t
     → run_from k i m names ≡ finish (var_scope k) l k.answer (bound_of l names) (go_on t i (iterations (var_scope k) l (bound_of l names - (i + 1)) (i + 1)))
-turn_ends k l i m names t has lt e =
-    turn_is k l i m names has ∙ one_on (var_scope k) l k.answer i m names lt ∙ ap (λ t. finish (var_scope k) l k.answer (bound_of l names) (go_on t i (iterations (var_scope k) l (bound_of l names - (i + 1)) (i + 1)))) e
+iteration_ended k l i m names t has lt e =
+    for_loop_is k l i m names has ∙ one_on (var_scope k) l k.answer i m names lt ∙ ap (λ t. finish (var_scope k) l k.answer (bound_of l names) (go_on t i (iterations (var_scope k) l (bound_of l names - (i + 1)) (i + 1)))) e
 
-pub goes_on : (k : Program) (l : PlainLoop) (i : ℕ) (m now : Memory) (names next : Names) → k.turns ≡ Some l → i < bound_of l names → bound_of l next ≡ bound_of l names → iterate (var_scope k) l i m names ≡ Next now next → run_from k i m names ≡ run_from k (i + 1) now next
+pub goes_on : (k : Program) (l : PlainLoop) (i : ℕ) (m now : Memory) (names next : Names) → k.for_loop ≡ Some l → i < bound_of l names → bound_of l next ≡ bound_of l names → iterate (var_scope k) l i m names ≡ Next now next → run_from k i m names ≡ run_from k (i + 1) now next
 goes_on k l i m now names next has lt same e =
-    turn_ends k l i m names (Next now next) has lt e
-    ∙ ap (λ n. finish (var_scope k) l k.answer n (iterations (var_scope k) l (n - (i + 1)) (i + 1) now next)) (sym same) ∙ sym (turn_is k l (i + 1) now next has)
+    iteration_ended k l i m names (Next now next) has lt e
+    ∙ ap (λ n. finish (var_scope k) l k.answer n (iterations (var_scope k) l (n - (i + 1)) (i + 1) now next)) (sym same) ∙ sym (for_loop_is k l (i + 1) now next has)
 
-pub breaks : (k : Program) (l : PlainLoop) (i : ℕ) (m now : Memory) (names next : Names) → k.turns ≡ Some l → i < bound_of l names → iterate (var_scope k) l i m names ≡ Broke now next → run_from k i m names ≡ closed (var_scope k) l k.answer now next i (i + 1)
-breaks k l i m now names next has lt e = turn_ends k l i m names (Broke now next) has lt e
+pub breaks : (k : Program) (l : PlainLoop) (i : ℕ) (m now : Memory) (names next : Names) → k.for_loop ≡ Some l → i < bound_of l names → iterate (var_scope k) l i m names ≡ Broke now next → run_from k i m names ≡ closed (var_scope k) l k.answer now next i (i + 1)
+breaks k l i m now names next has lt e = iteration_ended k l i m names (Broke now next) has lt e
 
-pub faults : (k : Program) (l : PlainLoop) (i : ℕ) (m now : Memory) (names : Names) → k.turns ≡ Some l → i < bound_of l names → iterate (var_scope k) l i m names ≡ Faulted now → run_from k i m names ≡ Fault now (i + 1)
-faults k l i m now names has lt e = turn_ends k l i m names (Faulted now) has lt e
+pub faults : (k : Program) (l : PlainLoop) (i : ℕ) (m now : Memory) (names : Names) → k.for_loop ≡ Some l → i < bound_of l names → iterate (var_scope k) l i m names ≡ Faulted now → run_from k i m names ≡ Fault now (i + 1)
+faults k l i m now names has lt e = iteration_ended k l i m names (Faulted now) has lt e
 
 -- no iteration is left
-pub over : (k : Program) (l : PlainLoop) (i : ℕ) (m : Memory) (names : Names) → k.turns ≡ Some l → i ≡ bound_of l names → run_from k i m names ≡ closed (var_scope k) l k.answer m names i i
+pub over : (k : Program) (l : PlainLoop) (i : ℕ) (m : Memory) (names : Names) → k.for_loop ≡ Some l → i ≡ bound_of l names → run_from k i m names ≡ closed (var_scope k) l k.answer m names i i
 over k l i m names has e =
     let none : bound_of l names - i ≡ 0 = omega (arith, e) in
-    turn_is k l i m names has
+    for_loop_is k l i m names has
     ∙ ap (λ n. finish (var_scope k) l k.answer (bound_of l names) (iterations (var_scope k) l n i m names)) none
     ∙ ap (finish (var_scope k) l k.answer (bound_of l names)) (nothing (var_scope k) l i m names)
     ∙ ap (λ n. closed (var_scope k) l k.answer m names n n) (sym e)

@@ -21,7 +21,7 @@ branching = record {
   name = codes "k";
   params = record { name = codes "a"; shape = shape.Array ty.U8 } ∷ record { name = codes "n"; shape = shape.Scalar ty.U64 } ∷ [];
   vars = [];
-  turns = Some (record {
+  for_loop = Some (record {
     index = codes "i";
     bound = codes "n";
     body = Then (Choose (Either (is at) (is (Variable (codes "n")))) (Then (Put (codes "a") (Variable (codes "i")) (Literal (pos 1))) Done) (Else (Then (Leave (Both (is at) (is at))) Done))) Done;

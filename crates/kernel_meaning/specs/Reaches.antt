@@ -62,15 +62,15 @@ abbrev mutual
   otherwise_reached index truths from on inner (Else b) = on ∷ block_reached index truths (from + 1) inner b
 
 -- `for` is reached
-abbrev pub turns_reached : List Bool → ℕ → Option PlainLoop → List Bool
-turns_reached truths from None = []
-turns_reached truths from (Some l) = true ∷ block_reached (Some l.index) truths (from + 1) true l.body
+abbrev pub for_loop_reached : List Bool → ℕ → Option PlainLoop → List Bool
+for_loop_reached truths from None = []
+for_loop_reached truths from (Some l) = true ∷ block_reached (Some l.index) truths (from + 1) true l.body
 
 -- no item outside the loop is reached
 abbrev pub reached : Program → List Bool → List Bool
 reached k truths =
     let from = length k.params + vars_size (loop_index k) k.vars in
-    replicate from false ++ (turns_reached truths from k.turns ++ replicate (answer_size (loop_index k) k.answer) false)
+    replicate from false ++ (for_loop_reached truths from k.for_loop ++ replicate (answer_size (loop_index k) k.answer) false)
 
 -- an iteration with these truth values comes to the item
 abbrev pub reaches : Program → List Bool → ℕ → Bool

@@ -5,7 +5,7 @@ use Rattle.kernel_tree.specs.declared.ast.Shape.TheVariants as shape
 use Rattle.kernel_tree.specs.declared.fault.Binding.TheVariants as binding
 use Rattle.kernel_tree.specs.Plain.{Parameter, Accumulator, PlainLoop, Returned, Program}
 use Rattle.kernel_tree.specs.Wrap.{wrap}
-use Rattle.kernel_tree.specs.Typing.{Scope, declared, after_turns, param_scope, var_scope}
+use Rattle.kernel_tree.specs.Typing.{Scope, declared, after_for_loop, param_scope, var_scope}
 use Rattle.guest_types.specs.Memory.{Memory}
 use Rattle.kernel_meaning.specs.Ends.{LoopState, Going, Left, Failed, go_on}
 use Rattle.kernel_meaning.specs.Operators.{word}
@@ -63,7 +63,7 @@ ended memory n (Some result) = End memory result n
 
 -- the end of a loop after `done` completed iterations
 abbrev pub closed : Scope → PlainLoop → Option Returned → Memory → Names → (done begun : ℕ) → Run
-closed scope l answer memory names done n = ended memory n (returned (after_turns scope (Some l)) answer memory (with_name l.index names (pos done)))
+closed scope l answer memory names done n = ended memory n (returned (after_for_loop scope (Some l)) answer memory (with_name l.index names (pos done)))
 
 -- The end of a loop of n iterations. In the returned expression the loop variable is the number of completed iterations,
 -- and one that a `break` ended is not completed.
@@ -72,13 +72,13 @@ finish scope l answer n (Going memory names) = closed scope l answer memory name
 finish scope l answer n (Left memory names i) = closed scope l answer memory names i (i + 1)
 finish scope l answer n (Failed memory i) = Fault memory (i + 1)
 
-abbrev pub run_turns : Scope → Option PlainLoop → Option Returned → Memory → Names → Run
-run_turns scope None answer memory names = ended memory 0 (returned scope answer memory names)
-run_turns scope (Some l) answer memory names = finish scope l answer (bound_of l names) (iterations scope l (bound_of l names) 0 memory names)
+abbrev pub run_for_loop : Scope → Option PlainLoop → Option Returned → Memory → Names → Run
+run_for_loop scope None answer memory names = ended memory 0 (returned scope answer memory names)
+run_for_loop scope (Some l) answer memory names = finish scope l answer (bound_of l names) (iterations scope l (bound_of l names) 0 memory names)
 
 abbrev pub run_named : Program → Memory → Option Names → Run
 run_named k memory None = Fault memory 0
-run_named k memory (Some names) = run_turns (var_scope k) k.turns k.answer memory names
+run_named k memory (Some names) = run_for_loop (var_scope k) k.for_loop k.answer memory names
 
 -- the names at the start of the loop
 abbrev pub started : Program → List ℕ → Memory → Option Names
@@ -91,12 +91,12 @@ scalar_run k args memory = run_named k memory (started k args memory)
 -- ---- the run from an iteration on
 
 -- what the loop does from iteration i on, up to the end of the run
-abbrev pub turns_from : Scope → Option PlainLoop → Option Returned → ℕ → Memory → Names → Run
-turns_from scope None answer i memory names = ended memory 0 (returned scope answer memory names)
-turns_from scope (Some l) answer i memory names = finish scope l answer (bound_of l names) (iterations scope l (bound_of l names - i) i memory names)
+abbrev pub for_loop_from : Scope → Option PlainLoop → Option Returned → ℕ → Memory → Names → Run
+for_loop_from scope None answer i memory names = ended memory 0 (returned scope answer memory names)
+for_loop_from scope (Some l) answer i memory names = finish scope l answer (bound_of l names) (iterations scope l (bound_of l names - i) i memory names)
 
 abbrev pub run_from : Program → ℕ → Memory → Names → Run
-run_from k i memory names = turns_from (var_scope k) k.turns k.answer i memory names
+run_from k i memory names = for_loop_from (var_scope k) k.for_loop k.answer i memory names
 
 -- no more iterations than the loop has are completed; without a loop there are none
 abbrev pub IsWithin : Option PlainLoop → ℕ → Names → Type 0
@@ -110,11 +110,11 @@ memory_of (Going memory names) = memory
 memory_of (Left memory names i) = memory
 memory_of (Failed memory i) = memory
 
-abbrev pub turns_leave : Scope → Option PlainLoop → ℕ → Memory → Option Names → Memory
-turns_leave scope None count memory names = memory
-turns_leave scope (Some l) count memory None = memory
-turns_leave scope (Some l) count memory (Some names) = memory_of (iterations scope l count 0 memory names)
+abbrev pub for_loop_leaves : Scope → Option PlainLoop → ℕ → Memory → Option Names → Memory
+for_loop_leaves scope None count memory names = memory
+for_loop_leaves scope (Some l) count memory None = memory
+for_loop_leaves scope (Some l) count memory (Some names) = memory_of (iterations scope l count 0 memory names)
 
 -- the memory that the first iterations leave, so many of them
 abbrev pub first_leave : Program → List ℕ → ℕ → Memory → Memory
-first_leave k args count memory = turns_leave (var_scope k) k.turns count memory (started k args memory)
+first_leave k args count memory = for_loop_leaves (var_scope k) k.for_loop count memory (started k args memory)

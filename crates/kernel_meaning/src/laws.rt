@@ -22,19 +22,19 @@ pub fn whole_run()
 /// loop's bound as it is; it ends where the iteration breaks or faults, and where none is left.
 pub fn next_iteration()
     ensures next { (k : Program) (l : PlainLoop) (i : ℕ) (memory after : Memory) (names others : Names)
-        → k.turns ≡ Some l → i < bound_of l names → bound_of l others ≡ bound_of l names
+        → k.for_loop ≡ Some l → i < bound_of l names → bound_of l others ≡ bound_of l names
         → iterate (var_scope k) l i memory names ≡ Next after others
         → run_from k i memory names ≡ run_from k (i + 1) after others }
     ensures broke { (k : Program) (l : PlainLoop) (i : ℕ) (memory after : Memory) (names others : Names)
-        → k.turns ≡ Some l → i < bound_of l names
+        → k.for_loop ≡ Some l → i < bound_of l names
         → iterate (var_scope k) l i memory names ≡ Broke after others
         → run_from k i memory names ≡ closed (var_scope k) l k.answer after others i (i + 1) }
     ensures faulted { (k : Program) (l : PlainLoop) (i : ℕ) (memory after : Memory) (names : Names)
-        → k.turns ≡ Some l → i < bound_of l names
+        → k.for_loop ≡ Some l → i < bound_of l names
         → iterate (var_scope k) l i memory names ≡ Faulted after
         → run_from k i memory names ≡ Fault after (i + 1) }
     ensures over { (k : Program) (l : PlainLoop) (i : ℕ) (memory : Memory) (names : Names)
-        → k.turns ≡ Some l → i ≡ bound_of l names
+        → k.for_loop ≡ Some l → i ≡ bound_of l names
         → run_from k i memory names ≡ closed (var_scope k) l k.answer memory names i i }
 {}
 

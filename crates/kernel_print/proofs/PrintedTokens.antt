@@ -10,47 +10,47 @@ use Rattle.kernel_tree.specs.declared.ast.Shape.TheVariants as shape
 use Rattle.kernel_tree.specs.declared.place.Place.{Place}
 use Rattle.kernel_tree.specs.declared.place.Place.TheVariants as site
 use Rattle.kernel_tree.specs.declared.mark.Mark.{Mark}
-use Rattle.kernel_tree.specs.Word.{Word, IsCompare, IsMark}
+use Rattle.kernel_tree.specs.TextToken.{TextToken, IsCompare, IsMark}
 use Rattle.kernel_tree.specs.Tokens.{is_token}
 use Rattle.kernel_tree.specs.Plain.{Term, Literal, Variable, Element, Unary, Operation, Shift, Conversion, Choice, Comparison, Both, Either, Not, Action, Define, Put, Update, Choose, Leave, Block, Done, Then, Otherwise, Nothing, Else, Parameter, Accumulator, PlainLoop, Returned, Program}
-use Rattle.kernel_tree.specs.Printing.{opened, closed, number_opened, number_closed, print_literal, print_count, mark_of_binary, print_between, print_binary, print_unary, print_term, print_type, print_action, print_block, print_otherwise, print_shape, print_others, print_params, print_vars, print_turns, print_arrow, print_answer, canonical_words}
-use Rattle.kernel_tree.proofs.Well.{Tokens, IsCount, Well, WellAction, WellBlock, WellOtherwise, WellParams, WellVars, WellTurns, WellAnswer, WellProgram}
+use Rattle.kernel_tree.specs.Printing.{opened, closed, number_opened, number_closed, print_literal, print_count, mark_of_binary, print_between, print_binary, print_unary, print_term, print_type, print_action, print_block, print_otherwise, print_shape, print_others, print_params, print_vars, print_for_loop, print_arrow, print_answer, canonical_words}
+use Rattle.kernel_tree.proofs.Well.{Tokens, IsCount, Well, WellAction, WellBlock, WellOtherwise, WellParams, WellVars, WellForLoop, WellAnswer, WellProgram}
 
-opened_tokens : (place : Place) (rest : List Word) → Tokens rest → Tokens (opened place rest)
+opened_tokens : (place : Place) (rest : List TextToken) → Tokens rest → Tokens (opened place rest)
 unfolding opened
 opened_tokens site.Alone rest t = t
 opened_tokens site.Operand rest t = (refl, t)
 opened_tokens site.Negated rest t = (refl, t)
 
-closed_tokens : (place : Place) (rest : List Word) → Tokens rest → Tokens (closed place rest)
+closed_tokens : (place : Place) (rest : List TextToken) → Tokens rest → Tokens (closed place rest)
 unfolding closed
 closed_tokens site.Alone rest t = t
 closed_tokens site.Operand rest t = (refl, t)
 closed_tokens site.Negated rest t = (refl, t)
 
-literal_tokens : (n : ℤ) (place : Place) (rest : List Word) → Well (Literal n) → Tokens rest → Tokens (print_literal n place rest)
+literal_tokens : (n : ℤ) (place : Place) (rest : List TextToken) → Well (Literal n) → Tokens rest → Tokens (print_literal n place rest)
 unfolding number_opened number_closed
 literal_tokens (pos n) site.Alone rest h t = (h, t)
 literal_tokens (pos n) site.Operand rest h t = (h, t)
 literal_tokens (pos n) site.Negated rest h t = (refl, (h, (refl, t)))
 literal_tokens (negsuc n) place rest h t = opened_tokens place _ (refl, (h, closed_tokens place rest t))
 
-count_tokens : (n : ℤ) (rest : List Word) → IsCount n → Tokens rest → Tokens (print_count n rest)
+count_tokens : (n : ℤ) (rest : List TextToken) → IsCount n → Tokens rest → Tokens (print_count n rest)
 count_tokens (pos n) rest h t = (h, t)
 count_tokens (negsuc n) rest h t = absurd h
 
 -- what prints tokens in front of tokens
-abbrev Keeps : (Place → List Word → List Word) → Type 0
-Keeps f = (place : Place) (rest : List Word) → Tokens rest → Tokens (f place rest)
+abbrev Keeps : (Place → List TextToken → List TextToken) → Type 0
+Keeps f = (place : Place) (rest : List TextToken) → Tokens rest → Tokens (f place rest)
 
-between_tokens : (f g : Place → List Word → List Word) (w : Word) → IsTrue (is_token w) → Keeps f → Keeps g → Keeps (print_between f w g)
+between_tokens : (f g : Place → List TextToken → List TextToken) (w : TextToken) → IsTrue (is_token w) → Keeps f → Keeps g → Keeps (print_between f w g)
 between_tokens f g w h p q place rest t = opened_tokens place _ (p site.Operand _ (h, q site.Operand _ (closed_tokens place rest t)))
 
-binary_tokens : (o : Option Mark) (op : BinaryOp) (f g : Place → List Word → List Word) → Keeps f → Keeps g → Keeps (print_binary o op f g)
+binary_tokens : (o : Option Mark) (op : BinaryOp) (f g : Place → List TextToken → List TextToken) → Keeps f → Keeps g → Keeps (print_binary o op f g)
 binary_tokens (Some m) op f g p q place rest t = between_tokens f g (IsMark m) refl p q place rest t
 binary_tokens None op f g p q place rest t = (refl, (refl, p site.Alone _ (refl, q site.Alone _ (refl, t))))
 
-unary_tokens : (op : UnaryOp) (f : Place → List Word → List Word) → Keeps f → Keeps (print_unary op f)
+unary_tokens : (op : UnaryOp) (f : Place → List TextToken → List TextToken) → Keeps f → Keeps (print_unary op f)
 unary_tokens unary.Neg f p place rest t = opened_tokens place _ (refl, p site.Negated _ (closed_tokens place rest t))
 unary_tokens unary.Flip f p place rest t = opened_tokens place _ (refl, p site.Operand _ (closed_tokens place rest t))
 unary_tokens unary.Abs f p place rest t = (refl, (refl, p site.Alone _ (refl, t)))
@@ -70,56 +70,56 @@ term_tokens (Either a b) h place rest t = between_tokens (print_term a) (print_t
 term_tokens (Not e) h place rest t = opened_tokens place _ (refl, term_tokens e h site.Operand _ (closed_tokens place rest t))
 
 -- an expression by itself, and tokens after it
-alone : (e : Term) → Well e → (rest : List Word) → Tokens rest → Tokens (print_term e site.Alone rest)
+alone : (e : Term) → Well e → (rest : List TextToken) → Tokens rest → Tokens (print_term e site.Alone rest)
 alone e h rest t = term_tokens e h site.Alone rest t
 
-type_tokens : (y : Option Ty) (rest : List Word) → Tokens rest → Tokens (print_type y rest)
+type_tokens : (y : Option Ty) (rest : List TextToken) → Tokens rest → Tokens (print_type y rest)
 type_tokens None rest t = t
 type_tokens (Some y) rest t = (refl, (refl, t))
 
 mutual
-  action_tokens : (whole : Bool) (s : Action) → WellAction whole s → (rest : List Word) → Tokens rest → Tokens (print_action s rest)
+  action_tokens : (whole : Bool) (s : Action) → WellAction whole s → (rest : List TextToken) → Tokens rest → Tokens (print_action s rest)
   action_tokens whole (Define x y e) h rest t = (refl, (h.0, type_tokens y _ (refl, alone e h.1 _ (refl, t))))
   action_tokens whole (Put a i e) h rest t = (h.0, (refl, alone i h.1.0 _ (refl, (refl, alone e h.1.1 _ (refl, t)))))
   action_tokens whole (Update x op e) h rest t = (h.0, (refl, alone e h.1 _ (refl, t)))
   action_tokens whole (Choose c b d) h rest t = (refl, alone c h.0 _ (refl, block_tokens false b h.1.0 _ (otherwise_tokens d h.1.1 rest t)))
   action_tokens whole (Leave c) h rest t = (refl, (refl, alone c h.1 _ (refl, t)))
 
-  pub block_tokens : (whole : Bool) (b : Block) → WellBlock whole b → (rest : List Word) → Tokens rest → Tokens (print_block b rest)
+  pub block_tokens : (whole : Bool) (b : Block) → WellBlock whole b → (rest : List TextToken) → Tokens rest → Tokens (print_block b rest)
   block_tokens whole Done h rest t = (refl, t)
   block_tokens whole (Then s b) h rest t = action_tokens whole s h.0 _ (block_tokens whole b h.1 rest t)
 
-  otherwise_tokens : (d : Otherwise) → WellOtherwise d → (rest : List Word) → Tokens rest → Tokens (print_otherwise d rest)
+  otherwise_tokens : (d : Otherwise) → WellOtherwise d → (rest : List TextToken) → Tokens rest → Tokens (print_otherwise d rest)
   otherwise_tokens Nothing h rest t = t
   otherwise_tokens (Else b) h rest t = (refl, (refl, block_tokens false b h rest t))
 
-shape_tokens : (s : Shape) (rest : List Word) → Tokens rest → Tokens (print_shape s rest)
+shape_tokens : (s : Shape) (rest : List TextToken) → Tokens rest → Tokens (print_shape s rest)
 shape_tokens (shape.Scalar y) rest t = (refl, t)
 shape_tokens (shape.Array y) rest t = (refl, (refl, (refl, t)))
 
-others_tokens : (ps : List Parameter) → WellParams ps → (rest : List Word) → Tokens rest → Tokens (print_others ps rest)
+others_tokens : (ps : List Parameter) → WellParams ps → (rest : List TextToken) → Tokens rest → Tokens (print_others ps rest)
 others_tokens [] h rest t = t
 others_tokens (p ∷ ps) h rest t = (refl, (h.0, (refl, shape_tokens p.shape _ (others_tokens ps h.1 rest t))))
 
-params_tokens : (ps : List Parameter) → WellParams ps → (rest : List Word) → Tokens rest → Tokens (print_params ps rest)
+params_tokens : (ps : List Parameter) → WellParams ps → (rest : List TextToken) → Tokens rest → Tokens (print_params ps rest)
 params_tokens [] h rest t = t
 params_tokens (p ∷ ps) h rest t = (h.0, (refl, shape_tokens p.shape _ (others_tokens ps h.1 rest t)))
 
-vars_tokens : (vs : List Accumulator) → WellVars vs → (rest : List Word) → Tokens rest → Tokens (print_vars vs rest)
+vars_tokens : (vs : List Accumulator) → WellVars vs → (rest : List TextToken) → Tokens rest → Tokens (print_vars vs rest)
 vars_tokens [] h rest t = t
 vars_tokens (v ∷ vs) h rest t = (refl, (h.0, (refl, (refl, (refl, alone v.init h.1.0 _ (refl, vars_tokens vs h.1.1 rest t))))))
 
-turns_tokens : (l : Option PlainLoop) → WellTurns l → (rest : List Word) → Tokens rest → Tokens (print_turns l rest)
-turns_tokens None h rest t = t
-turns_tokens (Some l) h rest t = (refl, (h.0, (refl, (refl, (refl, (h.1.0, (refl, block_tokens true l.body h.1.1 rest t)))))))
+for_loop_tokens : (l : Option PlainLoop) → WellForLoop l → (rest : List TextToken) → Tokens rest → Tokens (print_for_loop l rest)
+for_loop_tokens None h rest t = t
+for_loop_tokens (Some l) h rest t = (refl, (h.0, (refl, (refl, (refl, (h.1.0, (refl, block_tokens true l.body h.1.1 rest t)))))))
 
-arrow_tokens : (a : Option Returned) (rest : List Word) → Tokens rest → Tokens (print_arrow a rest)
+arrow_tokens : (a : Option Returned) (rest : List TextToken) → Tokens rest → Tokens (print_arrow a rest)
 arrow_tokens None rest t = t
 arrow_tokens (Some a) rest t = (refl, (refl, t))
 
-answer_tokens : (a : Option Returned) → WellAnswer a → (rest : List Word) → Tokens rest → Tokens (print_answer a rest)
+answer_tokens : (a : Option Returned) → WellAnswer a → (rest : List TextToken) → Tokens rest → Tokens (print_answer a rest)
 answer_tokens None h rest t = t
 answer_tokens (Some a) h rest t = (refl, alone a.value h _ (refl, t))
 
 pub canonical_tokens : (k : Program) → WellProgram k → Tokens (canonical_words k)
-canonical_tokens k h = (refl, (h.name, (refl, params_tokens k.params h.params _ (refl, arrow_tokens k.answer _ (refl, vars_tokens k.vars h.vars _ (turns_tokens k.turns h.turns _ (answer_tokens k.answer h.answer _ (refl, tt))))))))
+canonical_tokens k h = (refl, (h.name, (refl, params_tokens k.params h.params _ (refl, arrow_tokens k.answer _ (refl, vars_tokens k.vars h.vars _ (for_loop_tokens k.for_loop h.for_loop _ (answer_tokens k.answer h.answer _ (refl, tt))))))))

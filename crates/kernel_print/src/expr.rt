@@ -1,7 +1,7 @@
 //! Prints expressions.
 
 ghost use Rattle.std.specs.Prelude.{◌≡◌, ◌∷◌, ◌++◌, List, IfOk, string_bytes};
-ghost use Rattle.kernel_tree.specs.Word.{Word, IsName, IsType, IsCompare, IsMark};
+ghost use Rattle.kernel_tree.specs.TextToken.{TextToken, IsName, IsType, IsCompare, IsMark};
 ghost use Rattle.kernel_tree.specs.Plain.{name_of, term_of};
 ghost use Rattle.kernel_tree.specs.Printing.{spaced, opened, closed, print_count, print_term, print_unary, print_binary, print_between, print_call, mark_of_binary, mark_of_call, mark_of_shift};
 
@@ -55,7 +55,7 @@ fn end_shift(
     count: i128,
     place: Place,
 ) -> Result<(), AllocError>
-    ensures { IfOk result (λ _. (rest : List Word)
+    ensures { IfOk result (λ _. (rest : List TextToken)
         → string_bytes out.new ++ spaced rest
         ≡ string_bytes out.old ++ spaced (IsMark (mark_of_shift left_shift) ∷ print_count count (closed place rest))) }
 {
@@ -66,7 +66,7 @@ fn end_shift(
 
 // The word of a call and the parenthesis after it.
 fn begin_call(out: &mut String, mark: Mark) -> Result<(), AllocError>
-    ensures { IfOk result (λ _. (rest : List Word)
+    ensures { IfOk result (λ _. (rest : List TextToken)
         → string_bytes out.new ++ spaced rest
         ≡ string_bytes out.old ++ spaced (IsMark mark ∷ IsMark Mark.OpenParen ∷ rest)) }
 {
@@ -77,7 +77,7 @@ fn begin_call(out: &mut String, mark: Mark) -> Result<(), AllocError>
 // An expression in a place.
 #[cycle(terms)]
 pub fn print_expr(out: &mut String, expr: &Expr, place: Place) -> Result<(), AllocError>
-    ensures { IfOk result (λ _. (rest : List Word)
+    ensures { IfOk result (λ _. (rest : List TextToken)
         → string_bytes out.new ++ spaced rest
         ≡ string_bytes out.old ++ spaced (print_term (term_of expr.now) place rest)) }
 {
@@ -104,7 +104,7 @@ pub fn print_expr(out: &mut String, expr: &Expr, place: Place) -> Result<(), All
 // An expression that stands alone, and the mark after it.
 #[cycle(terms)]
 fn print_argument(out: &mut String, arg: &Expr, mark: Mark) -> Result<(), AllocError>
-    ensures { IfOk result (λ _. (rest : List Word)
+    ensures { IfOk result (λ _. (rest : List TextToken)
         → string_bytes out.new ++ spaced rest
         ≡ string_bytes out.old ++ spaced (print_term (term_of arg.now) Place.Alone (IsMark mark ∷ rest))) }
 {
@@ -114,7 +114,7 @@ fn print_argument(out: &mut String, arg: &Expr, mark: Mark) -> Result<(), AllocE
 
 #[cycle(terms)]
 fn print_read(out: &mut String, array: &Name, index: &Expr) -> Result<(), AllocError>
-    ensures { IfOk result (λ _. (rest : List Word)
+    ensures { IfOk result (λ _. (rest : List TextToken)
         → string_bytes out.new ++ spaced rest
         ≡ string_bytes out.old ++ spaced (IsName (name_of array.now) ∷ IsMark Mark.OpenBracket
         ∷ print_term (term_of index.now) Place.Alone (IsMark Mark.CloseBracket ∷ rest))) }
@@ -133,7 +133,7 @@ fn print_signed(
     inside: Place,
     place: Place,
 ) -> Result<(), AllocError>
-    ensures { IfOk result (λ _. (rest : List Word)
+    ensures { IfOk result (λ _. (rest : List TextToken)
         → string_bytes out.new ++ spaced rest
         ≡ string_bytes out.old ++ spaced (opened place
         (IsMark sign ∷ print_term (term_of arg.now) inside (closed place rest)))) }
@@ -146,7 +146,7 @@ fn print_signed(
 
 #[cycle(terms)]
 fn print_absolute(out: &mut String, arg: &Expr) -> Result<(), AllocError>
-    ensures { IfOk result (λ _. (rest : List Word)
+    ensures { IfOk result (λ _. (rest : List TextToken)
         → string_bytes out.new ++ spaced rest
         ≡ string_bytes out.old ++ spaced (IsMark Mark.Abs ∷ IsMark Mark.OpenParen
         ∷ print_term (term_of arg.now) Place.Alone (IsMark Mark.CloseParen ∷ rest))) }
@@ -157,7 +157,7 @@ fn print_absolute(out: &mut String, arg: &Expr) -> Result<(), AllocError>
 
 #[cycle(terms)]
 fn print_unary(out: &mut String, op: UnaryOp, arg: &Expr, place: Place) -> Result<(), AllocError>
-    ensures { IfOk result (λ _. (rest : List Word)
+    ensures { IfOk result (λ _. (rest : List TextToken)
         → string_bytes out.new ++ spaced rest
         ≡ string_bytes out.old ++ spaced (print_unary op (print_term (term_of arg.now)) place rest)) }
 {
@@ -176,7 +176,7 @@ fn print_binary(
     right: &Expr,
     place: Place,
 ) -> Result<(), AllocError>
-    ensures { IfOk result (λ _. (rest : List Word)
+    ensures { IfOk result (λ _. (rest : List TextToken)
         → string_bytes out.new ++ spaced rest
         ≡ string_bytes out.old ++ spaced (print_binary (mark_of_binary op) op (print_term (term_of left.now))
         (print_term (term_of right.now)) place rest)) }
@@ -195,7 +195,7 @@ fn print_between(
     right: &Expr,
     place: Place,
 ) -> Result<(), AllocError>
-    ensures { IfOk result (λ _. (rest : List Word)
+    ensures { IfOk result (λ _. (rest : List TextToken)
         → string_bytes out.new ++ spaced rest
         ≡ string_bytes out.old ++ spaced (print_between (print_term (term_of left.now)) (IsMark mark)
         (print_term (term_of right.now)) place rest)) }
@@ -215,7 +215,7 @@ fn print_compared(
     right: &Expr,
     place: Place,
 ) -> Result<(), AllocError>
-    ensures { IfOk result (λ _. (rest : List Word)
+    ensures { IfOk result (λ _. (rest : List TextToken)
         → string_bytes out.new ++ spaced rest
         ≡ string_bytes out.old ++ spaced (print_between (print_term (term_of left.now)) (IsCompare op)
         (print_term (term_of right.now)) place rest)) }
@@ -229,7 +229,7 @@ fn print_compared(
 
 #[cycle(terms)]
 fn print_call(out: &mut String, mark: Mark, left: &Expr, right: &Expr) -> Result<(), AllocError>
-    ensures { IfOk result (λ _. (rest : List Word)
+    ensures { IfOk result (λ _. (rest : List TextToken)
         → string_bytes out.new ++ spaced rest
         ≡ string_bytes out.old ++ spaced (print_call mark (print_term (term_of left.now))
         (print_term (term_of right.now)) rest)) }
@@ -247,7 +247,7 @@ fn print_shift(
     count: i128,
     place: Place,
 ) -> Result<(), AllocError>
-    ensures { IfOk result (λ _. (rest : List Word)
+    ensures { IfOk result (λ _. (rest : List TextToken)
         → string_bytes out.new ++ spaced rest
         ≡ string_bytes out.old ++ spaced (opened place
         (print_term (term_of arg.now) Place.Operand
@@ -260,7 +260,7 @@ fn print_shift(
 
 #[cycle(terms)]
 fn print_cast(out: &mut String, arg: &Expr, ty: Ty, place: Place) -> Result<(), AllocError>
-    ensures { IfOk result (λ _. (rest : List Word)
+    ensures { IfOk result (λ _. (rest : List TextToken)
         → string_bytes out.new ++ spaced rest
         ≡ string_bytes out.old ++ spaced (opened place
         (print_term (term_of arg.now) Place.Operand (IsMark Mark.As ∷ IsType ty ∷ closed place rest)))) }
@@ -274,7 +274,7 @@ fn print_cast(out: &mut String, arg: &Expr, ty: Ty, place: Place) -> Result<(), 
 
 #[cycle(terms)]
 fn print_select(out: &mut String, cond: &Expr, yes: &Expr, no: &Expr) -> Result<(), AllocError>
-    ensures { IfOk result (λ _. (rest : List Word)
+    ensures { IfOk result (λ _. (rest : List TextToken)
         → string_bytes out.new ++ spaced rest
         ≡ string_bytes out.old ++ spaced (IsMark Mark.Select ∷ IsMark Mark.OpenParen
         ∷ print_term (term_of cond.now) Place.Alone

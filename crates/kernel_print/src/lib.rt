@@ -7,11 +7,11 @@ mod stmt;
 mod token;
 
 ghost use Rattle.std.specs.Prelude.{◌≡◌, ◌∷◌, ◌++◌, List, [], IfOk, string_bytes};
-ghost use Rattle.kernel_tree.specs.Word.{Word, IsName, IsMark};
+ghost use Rattle.kernel_tree.specs.TextToken.{TextToken, IsName, IsMark};
 ghost use Rattle.kernel_tree.specs.Plain.{Program, program_of};
 ghost use Rattle.kernel_tree.specs.Grammar.{IsTree};
 ghost use Rattle.kernel_tree.specs.Text.{IsTextOf};
-ghost use Rattle.kernel_tree.specs.Printing.{spaced, kernel_words, canonical_text, print_params, print_arrow, print_vars, print_turns, print_answer};
+ghost use Rattle.kernel_tree.specs.Printing.{spaced, kernel_words, canonical_text, print_params, print_arrow, print_vars, print_for_loop, print_answer};
 
 use kernel_tree::Kernel;
 use kernel_tree::mark::Mark;
@@ -22,7 +22,7 @@ use token::{put_mark, put_name};
 // The name, the parameters and the type that is returned.
 fn put_head(out: &mut String, kernel: &Kernel) -> Result<(), AllocError>
     ensures { let k = program_of kernel.now in IfOk result
-        (λ _. (rest : List Word) → string_bytes out.new ++ spaced rest
+        (λ _. (rest : List TextToken) → string_bytes out.new ++ spaced rest
         ≡ string_bytes out.old ++ spaced (IsName k.name ∷ IsMark Mark.OpenParen
         ∷ print_params k.params (IsMark Mark.CloseParen ∷ print_arrow k.answer (IsMark Mark.OpenBrace ∷ rest)))) }
 {
@@ -37,9 +37,9 @@ fn put_head(out: &mut String, kernel: &Kernel) -> Result<(), AllocError>
 // What stands in the braces.
 fn put_inside(out: &mut String, kernel: &Kernel) -> Result<(), AllocError>
     ensures { let k = program_of kernel.now in IfOk result
-        (λ _. (rest : List Word) → string_bytes out.new ++ spaced rest
+        (λ _. (rest : List TextToken) → string_bytes out.new ++ spaced rest
         ≡ string_bytes out.old ++ spaced (print_vars k.vars
-        (print_turns k.turns (print_answer k.answer (IsMark Mark.CloseBrace ∷ rest))))) }
+        (print_for_loop k.for_loop (print_answer k.answer (IsMark Mark.CloseBrace ∷ rest))))) }
 {
     put_vars(out, &kernel.vars)?;
     put_loop(out, &kernel.body)?;

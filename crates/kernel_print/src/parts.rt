@@ -1,9 +1,9 @@
 //! Prints the parts of a kernel.
 
 ghost use Rattle.std.specs.Prelude.{◌≡◌, ◌∷◌, ◌++◌, List, [], IfOk, string_bytes, option_map, Option};
-ghost use Rattle.kernel_tree.specs.Word.{Word, IsName, IsNumber, IsType, IsMark};
-ghost use Rattle.kernel_tree.specs.Plain.{name_of, parameter_of, parameters_of, accumulator_of, accumulators_of, turns_of, returned_of};
-ghost use Rattle.kernel_tree.specs.Printing.{spaced, print_shape, print_param, print_others, print_params, print_vars, print_turns, print_arrow, print_answer, print_term};
+ghost use Rattle.kernel_tree.specs.TextToken.{TextToken, IsName, IsNumber, IsType, IsMark};
+ghost use Rattle.kernel_tree.specs.Plain.{name_of, parameter_of, parameters_of, accumulator_of, accumulators_of, for_loop_of, returned_of};
+ghost use Rattle.kernel_tree.specs.Printing.{spaced, print_shape, print_param, print_others, print_params, print_vars, print_for_loop, print_arrow, print_answer, print_term};
 
 use crate::stmt::{print_before, print_statements};
 use crate::token::{put_mark, put_name, put_number, put_type};
@@ -12,7 +12,7 @@ use kernel_tree::{Answer, Loop, Param, Shape, Var};
 use std::alloc::AllocError;
 
 fn put_shape(out: &mut String, shape: Shape) -> Result<(), AllocError>
-    ensures { IfOk result (λ _. (rest : List Word)
+    ensures { IfOk result (λ _. (rest : List TextToken)
         → string_bytes out.new ++ spaced rest ≡ string_bytes out.old ++ spaced (print_shape shape rest)) }
 {
     match shape {
@@ -26,7 +26,7 @@ fn put_shape(out: &mut String, shape: Shape) -> Result<(), AllocError>
 }
 
 fn put_param(out: &mut String, param: &Param) -> Result<(), AllocError>
-    ensures { IfOk result (λ _. (rest : List Word)
+    ensures { IfOk result (λ _. (rest : List TextToken)
         → string_bytes out.new ++ spaced rest
         ≡ string_bytes out.old ++ spaced (print_param (parameter_of param.now) rest)) }
 {
@@ -37,7 +37,7 @@ fn put_param(out: &mut String, param: &Param) -> Result<(), AllocError>
 
 // Parameters after a first one.
 fn put_others(out: &mut String, others: &[Param]) -> Result<(), AllocError>
-    ensures { IfOk result (λ _. (rest : List Word)
+    ensures { IfOk result (λ _. (rest : List TextToken)
         → string_bytes out.new ++ spaced rest
         ≡ string_bytes out.old ++ spaced (print_others (parameters_of others.now) rest)) }
 {
@@ -49,7 +49,7 @@ fn put_others(out: &mut String, others: &[Param]) -> Result<(), AllocError>
 }
 
 pub fn put_params(out: &mut String, params: &[Param]) -> Result<(), AllocError>
-    ensures { IfOk result (λ _. (rest : List Word)
+    ensures { IfOk result (λ _. (rest : List TextToken)
         → string_bytes out.new ++ spaced rest
         ≡ string_bytes out.old ++ spaced (print_params (parameters_of params.now) rest)) }
 {
@@ -63,7 +63,7 @@ pub fn put_params(out: &mut String, params: &[Param]) -> Result<(), AllocError>
 }
 
 fn put_var(out: &mut String, var: &Var) -> Result<(), AllocError>
-    ensures { IfOk result (λ _. (rest : List Word)
+    ensures { IfOk result (λ _. (rest : List TextToken)
         → string_bytes out.new ++ spaced rest
         ≡ string_bytes out.old ++ spaced (print_vars (accumulator_of var.now ∷ []) rest)) }
 {
@@ -76,7 +76,7 @@ fn put_var(out: &mut String, var: &Var) -> Result<(), AllocError>
 }
 
 pub fn put_vars(out: &mut String, vars: &[Var]) -> Result<(), AllocError>
-    ensures { IfOk result (λ _. (rest : List Word)
+    ensures { IfOk result (λ _. (rest : List TextToken)
         → string_bytes out.new ++ spaced rest
         ≡ string_bytes out.old ++ spaced (print_vars (accumulators_of vars.now) rest)) }
 {
@@ -87,38 +87,38 @@ pub fn put_vars(out: &mut String, vars: &[Var]) -> Result<(), AllocError>
 }
 
 // What stands in front of the body of a loop.
-fn put_range(out: &mut String, turns: &Loop) -> Result<(), AllocError>
-    ensures { IfOk result (λ _. (rest : List Word)
+fn put_range(out: &mut String, for_loop: &Loop) -> Result<(), AllocError>
+    ensures { IfOk result (λ _. (rest : List TextToken)
         → string_bytes out.new ++ spaced rest
-        ≡ string_bytes out.old ++ spaced (IsMark Mark.For ∷ IsName (name_of turns.now.index) ∷ IsMark Mark.In
-        ∷ IsNumber 0 ∷ IsMark Mark.Range ∷ IsName (name_of turns.now.bound) ∷ IsMark Mark.OpenBrace ∷ rest)) }
+        ≡ string_bytes out.old ++ spaced (IsMark Mark.For ∷ IsName (name_of for_loop.now.index) ∷ IsMark Mark.In
+        ∷ IsNumber 0 ∷ IsMark Mark.Range ∷ IsName (name_of for_loop.now.bound) ∷ IsMark Mark.OpenBrace ∷ rest)) }
 {
     put_mark(out, Mark::For)?;
-    put_name(out, &turns.index)?;
+    put_name(out, &for_loop.index)?;
     put_mark(out, Mark::In)?;
     put_number(out, 0)?;
     put_mark(out, Mark::Range)?;
-    put_name(out, &turns.bound)?;
+    put_name(out, &for_loop.bound)?;
     put_mark(out, Mark::OpenBrace)
 }
 
-pub fn put_loop(out: &mut String, turns: &Option<Loop>) -> Result<(), AllocError>
-    ensures { IfOk result (λ _. (rest : List Word)
+pub fn put_loop(out: &mut String, for_loop: &Option<Loop>) -> Result<(), AllocError>
+    ensures { IfOk result (λ _. (rest : List TextToken)
         → string_bytes out.new ++ spaced rest
-        ≡ string_bytes out.old ++ spaced (print_turns (option_map turns_of turns.now) rest)) }
+        ≡ string_bytes out.old ++ spaced (print_for_loop (option_map for_loop_of for_loop.now) rest)) }
 {
-    match turns {
+    match for_loop {
         None => Ok(()),
-        Some(turns) => {
-            put_range(out, turns)?;
-            print_statements(out, &turns.body)
+        Some(for_loop) => {
+            put_range(out, for_loop)?;
+            print_statements(out, &for_loop.body)
         }
     }
 }
 
 // The type that is returned.
 pub fn put_arrow(out: &mut String, answer: &Option<Answer>) -> Result<(), AllocError>
-    ensures { IfOk result (λ _. (rest : List Word)
+    ensures { IfOk result (λ _. (rest : List TextToken)
         → string_bytes out.new ++ spaced rest
         ≡ string_bytes out.old ++ spaced (print_arrow (option_map returned_of answer.now) rest)) }
 {
@@ -132,7 +132,7 @@ pub fn put_arrow(out: &mut String, answer: &Option<Answer>) -> Result<(), AllocE
 }
 
 pub fn put_answer(out: &mut String, answer: &Option<Answer>) -> Result<(), AllocError>
-    ensures { IfOk result (λ _. (rest : List Word)
+    ensures { IfOk result (λ _. (rest : List TextToken)
         → string_bytes out.new ++ spaced rest
         ≡ string_bytes out.old ++ spaced (print_answer (option_map returned_of answer.now) rest)) }
 {

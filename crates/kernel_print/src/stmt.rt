@@ -1,7 +1,7 @@
 //! Prints statements.
 
 ghost use Rattle.std.specs.Prelude.{◌≡◌, ◌∷◌, ◌++◌, List, IfOk, string_bytes, Option};
-ghost use Rattle.kernel_tree.specs.Word.{Word, IsName, IsUpdate, IsMark};
+ghost use Rattle.kernel_tree.specs.TextToken.{TextToken, IsName, IsUpdate, IsMark};
 ghost use Rattle.kernel_tree.specs.Plain.{name_of, term_of, action_of, block_of};
 ghost use Rattle.kernel_tree.specs.Printing.{spaced, print_term, print_type, print_action, print_block};
 
@@ -14,7 +14,7 @@ use std::alloc::AllocError;
 
 // The type that a definition may give.
 fn put_shown_type(out: &mut String, ty: Option<Ty>) -> Result<(), AllocError>
-    ensures { IfOk result (λ _. (rest : List Word)
+    ensures { IfOk result (λ _. (rest : List TextToken)
         → string_bytes out.new ++ spaced rest ≡ string_bytes out.old ++ spaced (print_type ty rest)) }
 {
     match ty {
@@ -28,7 +28,7 @@ fn put_shown_type(out: &mut String, ty: Option<Ty>) -> Result<(), AllocError>
 
 // An expression and a mark after it.
 pub fn print_before(out: &mut String, expr: &Expr, mark: Mark) -> Result<(), AllocError>
-    ensures { IfOk result (λ _. (rest : List Word)
+    ensures { IfOk result (λ _. (rest : List TextToken)
         → string_bytes out.new ++ spaced rest
         ≡ string_bytes out.old ++ spaced (print_term (term_of expr.now) Place.Alone (IsMark mark ∷ rest))) }
 {
@@ -37,7 +37,7 @@ pub fn print_before(out: &mut String, expr: &Expr, mark: Mark) -> Result<(), All
 }
 
 fn print_let(out: &mut String, name: &Name, ty: Option<Ty>, value: &Expr) -> Result<(), AllocError>
-    ensures { IfOk result (λ _. (rest : List Word)
+    ensures { IfOk result (λ _. (rest : List TextToken)
         → string_bytes out.new ++ spaced rest
         ≡ string_bytes out.old ++ spaced (IsMark Mark.Let ∷ IsName (name_of name.now)
         ∷ print_type ty (IsMark Mark.Equals ∷ print_term (term_of value.now) Place.Alone
@@ -51,7 +51,7 @@ fn print_let(out: &mut String, name: &Name, ty: Option<Ty>, value: &Expr) -> Res
 }
 
 fn print_store(out: &mut String, array: &Name, index: &Expr, value: &Expr) -> Result<(), AllocError>
-    ensures { IfOk result (λ _. (rest : List Word)
+    ensures { IfOk result (λ _. (rest : List TextToken)
         → string_bytes out.new ++ spaced rest
         ≡ string_bytes out.old ++ spaced (IsName (name_of array.now) ∷ IsMark Mark.OpenBracket
         ∷ print_term (term_of index.now) Place.Alone
@@ -66,7 +66,7 @@ fn print_store(out: &mut String, array: &Name, index: &Expr, value: &Expr) -> Re
 }
 
 fn print_update(out: &mut String, name: &Name, op: UpdateOp, value: &Expr) -> Result<(), AllocError>
-    ensures { IfOk result (λ _. (rest : List Word)
+    ensures { IfOk result (λ _. (rest : List TextToken)
         → string_bytes out.new ++ spaced rest
         ≡ string_bytes out.old ++ spaced (IsName (name_of name.now) ∷ IsUpdate op
         ∷ print_term (term_of value.now) Place.Alone (IsMark Mark.Semicolon ∷ rest))) }
@@ -77,7 +77,7 @@ fn print_update(out: &mut String, name: &Name, op: UpdateOp, value: &Expr) -> Re
 }
 
 fn print_break(out: &mut String, cond: &Expr) -> Result<(), AllocError>
-    ensures { IfOk result (λ _. (rest : List Word)
+    ensures { IfOk result (λ _. (rest : List TextToken)
         → string_bytes out.new ++ spaced rest
         ≡ string_bytes out.old ++ spaced (IsMark Mark.Break ∷ IsMark Mark.If
         ∷ print_term (term_of cond.now) Place.Alone (IsMark Mark.Semicolon ∷ rest))) }
@@ -89,7 +89,7 @@ fn print_break(out: &mut String, cond: &Expr) -> Result<(), AllocError>
 
 #[cycle(statements)]
 fn print_stmt(out: &mut String, stmt: &Stmt) -> Result<(), AllocError>
-    ensures { IfOk result (λ _. (rest : List Word)
+    ensures { IfOk result (λ _. (rest : List TextToken)
         → string_bytes out.new ++ spaced rest
         ≡ string_bytes out.old ++ spaced (print_action (action_of stmt.now) rest)) }
 {
@@ -118,7 +118,7 @@ fn print_stmt(out: &mut String, stmt: &Stmt) -> Result<(), AllocError>
 
 #[cycle(statements)]
 fn print_then(out: &mut String, cond: &Expr, block: &[Stmt]) -> Result<(), AllocError>
-    ensures { IfOk result (λ _. (rest : List Word)
+    ensures { IfOk result (λ _. (rest : List TextToken)
         → string_bytes out.new ++ spaced rest
         ≡ string_bytes out.old ++ spaced (IsMark Mark.If
         ∷ print_term (term_of cond.now) Place.Alone (IsMark Mark.OpenBrace ∷ print_block (block_of block.now) rest))) }
@@ -130,7 +130,7 @@ fn print_then(out: &mut String, cond: &Expr, block: &[Stmt]) -> Result<(), Alloc
 
 #[cycle(statements)]
 fn print_else(out: &mut String, block: &[Stmt]) -> Result<(), AllocError>
-    ensures { IfOk result (λ _. (rest : List Word)
+    ensures { IfOk result (λ _. (rest : List TextToken)
         → string_bytes out.new ++ spaced rest
         ≡ string_bytes out.old ++ spaced (IsMark Mark.Else ∷ IsMark Mark.OpenBrace
         ∷ print_block (block_of block.now) rest)) }
@@ -143,7 +143,7 @@ fn print_else(out: &mut String, block: &[Stmt]) -> Result<(), AllocError>
 // Statements and the brace after them.
 #[cycle(statements)]
 pub fn print_statements(out: &mut String, block: &[Stmt]) -> Result<(), AllocError>
-    ensures { IfOk result (λ _. (rest : List Word)
+    ensures { IfOk result (λ _. (rest : List TextToken)
         → string_bytes out.new ++ spaced rest
         ≡ string_bytes out.old ++ spaced (print_block (block_of block.now) rest)) }
 {

@@ -1,7 +1,7 @@
 //! Appends single tokens, each after a space.
 
 ghost use Rattle.std.specs.Prelude.{◌≡◌, ◌∷◌, ◌++◌, ℕ, List, IfOk, string_bytes};
-ghost use Rattle.kernel_tree.specs.Word.{Word, IsName, IsNumber, IsType, IsCompare, IsUpdate, IsMark};
+ghost use Rattle.kernel_tree.specs.TextToken.{TextToken, IsName, IsNumber, IsType, IsCompare, IsUpdate, IsMark};
 ghost use Rattle.kernel_tree.specs.Plain.{name_of};
 ghost use Rattle.kernel_tree.specs.Printing.{spaced, type_text, reserved_text, mark_text, compare_text, update_text, opened, closed, number_opened, number_closed, print_literal, print_count};
 
@@ -22,7 +22,7 @@ pub fn put(out: &mut String, token: &str) -> Result<(), AllocError>
 
 #[tactic(auto, unfolding(kernel_tree::specs::Printing::spaced))]
 pub fn put_name(out: &mut String, name: &Name) -> Result<(), AllocError>
-    ensures { IfOk result (λ _. (rest : List Word)
+    ensures { IfOk result (λ _. (rest : List TextToken)
         → string_bytes out.new ++ spaced rest ≡ string_bytes out.old ++ spaced (IsName (name_of name.now) ∷ rest)) }
 {
     put(out, name.text())
@@ -30,7 +30,7 @@ pub fn put_name(out: &mut String, name: &Name) -> Result<(), AllocError>
 
 #[tactic(auto, unfolding(kernel_tree::specs::Printing::spaced))]
 pub fn put_number(out: &mut String, n: u128) -> Result<(), AllocError>
-    ensures { IfOk result (λ _. (rest : List Word)
+    ensures { IfOk result (λ _. (rest : List TextToken)
         → string_bytes out.new ++ spaced rest ≡ string_bytes out.old ++ spaced (IsNumber n ∷ rest)) }
 {
     let mut buffer = Buffer::new();
@@ -54,7 +54,7 @@ pub fn type_str(ty: Ty) -> &'static str
 
 #[tactic(auto, unfolding(kernel_tree::specs::Printing::spaced))]
 pub fn put_type(out: &mut String, ty: Ty) -> Result<(), AllocError>
-    ensures { IfOk result (λ _. (rest : List Word)
+    ensures { IfOk result (λ _. (rest : List TextToken)
         → string_bytes out.new ++ spaced rest ≡ string_bytes out.old ++ spaced (IsType ty ∷ rest)) }
 {
     put(out, type_str(ty))
@@ -116,7 +116,7 @@ pub fn mark_str(mark: Mark) -> &'static str
 
 #[tactic(auto, unfolding(kernel_tree::specs::Printing::spaced))]
 pub fn put_mark(out: &mut String, mark: Mark) -> Result<(), AllocError>
-    ensures { IfOk result (λ _. (rest : List Word)
+    ensures { IfOk result (λ _. (rest : List TextToken)
         → string_bytes out.new ++ spaced rest ≡ string_bytes out.old ++ spaced (IsMark mark ∷ rest)) }
 {
     put(out, mark_str(mark))
@@ -150,7 +150,7 @@ pub fn update_str(op: UpdateOp) -> &'static str
 
 #[tactic(auto, unfolding(kernel_tree::specs::Printing::spaced))]
 pub fn put_update(out: &mut String, op: UpdateOp) -> Result<(), AllocError>
-    ensures { IfOk result (λ _. (rest : List Word)
+    ensures { IfOk result (λ _. (rest : List TextToken)
         → string_bytes out.new ++ spaced rest ≡ string_bytes out.old ++ spaced (IsUpdate op ∷ rest)) }
 {
     put(out, update_str(op))
@@ -159,7 +159,7 @@ pub fn put_update(out: &mut String, op: UpdateOp) -> Result<(), AllocError>
 // Parentheses round an operator or a negative literal that is an operand.
 #[tactic(auto, unfolding(kernel_tree::specs::Printing::opened))]
 pub fn open(out: &mut String, place: Place) -> Result<(), AllocError>
-    ensures { IfOk result (λ _. (rest : List Word)
+    ensures { IfOk result (λ _. (rest : List TextToken)
         → string_bytes out.new ++ spaced rest ≡ string_bytes out.old ++ spaced (opened place rest)) }
 {
     match place {
@@ -170,7 +170,7 @@ pub fn open(out: &mut String, place: Place) -> Result<(), AllocError>
 
 #[tactic(auto, unfolding(kernel_tree::specs::Printing::closed))]
 pub fn close(out: &mut String, place: Place) -> Result<(), AllocError>
-    ensures { IfOk result (λ _. (rest : List Word)
+    ensures { IfOk result (λ _. (rest : List TextToken)
         → string_bytes out.new ++ spaced rest ≡ string_bytes out.old ++ spaced (closed place rest)) }
 {
     match place {
@@ -182,7 +182,7 @@ pub fn close(out: &mut String, place: Place) -> Result<(), AllocError>
 // A number that is not negative stands in parentheses after a minus alone.
 #[tactic(auto, unfolding(kernel_tree::specs::Printing::number_opened, kernel_tree::specs::Printing::number_closed))]
 pub fn put_positive(out: &mut String, n: u128, place: Place) -> Result<(), AllocError>
-    ensures { IfOk result (λ _. (rest : List Word)
+    ensures { IfOk result (λ _. (rest : List TextToken)
         → string_bytes out.new ++ spaced rest
         ≡ string_bytes out.old ++ spaced (number_opened place (IsNumber n ∷ number_closed place rest))) }
 {
@@ -197,7 +197,7 @@ pub fn put_positive(out: &mut String, n: u128, place: Place) -> Result<(), Alloc
 }
 
 pub fn put_negative(out: &mut String, n: u128, place: Place) -> Result<(), AllocError>
-    ensures { IfOk result (λ _. (rest : List Word)
+    ensures { IfOk result (λ _. (rest : List TextToken)
         → string_bytes out.new ++ spaced rest
         ≡ string_bytes out.old ++ spaced (opened place (IsMark Mark.Minus ∷ IsNumber n ∷ closed place rest))) }
 {
@@ -208,7 +208,7 @@ pub fn put_negative(out: &mut String, n: u128, place: Place) -> Result<(), Alloc
 }
 
 pub fn print_value(out: &mut String, value: i128, place: Place) -> Result<(), AllocError>
-    ensures { IfOk result (λ _. (rest : List Word)
+    ensures { IfOk result (λ _. (rest : List TextToken)
         → string_bytes out.new ++ spaced rest ≡ string_bytes out.old ++ spaced (print_literal value place rest)) }
 {
     if value < 0 {
@@ -220,7 +220,7 @@ pub fn print_value(out: &mut String, value: i128, place: Place) -> Result<(), Al
 
 // The count of a shift.
 pub fn put_count(out: &mut String, count: i128) -> Result<(), AllocError>
-    ensures { IfOk result (λ _. (rest : List Word)
+    ensures { IfOk result (λ _. (rest : List TextToken)
         → string_bytes out.new ++ spaced rest ≡ string_bytes out.old ++ spaced (print_count count rest)) }
 {
     if count < 0 {
@@ -231,7 +231,7 @@ pub fn put_count(out: &mut String, count: i128) -> Result<(), AllocError>
 
 #[tactic(auto, unfolding(kernel_tree::specs::Printing::spaced))]
 pub fn put_compare(out: &mut String, op: CompareOp) -> Result<(), AllocError>
-    ensures { IfOk result (λ _. (rest : List Word)
+    ensures { IfOk result (λ _. (rest : List TextToken)
         → string_bytes out.new ++ spaced rest ≡ string_bytes out.old ++ spaced (IsCompare op ∷ rest)) }
 {
     put(out, compare_str(op))

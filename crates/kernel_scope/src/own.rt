@@ -1,7 +1,7 @@
 //! The type that an expression has of its own, and whether it is the loop variable or a literal.
 
 ghost use Rattle.std.specs.Prelude.{◌≡◌, option_map};
-ghost use Rattle.kernel_tree.specs.Plain.{name_of, term_of, turns_of};
+ghost use Rattle.kernel_tree.specs.Plain.{name_of, term_of, for_loop_of};
 ghost use Rattle.kernel_tree.specs.Items as items;
 ghost use Rattle.kernel_tree.specs.Typing as typing;
 ghost use Rattle.kernel_scope.specs.Scopes.{scope_of, lent_text};
@@ -70,12 +70,12 @@ pub fn own_type(scope: &Scope, expr: &Expr) -> Option<Ty>
 }
 
 /// The name of the loop variable.
-pub fn loop_index(turns: &Option<Loop>) -> Option<&str>
-    ensures { option_map lent_text result ≡ option_map items.index_of (option_map turns_of turns.now) }
+pub fn loop_index(for_loop: &Option<Loop>) -> Option<&str>
+    ensures { option_map lent_text result ≡ option_map items.index_of (option_map for_loop_of for_loop.now) }
 {
-    match turns {
+    match for_loop {
         None => None,
-        Some(turns) => Some(turns.index.text()),
+        Some(for_loop) => Some(for_loop.index.text()),
     }
 }
 

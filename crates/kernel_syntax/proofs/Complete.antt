@@ -8,7 +8,7 @@ use Rattle.kernel_tree.specs.declared.mark.Mark.{Mark}
 use Rattle.kernel_tree.specs.declared.mark.Mark.TheVariants as mark
 use Rattle.kernel_tree.specs.declared.mark.Operator.{Operator}
 use Rattle.kernel_tree.specs.declared.mark.Operator.TheVariants.{Joined, Compared, Shifted, As}
-use Rattle.kernel_tree.specs.Word.{Word, IsNumber, IsType, IsMark}
+use Rattle.kernel_tree.specs.TextToken.{TextToken, IsNumber, IsType, IsMark}
 use Rattle.kernel_tree.specs.Plain.{Term}
 use Rattle.kernel_tree.specs.Grammar.{Spells, number, name, element, group, pair, absolute, choice, negative, prefix, up, conversion, shift, operation, comparison, operator_of, operator_of_mark, level_of}
 use Rattle.kernel_syntax.specs.Reading.{following, past, type_at, count_at, operator_at, chain_at, term_before, name_by, pair_by, absolute_by, choice_by, signed_by, unary_at}
@@ -16,67 +16,67 @@ use Rattle.kernel_syntax.proofs.Chain.{Goes, begins, ends, goes_joined, goes_shi
 use Rattle.kernel_syntax.proofs.Sound.{joined_is_no_8, other_is_no_8}
 
 -- nothing at the front goes on with an expression of a level
-pub record Stops (level : ℕ) (rest : List Word) : Type 0 where
+pub record Stops (level : ℕ) (rest : List TextToken) : Type 0 where
   pub operators : (l : ℕ) → l ≤ level → operator_at l rest ≡ None
   pub bracket : following mark.OpenBracket rest ≡ None
 
-pub operator_there : (level : ℕ) (w : Word) (o : Operator) (rest : List Word) → operator_of w ≡ Some o → level_of o ≡ level → operator_at level (w ∷ rest) ≡ Some (o, rest)
+pub operator_there : (level : ℕ) (w : TextToken) (o : Operator) (rest : List TextToken) → operator_of w ≡ Some o → level_of o ≡ level → operator_at level (w ∷ rest) ≡ Some (o, rest)
 unfolding operator_at
 operator_there level w o rest p q = rw (p, eq-eqb (level_of o) level q) refl
 
-no_operator : (level l : ℕ) (w : Word) (o : Operator) (rest : List Word) → operator_of w ≡ Some o → level_of o ≡ suc level → l ≤ level → operator_at l (w ∷ rest) ≡ None
+no_operator : (level l : ℕ) (w : TextToken) (o : Operator) (rest : List TextToken) → operator_of w ≡ Some o → level_of o ≡ suc level → l ≤ level → operator_at l (w ∷ rest) ≡ None
 unfolding operator_at
 no_operator level l w o rest p q h = elim (eqb_tells (level_of o) l) [ inl t ↦ absurd (omega (arith, t.1)) | inr f ↦ rw (p, f.0) refl ]
 
-no_bracket_mark : (m : Mark) (o : Operator) (rest : List Word) → operator_of_mark m ≡ Some o → following mark.OpenBracket (IsMark m ∷ rest) ≡ None
+no_bracket_mark : (m : Mark) (o : Operator) (rest : List TextToken) → operator_of_mark m ≡ Some o → following mark.OpenBracket (IsMark m ∷ rest) ≡ None
 unfolding following
 no_bracket_mark mark.OpenBracket o rest p = absurd cc
 no_bracket_mark _ o rest p = refl
 
-no_bracket : (w : Word) (o : Operator) (rest : List Word) → operator_of w ≡ Some o → following mark.OpenBracket (w ∷ rest) ≡ None
+no_bracket : (w : TextToken) (o : Operator) (rest : List TextToken) → operator_of w ≡ Some o → following mark.OpenBracket (w ∷ rest) ≡ None
 unfolding following
 no_bracket (IsMark m) o rest p = no_bracket_mark m o rest p
 no_bracket other o rest p = refl
 
-pub stops_before : (level : ℕ) (w : Word) (o : Operator) (rest : List Word) → operator_of w ≡ Some o → level_of o ≡ suc level → Stops level (w ∷ rest)
+pub stops_before : (level : ℕ) (w : TextToken) (o : Operator) (rest : List TextToken) → operator_of w ≡ Some o → level_of o ≡ suc level → Stops level (w ∷ rest)
 stops_before level w o rest p q = record { operators = λ l h. no_operator level l w o rest p q h; bracket = no_bracket w o rest p }
 
-stops_lower : (level : ℕ) (rest : List Word) → Stops (suc level) rest → Stops level rest
+stops_lower : (level : ℕ) (rest : List TextToken) → Stops (suc level) rest → Stops level rest
 stops_lower level rest s = record { operators = λ l h. s.operators l (omega arith); bracket = s.bracket }
 
 -- a mark that is no operator and no bracket to open
-pub stops_at : (level : ℕ) (m : Mark) (rest : List Word) → operator_of_mark m ≡ None → following mark.OpenBracket (IsMark m ∷ rest) ≡ None → Stops level (IsMark m ∷ rest)
+pub stops_at : (level : ℕ) (m : Mark) (rest : List TextToken) → operator_of_mark m ≡ None → following mark.OpenBracket (IsMark m ∷ rest) ≡ None → Stops level (IsMark m ∷ rest)
 unfolding operator_at
 stops_at level m rest p q = record { operators = λ l h. rw p refl; bracket = q }
 
 -- how reading an expression of a level goes
-abbrev pub Reads : ℕ → ℕ → List Word → Term → List Word → Type 0
+abbrev pub Reads : ℕ → ℕ → List TextToken → Term → List TextToken → Type 0
 Reads room zero words e rest = Stops 0 rest → unary_at room words ≡ Ok (e, rest)
 Reads room (suc level) words e rest = Stops level rest → Goes (unary_at room) (suc level) words e rest ⊎ ((suc level ≡ 8) × (chain_at (unary_at room) (suc level) words ≡ Ok (e, rest)))
 
-pub finish : (room level : ℕ) (words : List Word) (e : Term) (rest : List Word) → Reads room level words e rest → Stops level rest → chain_at (unary_at room) level words ≡ Ok (e, rest)
+pub finish : (room level : ℕ) (words : List TextToken) (e : Term) (rest : List TextToken) → Reads room level words e rest → Stops level rest → chain_at (unary_at room) level words ≡ Ok (e, rest)
 unfolding chain_at
 finish room zero words e rest r s = r s
 finish room (suc level) words e rest r s = elim (r (stops_lower level rest s)) [ inl g ↦ ends (unary_at room) (suc level) words e rest g (sym (s.operators (suc level) (omega arith))) | inr c ↦ c.1 ]
 
-pub goes_of : (room level : ℕ) (words : List Word) (e : Term) (rest : List Word) → (suc level ≡ 8 → ⊥) → Goes (unary_at room) (suc level) words e rest ⊎ ((suc level ≡ 8) × (chain_at (unary_at room) (suc level) words ≡ Ok (e, rest))) → Goes (unary_at room) (suc level) words e rest
+pub goes_of : (room level : ℕ) (words : List TextToken) (e : Term) (rest : List TextToken) → (suc level ≡ 8 → ⊥) → Goes (unary_at room) (suc level) words e rest ⊎ ((suc level ≡ 8) × (chain_at (unary_at room) (suc level) words ≡ Ok (e, rest))) → Goes (unary_at room) (suc level) words e rest
 goes_of room level words e rest n (inl g) = g
 goes_of room level words e rest n (inr c) = absurd (n c.0)
 
 -- an expression and the mark after it
-pub before_reads : (room : ℕ) (m : Mark) (words : List Word) (e : Term) (rest : List Word) → operator_of_mark m ≡ None → following mark.OpenBracket (IsMark m ∷ rest) ≡ None → past m (IsMark m ∷ rest) ≡ Ok rest → Reads room 10 words e (IsMark m ∷ rest) → term_before (chain_at (unary_at room) 10) m words ≡ Ok (e, rest)
+pub before_reads : (room : ℕ) (m : Mark) (words : List TextToken) (e : Term) (rest : List TextToken) → operator_of_mark m ≡ None → following mark.OpenBracket (IsMark m ∷ rest) ≡ None → past m (IsMark m ∷ rest) ≡ Ok rest → Reads room 10 words e (IsMark m ∷ rest) → term_before (chain_at (unary_at room) 10) m words ≡ Ok (e, rest)
 unfolding term_before
 before_reads room m words e rest o b a r = rw (finish room 10 words e (IsMark m ∷ rest) r (stops_at 10 m rest o b), a) refl
 
-pub type_there : (t : Ty) (rest : List Word) → type_at (IsType t ∷ rest) ≡ Ok (t, rest)
+pub type_there : (t : Ty) (rest : List TextToken) → type_at (IsType t ∷ rest) ≡ Ok (t, rest)
 unfolding type_at
 type_there t rest = refl
 
-pub count_there : (n : ℕ) (rest : List Word) → count_at (IsNumber n ∷ rest) ≡ Ok (n, rest)
+pub count_there : (n : ℕ) (rest : List TextToken) → count_at (IsNumber n ∷ rest) ≡ Ok (n, rest)
 unfolding count_at
 count_there n rest = refl
 
-pub reads : {level : ℕ} {words : List Word} {e : Term} {rest : List Word} → Spells level words e rest → (room : ℕ) → length words ≤ room → Reads room level words e rest
+pub reads : {level : ℕ} {words : List TextToken} {e : Term} {rest : List TextToken} → Spells level words e rest → (room : ℕ) → length words ≤ room → Reads room level words e rest
 unfolding unary_at name_by pair_by absolute_by choice_by signed_by following past
 reads number (suc room) h = λ s. refl
 reads (name {x = x} {rest = rest}) (suc room) h = λ s. rw (s.bracket) refl
@@ -109,6 +109,6 @@ reads (comparison {level = level} {op = op} {w = w} {a = a} {b = b} {from = from
     inr (sym l, ends_compared (unary_at room) (suc level) from a (w ∷ next) g op next b rest (sym (operator_there (suc level) w (Compared op) next o l)) (rw p right))
 reads other zero h = λ s. absurd (omega arith)
 
--- an expression and the mark after it, with room for as many as there are words
-pub spells_before : (m : Mark) (words : List Word) (e : Term) (rest : List Word) (room : ℕ) → operator_of_mark m ≡ None → following mark.OpenBracket (IsMark m ∷ rest) ≡ None → past m (IsMark m ∷ rest) ≡ Ok rest → length words ≤ room → Spells 10 words e (IsMark m ∷ rest) → term_before (chain_at (unary_at room) 10) m words ≡ Ok (e, rest)
+-- an expression and the mark after it, with room for as many as there are tokens
+pub spells_before : (m : Mark) (words : List TextToken) (e : Term) (rest : List TextToken) (room : ℕ) → operator_of_mark m ≡ None → following mark.OpenBracket (IsMark m ∷ rest) ≡ None → past m (IsMark m ∷ rest) ≡ Ok rest → length words ≤ room → Spells 10 words e (IsMark m ∷ rest) → term_before (chain_at (unary_at room) 10) m words ≡ Ok (e, rest)
 spells_before m words e rest room o b a h d = before_reads room m words e rest o b a (reads d room h)

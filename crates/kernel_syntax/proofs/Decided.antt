@@ -2,7 +2,7 @@
 use Rattle.std.proofs.Common.{◌≡◌, ℕ, Bool, true, false, List, length, Some, None, Result, Ok, Err, refl, sym, ◌∙◌, ◌⊎◌, inl, inr}
 use Rattle.std.specs.Prelude.{nat_lt}
 use Rattle.std.proofs.lemmas.Bool.{cond-true, cond-false}
-use Rattle.kernel_tree.specs.Word.{Word}
+use Rattle.kernel_tree.specs.TextToken.{TextToken}
 use Rattle.kernel_tree.specs.Plain.{Program}
 use Rattle.kernel_tree.specs.Tokens.{tokens_of}
 use Rattle.kernel_tree.specs.Limits.{most_bytes}
@@ -22,12 +22,12 @@ within : (text : List ℕ) (t : Bool) → nat_lt most_bytes (length text) ≡ t 
 within text true e h = absurd (no_fault faults.TooLong (sym (cond-true _ _ _ e) ∙ h))
 within text false e h = sym (cond-false _ _ _ e) ∙ h
 
-by_words : (text : List ℕ) (words : List Word) (r : Result Program ℕ) → tokens_of text ≡ Ok words → words_fault words ≡ None → kernel_at words ≡ r → ((k : Program) × IsReadFrom text k) ⊎ HasNoTree text
+by_words : (text : List ℕ) (words : List TextToken) (r : Result Program ℕ) → tokens_of text ≡ Ok words → words_fault words ≡ None → kernel_at words ≡ r → ((k : Program) × IsReadFrom text k) ⊎ HasNoTree text
 by_words text words (Ok k) e f q =
     inl (k, record { words = words; tokens = e; few = few_words words f; spelled = tokens_spelled text words e; tree = kernel_spells words k q })
 by_words text words (Err left) e f q = inr (record { words = words; tokens = e; none = no_tree words left q })
 
-by_tokens : (text : List ℕ) (r : Result (List Word) ℕ) → tokens_of text ≡ r → tokens_fault r ≡ None → ((k : Program) × IsReadFrom text k) ⊎ HasNoTree text
+by_tokens : (text : List ℕ) (r : Result (List TextToken) ℕ) → tokens_of text ≡ r → tokens_fault r ≡ None → ((k : Program) × IsReadFrom text k) ⊎ HasNoTree text
 by_tokens text (Ok words) e f = by_words text words (kernel_at words) e f refl
 by_tokens text (Err at) e f = absurd (no_fault (faults.BadByte at) f)
 

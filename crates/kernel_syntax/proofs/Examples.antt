@@ -2,13 +2,13 @@
 use Rattle.std.proofs.Common.{◌≡◌, ℕ, zero, suc, ◌≤◌, List, [], ◌∷◌, take, Ok, refl, arith}
 use Rattle.std.specs.Prelude.{codes}
 use Rattle.kernel_tree.specs.declared.mark.Mark.TheVariants as mark
-use Rattle.kernel_tree.specs.Word.{Word, IsNumber, IsMark}
+use Rattle.kernel_tree.specs.TextToken.{TextToken, IsNumber, IsMark}
 use Rattle.kernel_tree.specs.Tokens.{tokens_of, scan}
 use Rattle.kernel_tree.specs.Front.{Viable, kernel_name}
 use Rattle.kernel_syntax.specs.Refusals.{StopsAt}
 
 -- kernel 5
-abbrev words : List Word
+abbrev words : List TextToken
 words = IsMark mark.Kernel ∷ IsNumber 5 ∷ []
 
 tokens : tokens_of (codes "kernel 5") ≡ Ok words

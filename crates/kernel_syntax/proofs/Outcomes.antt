@@ -6,7 +6,7 @@ use Rattle.std.proofs.lemmas.Bool.Decides.{leb_tells}
 use Rattle.std.proofs.lemmas.List.{length-map}
 use Rattle.kernel_tree.specs.declared.ast.Kernel.{Kernel}
 use Rattle.kernel_tree.specs.declared.token.Token.{Token}
-use Rattle.kernel_tree.specs.Word.{Word}
+use Rattle.kernel_tree.specs.TextToken.{TextToken}
 use Rattle.kernel_tree.specs.Plain.{Program, program_of, word_of, words_of}
 use Rattle.kernel_tree.specs.Tokens.{tokens_of}
 use Rattle.kernel_tree.proofs.TokenList.{tokens_are}
@@ -22,10 +22,10 @@ within_is a b h = elim (leb_tells (suc a) b) [ inl t ↦ absurd (omega (arith, t
 pub deep_words : (ts : List Token) (o : Option ℕ) → length ts ≤ 4096 → o ≡ deep_place (words_of ts) → words_fault (words_of ts) ≡ option_map faults.TooDeep o
 deep_words ts o h e = cond-false _ _ _ (within_is 4096 (length (words_of ts)) (omega (arith, length-map ts word_of))) ∙ ap (option_map faults.TooDeep) (sym e)
 
-pub short_text : (text : List ℕ) (r : Result (List Word) ℕ) → length text ≤ 65536 → tokens_of text ≡ r → limit_fault text ≡ tokens_fault r
+pub short_text : (text : List ℕ) (r : Result (List TextToken) ℕ) → length text ≤ 65536 → tokens_of text ≡ r → limit_fault text ≡ tokens_fault r
 short_text text r h e = cond-false _ _ _ (within_is 65536 (length text) h) ∙ ap tokens_fault e
 
-pub few_words : (words : List Word) → words_fault words ≡ None → length words ≤ 4096
+pub few_words : (words : List TextToken) → words_fault words ≡ None → length words ≤ 4096
 few_words words h = elim (leb_tells (suc 4096) (length words)) [ inl t ↦ absurd (some_none (sym (cond-true _ _ _ t.0) ∙ h)) | inr f ↦ omega (arith, f.1) ]
   where
     some_none : Some faults.TooLong ≡ None → ⊥

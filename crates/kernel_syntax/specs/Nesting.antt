@@ -2,7 +2,7 @@
 use Rattle.std.specs.Prelude.{ℕ, ◌+◌, ◌-◌, List, [], ◌∷◌, Option, Some, None, nat_lt, ◌||◌, if◌then◌else◌}
 use Rattle.kernel_tree.specs.declared.mark.Mark.{Mark}
 use Rattle.kernel_tree.specs.declared.mark.Mark.TheVariants as mark
-use Rattle.kernel_tree.specs.Word.{Word, IsName, IsNumber, IsType, IsCompare, IsUpdate, IsMark}
+use Rattle.kernel_tree.specs.TextToken.{TextToken, IsName, IsNumber, IsType, IsCompare, IsUpdate, IsMark}
 use Rattle.kernel_tree.specs.Limits.{most_open}
 
 -- what a token does to the brackets that are open: a closing one of any kind closes one, where there is one
@@ -22,7 +22,7 @@ signs_by_mark n mark.Tilde = n + 1
 signs_by_mark n mark.Bang = n + 1
 signs_by_mark n _ = 0
 
-abbrev pub open_by : ℕ → Word → ℕ
+abbrev pub open_by : ℕ → TextToken → ℕ
 open_by n (IsMark m) = open_by_mark n m
 open_by n (IsName x) = n
 open_by n (IsNumber v) = n
@@ -30,7 +30,7 @@ open_by n (IsType t) = n
 open_by n (IsCompare op) = n
 open_by n (IsUpdate op) = n
 
-abbrev pub signs_by : ℕ → Word → ℕ
+abbrev pub signs_by : ℕ → TextToken → ℕ
 signs_by n (IsMark m) = signs_by_mark n m
 signs_by n (IsName x) = 0
 signs_by n (IsNumber v) = 0
@@ -40,11 +40,11 @@ signs_by n (IsUpdate op) = 0
 
 -- the place of the first token at which too many brackets are open or too many signs stand in a row,
 -- from a place on, after so many open brackets and so many signs in a row
-unfoldable pub deep_from : ℕ → ℕ → ℕ → List Word → Option ℕ
+unfoldable pub deep_from : ℕ → ℕ → ℕ → List TextToken → Option ℕ
 deep_from open_count signs at [] = None
 deep_from open_count signs at (w ∷ rest) =
     if nat_lt most_open (open_by open_count w) || nat_lt most_open (signs_by signs w) then Some at else
     deep_from (open_by open_count w) (signs_by signs w) (at + 1) rest
 
-abbrev pub deep_place : List Word → Option ℕ
+abbrev pub deep_place : List TextToken → Option ℕ
 deep_place words = deep_from 0 0 0 words

@@ -1,6 +1,6 @@
 -- What a text is refused for, and what a kernel that was read is.
 use Rattle.std.specs.Prelude.{◌≡◌, ℕ, ◌≤◌, List, length, take, Option, Some, None, option_map, Result, Ok, Err, IsTrue, nat_lt, if◌then◌else◌}
-use Rattle.kernel_tree.specs.Word.{Word}
+use Rattle.kernel_tree.specs.TextToken.{TextToken}
 use Rattle.kernel_tree.specs.Tokens.{tokens_of, are_tokens}
 use Rattle.kernel_tree.specs.declared.ast.Kernel.{Kernel}
 use Rattle.kernel_tree.specs.Plain.{Program, program_of}
@@ -11,10 +11,10 @@ use Rattle.kernel_syntax.specs.declared.fault.ReadFault.{ReadFault}
 use Rattle.kernel_syntax.specs.declared.fault.ReadFault.TheVariants as faults
 use Rattle.kernel_syntax.specs.Nesting.{deep_place}
 
-abbrev pub words_fault : List Word → Option ReadFault
+abbrev pub words_fault : List TextToken → Option ReadFault
 words_fault words = if nat_lt most_tokens (length words) then Some faults.TooLong else option_map faults.TooDeep (deep_place words)
 
-abbrev pub tokens_fault : Result (List Word) ℕ → Option ReadFault
+abbrev pub tokens_fault : Result (List TextToken) ℕ → Option ReadFault
 tokens_fault (Ok words) = words_fault words
 tokens_fault (Err at) = Some (faults.BadByte at)
 
@@ -25,7 +25,7 @@ limit_fault text = if nat_lt most_bytes (length text) then Some faults.TooLong e
 
 -- the kernel is the tree of the text's tokens, of which there are not too many
 pub record IsReadFrom (text : List ℕ) (k : Program) : Type 0 where
-  pub words : List Word
+  pub words : List TextToken
   pub tokens : tokens_of text ≡ Ok words
   pub few : length words ≤ most_tokens
   pub spelled : IsTrue (are_tokens words)
@@ -33,24 +33,24 @@ pub record IsReadFrom (text : List ℕ) (k : Program) : Type 0 where
 
 -- the text has tokens, and no kernel is their tree
 pub record HasNoTree (text : List ℕ) : Type 0 where
-  pub words : List Word
+  pub words : List TextToken
   pub tokens : tokens_of text ≡ Ok words
   pub none : (k : Program) → Tree words k → ⊥
 
--- so many words are the longest front of a kernel that some words begin with
-pub record IsPlace (words : List Word) (token : ℕ) : Type 0 where
+-- so many tokens are the longest front of a kernel that some tokens begin with
+pub record IsPlace (words : List TextToken) (token : ℕ) : Type 0 where
   pub within : token ≤ length words
   pub viable : Viable (take token words)
   pub longest : (n : ℕ) → n ≤ length words → Viable (take n words) → n ≤ token
 
 -- the text has tokens, and so many of them are the longest front of a kernel that they begin with
 pub record StopsAt (text : List ℕ) (token : ℕ) : Type 0 where
-  pub words : List Word
+  pub words : List TextToken
   pub tokens : tokens_of text ≡ Ok words
   pub place : IsPlace words token
 
--- what reading some words comes to
-abbrev pub WordsGive : List Word → Result Kernel ReadFault → Type 0
+-- what reading some tokens comes to
+abbrev pub WordsGive : List TextToken → Result Kernel ReadFault → Type 0
 WordsGive words (Ok k) = (words_fault words ≡ None) × Tree words (program_of k)
 WordsGive words (Err faults.TooLong) = words_fault words ≡ Some faults.TooLong
 WordsGive words (Err (faults.BadByte at)) = ⊥

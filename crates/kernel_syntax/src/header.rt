@@ -1,9 +1,9 @@
 //! Parameters, accumulators, the loop and the returned value.
 
 ghost use Rattle.std.specs.Prelude.{◌≡◌, ◌≤◌, ◌<◌, length, IfOk, IfSome, option_map};
-ghost use Rattle.kernel_tree.specs.Plain.{name_of, words_of, parameter_of, parameters_of, accumulator_of, accumulators_of, turns_of, returned_of};
+ghost use Rattle.kernel_tree.specs.Plain.{name_of, words_of, parameter_of, parameters_of, accumulator_of, accumulators_of, for_loop_of, returned_of};
 ghost use Rattle.kernel_syntax.specs.Reading.{Gives};
-ghost use Rattle.kernel_syntax.specs.Headers.{shape_at, param_at, some_at, params_at, var_at, vars_at, zero_at, turns_at, loop_at, tail_at, answer_by};
+ghost use Rattle.kernel_syntax.specs.Headers.{shape_at, param_at, some_at, params_at, var_at, vars_at, zero_at, for_loop_at, loop_at, tail_at, answer_by};
 
 use crate::fault::Stop;
 use crate::front::{accept, copy_name, expect, expect_name, expect_type, front_number};
@@ -137,9 +137,9 @@ fn expect_zero<'a>(tokens: &'a [Token]) -> Result<&'a [Token], Stop>
 
 // A loop over copies of these names.
 fn loop_of(alloc: Global, index: &Name, bound: &Name, body: Vec<Stmt>) -> Result<Loop, AllocError>
-    ensures index { IfOk result (λ turns. name_of turns.index ≡ name_of index.now) }
-    ensures bound { IfOk result (λ turns. name_of turns.bound ≡ name_of bound.now) }
-    ensures body { IfOk result (λ turns. turns.body ≡ body) }
+    ensures index { IfOk result (λ for_loop. name_of for_loop.index ≡ name_of index.now) }
+    ensures bound { IfOk result (λ for_loop. name_of for_loop.bound ≡ name_of bound.now) }
+    ensures body { IfOk result (λ for_loop. for_loop.body ≡ body) }
 {
     let index = copy_name(alloc, index)?;
     let bound = copy_name(alloc, bound)?;
@@ -147,9 +147,9 @@ fn loop_of(alloc: Global, index: &Name, bound: &Name, body: Vec<Stmt>) -> Result
 }
 
 // What stands after the word that begins a loop.
-#[tactic(auto, unfolding(crate::specs::Headers::turns_at))]
-fn turns<'a>(alloc: Global, tokens: &'a [Token]) -> Result<(Loop, &'a [Token]), Stop>
-    ensures value { Gives (λ x. (turns_of x.0, words_of x.1.now)) result (turns_at (words_of tokens.now)) }
+#[tactic(auto, unfolding(crate::specs::Headers::for_loop_at))]
+fn for_loop<'a>(alloc: Global, tokens: &'a [Token]) -> Result<(Loop, &'a [Token]), Stop>
+    ensures value { Gives (λ x. (for_loop_of x.0, words_of x.1.now)) result (for_loop_at (words_of tokens.now)) }
     ensures shorter { IfOk result (λ x. length x.1.now < length tokens.now) }
 {
     let (index, following) = expect_name(tokens)?;
@@ -165,13 +165,13 @@ fn turns<'a>(alloc: Global, tokens: &'a [Token]) -> Result<(Loop, &'a [Token]), 
 // The loop at the front, if there is one.
 #[tactic(auto, unfolding(crate::specs::Headers::loop_at))]
 pub fn body<'a>(alloc: Global, tokens: &'a [Token]) -> Result<(Option<Loop>, &'a [Token]), Stop>
-    ensures value { Gives (λ x. (option_map turns_of x.0, words_of x.1.now)) result (loop_at (words_of tokens.now)) }
+    ensures value { Gives (λ x. (option_map for_loop_of x.0, words_of x.1.now)) result (loop_at (words_of tokens.now)) }
     ensures shorter { IfOk result (λ x. length x.1.now ≤ length tokens.now) }
 {
     match accept(tokens, Mark::For) {
         Some(from) => {
-            let (turns, rest) = turns(alloc, from)?;
-            Ok((Some(turns), rest))
+            let (for_loop, rest) = for_loop(alloc, from)?;
+            Ok((Some(for_loop), rest))
         }
         None => Ok((None, tokens)),
     }

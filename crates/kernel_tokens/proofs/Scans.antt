@@ -4,7 +4,7 @@ use Rattle.std.specs.Prelude.{◌&&◌, ◌==◌, ◌^◌, nat_lt, codes, bytes_
 use Rattle.std.specs.List.{prefix_len}
 use Rattle.std.proofs.lemmas.List.Sums.{prefix_len-le-length}
 use Rattle.std.proofs.lemmas.List.{take_all, drop-drop, drop_all, append-nil}
-use Rattle.kernel_tree.specs.Word.{Word, IsNumber, IsUpdate}
+use Rattle.kernel_tree.specs.TextToken.{TextToken, IsNumber, IsUpdate}
 use Rattle.kernel_tree.specs.declared.ops.UpdateOp.TheVariants as update
 use Rattle.kernel_tree.specs.Tokens.{Piece, Gap, Token, NoToken, piece, before, by_piece, scan, tokens_of, begins, begins_hex, is_blank, is_letter, run_word, hex_from, decimal_from, pair, is_in_line, is_name_byte, run_piece, run_from, number_piece, literal, symbol_of, symbol_piece, single}
 use Rattle.number_text.specs.Numbers.{value_of, is_digit, is_hex_digit}
@@ -19,7 +19,7 @@ either_within : (t : Bool) (p q : Piece) (n : ℕ) → Within n p → Within n q
 either_within true p q n h k = h
 either_within false p q n h k = k
 
-token_within : (w : Word) (k n : ℕ) → k ≤ n → Within n (Token w k)
+token_within : (w : TextToken) (k n : ℕ) → k ≤ n → Within n (Token w k)
 token_within w k n h = record { fits = h }
 
 bad_within : (n : ℕ) → Within n NoToken
@@ -51,11 +51,11 @@ number_within b (x ∷ d ∷ r) =
     (literal_within (value_of 16 (take j (d ∷ r))) (j + 1) n (omega (arith, prefix_len-le-length is_hex_digit (d ∷ r))))
     (literal_within (value_of 10 (b ∷ take k (x ∷ d ∷ r))) k n (prefix_len-le-length is_digit (x ∷ d ∷ r)))
 
-none_within : (o : Option Word) (n : ℕ) → Within n (symbol_of None o)
+none_within : (o : Option TextToken) (n : ℕ) → Within n (symbol_of None o)
 none_within None n = bad_within n
 none_within (Some w) n = token_within w 0 n (omega arith)
 
-some_within : (p o : Option Word) (n : ℕ) → Within (suc n) (symbol_of p o)
+some_within : (p o : Option TextToken) (n : ℕ) → Within (suc n) (symbol_of p o)
 some_within None o n = none_within o (suc n)
 some_within (Some w) o n = token_within w 1 (suc n) (omega arith)
 
@@ -86,8 +86,8 @@ tail_is text at = take_all (length text - at) (drop at text) (omega (arith, leng
 
 -- ---- the whole text
 
--- words in front of what a scan gives
-abbrev pub following_words : List Word → Result (List Word) ℕ → Result (List Word) ℕ
+-- tokens in front of what a scan gives
+abbrev pub following_words : List TextToken → Result (List TextToken) ℕ → Result (List TextToken) ℕ
 following_words ws (Ok vs) = Ok (ws ++ vs)
 following_words ws (Err at) = Err at
 
@@ -98,20 +98,20 @@ scan-past zero at to bytes e h = let p : at ≡ to = omega arith in ap (λ n. sc
 scan-past (suc k) at to [] e h = absurd (omega arith)
 scan-past (suc k) at to (b ∷ rest) e h = scan-past k (at + 1) to rest (omega arith) (omega arith)
 
--- the tokens of a text are some words and then those from a place on
-pub record Scanned (text : List ℕ) (at : ℕ) (ws : List Word) : Type 0 where
+-- the tokens of a text are some tokens and then those from a place on
+pub record Scanned (text : List ℕ) (at : ℕ) (ws : List TextToken) : Type 0 where
   pub inside : at ≤ length text
   pub same : following_words ws (scan 0 at (drop at text)) ≡ tokens_of text
 
 pub scanned_first : (text : List ℕ) → Scanned text 0 []
 scanned_first text = record { inside = omega arith; same = go (scan 0 0 text) }
   where
-    go : (r : Result (List Word) ℕ) → following_words [] r ≡ r
+    go : (r : Result (List TextToken) ℕ) → following_words [] r ≡ r
     go (Ok vs) = refl
     go (Err at) = refl
 
-before_words : (ws : List Word) (w : Word) (r : Result (List Word) ℕ) → following_words ws (before w r) ≡ following_words (ws ++ w ∷ []) r
-before_words ws w (Ok vs) = ap (λ (l : List Word). Ok l) (sym (append_assoc ws (w ∷ []) vs))
+before_words : (ws : List TextToken) (w : TextToken) (r : Result (List TextToken) ℕ) → following_words ws (before w r) ≡ following_words (ws ++ w ∷ []) r
+before_words ws w (Ok vs) = ap (λ (l : List TextToken). Ok l) (sym (append_assoc ws (w ∷ []) vs))
 before_words ws w (Err at) = refl
 
 drop-end : (k b : ℕ) (rest : List ℕ) → drop (k + 1) (b ∷ rest) ≡ drop k rest
@@ -129,7 +129,7 @@ unfolding scan
 gap_step [] at to k e h t = absurd (omega arith)
 gap_step (b ∷ rest) at to k e h t = ap (λ q. by_piece q (λ k. scan k (at + 1) rest) at) e ∙ skip b rest at to k (piece_inside b rest (Gap k) e) t
 
-token_step : (bytes : List ℕ) (at to k : ℕ) (w : Word) → at_front piece bytes ≡ Token w k → 0 < length bytes → to ≡ at + (k + 1) → scan 0 at bytes ≡ before w (scan 0 to (drop (k + 1) bytes))
+token_step : (bytes : List ℕ) (at to k : ℕ) (w : TextToken) → at_front piece bytes ≡ Token w k → 0 < length bytes → to ≡ at + (k + 1) → scan 0 at bytes ≡ before w (scan 0 to (drop (k + 1) bytes))
 unfolding scan
 token_step [] at to k w e h t = absurd (omega arith)
 token_step (b ∷ rest) at to k w e h t = ap (λ q. by_piece q (λ k. scan k (at + 1) rest) at) e ∙ ap (before w) (skip b rest at to k (piece_inside b rest (Token w k) e) t)
@@ -151,27 +151,27 @@ piece_ends text at to k p h e l t =
 pub gap_fits : (text : List ℕ) (at k : ℕ) → at < length text → at_front piece (drop at text) ≡ Gap k → at + (k + 1) ≤ length text
 gap_fits text at k h e = piece_ends text at (at + (k + 1)) k (Gap k) h e refl refl
 
-pub token_fits : (text : List ℕ) (at k : ℕ) (w : Word) → at < length text → at_front piece (drop at text) ≡ Token w k → at + (k + 1) ≤ length text
+pub token_fits : (text : List ℕ) (at k : ℕ) (w : TextToken) → at < length text → at_front piece (drop at text) ≡ Token w k → at + (k + 1) ≤ length text
 token_fits text at k w h e = piece_ends text at (at + (k + 1)) k (Token w k) h e refl refl
 
 dropped : (text : List ℕ) (at to k : ℕ) → to ≡ at + (k + 1) → drop (k + 1) (drop at text) ≡ drop to text
 dropped text at to k t = rw t (drop-drop (k + 1) at text)
 
-pub scanned_gap : (text : List ℕ) (at k to : ℕ) (ws : List Word) → Scanned text at ws → at < length text → at_front piece (drop at text) ≡ Gap k → to ≡ at + (k + 1) → Scanned text to ws
+pub scanned_gap : (text : List ℕ) (at k to : ℕ) (ws : List TextToken) → Scanned text at ws → at < length text → at_front piece (drop at text) ≡ Gap k → to ≡ at + (k + 1) → Scanned text to ws
 scanned_gap text at k to ws s h e t = record {
   inside = piece_ends text at to k (Gap k) h e refl t;
   same = ap (λ (l : List ℕ). following_words ws (scan 0 to l)) (sym (dropped text at to k t)) ∙ ap (following_words ws) (sym (gap_step (drop at text) at to k e (left_over text at h) t)) ∙ s.same;
 }
 
-pub scanned_token : (text : List ℕ) (at k to : ℕ) (ws : List Word) (w : Word) → Scanned text at ws → at < length text → at_front piece (drop at text) ≡ Token w k → to ≡ at + (k + 1) → Scanned text to (ws ++ w ∷ [])
+pub scanned_token : (text : List ℕ) (at k to : ℕ) (ws : List TextToken) (w : TextToken) → Scanned text at ws → at < length text → at_front piece (drop at text) ≡ Token w k → to ≡ at + (k + 1) → Scanned text to (ws ++ w ∷ [])
 scanned_token text at k to ws w s h e t = record {
   inside = piece_ends text at to k (Token w k) h e refl t;
   same = ap (λ (l : List ℕ). following_words (ws ++ w ∷ []) (scan 0 to l)) (sym (dropped text at to k t)) ∙ sym (before_words ws w (scan 0 to (drop (k + 1) (drop at text)))) ∙ ap (following_words ws) (sym (token_step (drop at text) at to k w e (left_over text at h) t)) ∙ s.same;
 }
 
-pub scanned_bad : (text : List ℕ) (at : ℕ) (ws : List Word) → Scanned text at ws → at < length text → at_front piece (drop at text) ≡ NoToken → tokens_of text ≡ Err at
+pub scanned_bad : (text : List ℕ) (at : ℕ) (ws : List TextToken) → Scanned text at ws → at < length text → at_front piece (drop at text) ≡ NoToken → tokens_of text ≡ Err at
 scanned_bad text at ws s h e = sym s.same ∙ ap (following_words ws) (bad_step (drop at text) at e (left_over text at h))
 
-pub scanned_all : (text : List ℕ) (at : ℕ) (ws : List Word) → Scanned text at ws → length text ≤ at → tokens_of text ≡ Ok ws
+pub scanned_all : (text : List ℕ) (at : ℕ) (ws : List TextToken) → Scanned text at ws → length text ≤ at → tokens_of text ≡ Ok ws
 unfolding scan
-scanned_all text at ws s h = sym s.same ∙ ap (λ (l : List ℕ). following_words ws (scan 0 at l)) (drop_all at text h) ∙ ap (λ (l : List Word). Ok l) (append-nil ws)
+scanned_all text at ws s h = sym s.same ∙ ap (λ (l : List ℕ). following_words ws (scan 0 at l)) (drop_all at text h) ∙ ap (λ (l : List TextToken). Ok l) (append-nil ws)

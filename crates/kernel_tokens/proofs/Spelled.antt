@@ -8,7 +8,7 @@ use Rattle.kernel_tree.specs.declared.ops.CompareOp.TheVariants as compare
 use Rattle.kernel_tree.specs.declared.ops.UpdateOp.TheVariants as update
 use Rattle.kernel_tree.specs.declared.mark.Mark.{Mark}
 use Rattle.kernel_tree.specs.declared.mark.Mark.TheVariants as mark
-use Rattle.kernel_tree.specs.Word.{Word, IsNumber, IsCompare, IsUpdate, IsMark}
+use Rattle.kernel_tree.specs.TextToken.{TextToken, IsNumber, IsCompare, IsUpdate, IsMark}
 use Rattle.kernel_tree.specs.Tokens.{Piece, Gap, Token, NoToken, piece, before, by_piece, scan, tokens_of, begins, begins_hex, by_reserved, reserved_type, reserved_mark, run_word, is_run, is_token, are_tokens, is_blank, is_letter, is_name_byte, is_in_line, literal, hex_from, decimal_from, number_piece, pair, single, symbol_of, symbol_piece, run_piece, run_from}
 use Rattle.number_text.specs.Numbers.{is_digit, is_hex_digit, value_of}
 use Rattle.kernel_tokens.proofs.Runs.{front_all}
@@ -26,7 +26,7 @@ either : (t : Bool) (p q : Piece) → Spelled p → Spelled q → Spelled (cond 
 either true p q h k = h
 either false p q h k = k
 
-token : (w : Word) (k : ℕ) → IsTrue (is_token w) → Spelled (Token w k)
+token : (w : TextToken) (k : ℕ) → IsTrue (is_token w) → Spelled (Token w k)
 token w k h = record { is = h }
 
 gap : (k : ℕ) → Spelled (Gap k)
@@ -71,14 +71,14 @@ number_spelled b rest =
 
 -- ---- symbols
 
-abbrev IsSymbol : Option Word → Type 0
+abbrev IsSymbol : Option TextToken → Type 0
 IsSymbol (Some w) = IsTrue (is_token w)
 IsSymbol None = Unit {0}
 
-record Symbol (o : Option Word) : Type 0 where
+record Symbol (o : Option TextToken) : Type 0 where
   is : IsSymbol o
 
-symbol : (t : Bool) (w : Word) (o : Option Word) → IsTrue (is_token w) → Symbol o → Symbol (cond t (Some w) o)
+symbol : (t : Bool) (w : TextToken) (o : Option TextToken) → IsTrue (is_token w) → Symbol o → Symbol (cond t (Some w) o)
 symbol true w o h k = record { is = h }
 symbol false w o h k = k
 
@@ -125,7 +125,7 @@ single_spelled b =
     (symbol (b == 126) (IsMark mark.Tilde) _ refl
     (symbol (b == 33) (IsMark mark.Bang) _ refl no_symbol)))))))))))))))))))
 
-symbols_spelled : (o p : Option Word) → Symbol o → Symbol p → Spelled (symbol_of o p)
+symbols_spelled : (o p : Option TextToken) → Symbol o → Symbol p → Spelled (symbol_of o p)
 symbols_spelled (Some w) p h k = token w 1 h.is
 symbols_spelled None (Some w) h k = token w 0 k.is
 symbols_spelled None None h k = record { is = tt }
@@ -146,27 +146,27 @@ piece_spelled b rest =
     (letter_spelled b rest (is_letter b) last refl
     (either (is_digit b) (number_piece b rest) (symbol_piece b rest) (number_spelled b rest) (symbol_spelled b rest))))
 
-same_words : (u v : List Word) → ◌≡◌ {A = Result (List Word) ℕ} (Ok u) (Ok v) → u ≡ v
+same_words : (u v : List TextToken) → ◌≡◌ {A = Result (List TextToken) ℕ} (Ok u) (Ok v) → u ≡ v
 same_words u v e = cc
 
-no_words : (at : ℕ) (v : List Word) → ◌≡◌ {A = Result (List Word) ℕ} (Err at) (Ok v) → ⊥
+no_words : (at : ℕ) (v : List TextToken) → ◌≡◌ {A = Result (List TextToken) ℕ} (Err at) (Ok v) → ⊥
 no_words at v e = cc
 
-before_spelled : (w : Word) (r : Result (List Word) ℕ) (words : List Word) → IsTrue (is_token w) → ((vs : List Word) → r ≡ Ok vs → IsTrue (are_tokens vs)) → before w r ≡ Ok words → IsTrue (are_tokens words)
+before_spelled : (w : TextToken) (r : Result (List TextToken) ℕ) (words : List TextToken) → IsTrue (is_token w) → ((vs : List TextToken) → r ≡ Ok vs → IsTrue (are_tokens vs)) → before w r ≡ Ok words → IsTrue (are_tokens words)
 before_spelled w (Ok vs) words h all e =
-    subst (λ (l : List Word). IsTrue (are_tokens l)) (same_words (w ∷ vs) words e) (and_from (is_token w) (are_tokens vs) h (all vs refl))
+    subst (λ (l : List TextToken). IsTrue (are_tokens l)) (same_words (w ∷ vs) words e) (and_from (is_token w) (are_tokens vs) h (all vs refl))
 before_spelled w (Err at) words h all e = absurd (no_words at words e)
 
-by_piece_spelled : (p : Piece) (next : ℕ → Result (List Word) ℕ) (at : ℕ) (words : List Word) → IsSpelled p → ((k : ℕ) (vs : List Word) → next k ≡ Ok vs → IsTrue (are_tokens vs)) → by_piece p next at ≡ Ok words → IsTrue (are_tokens words)
+by_piece_spelled : (p : Piece) (next : ℕ → Result (List TextToken) ℕ) (at : ℕ) (words : List TextToken) → IsSpelled p → ((k : ℕ) (vs : List TextToken) → next k ≡ Ok vs → IsTrue (are_tokens vs)) → by_piece p next at ≡ Ok words → IsTrue (are_tokens words)
 by_piece_spelled (Gap k) next at words h all e = all k words e
 by_piece_spelled (Token w k) next at words h all e = before_spelled w (next k) words h (all k) e
 by_piece_spelled NoToken next at words h all e = absurd (no_words at words e)
 
-scan_spelled : (skip at : ℕ) (bytes : List ℕ) (words : List Word) → scan skip at bytes ≡ Ok words → IsTrue (are_tokens words)
+scan_spelled : (skip at : ℕ) (bytes : List ℕ) (words : List TextToken) → scan skip at bytes ≡ Ok words → IsTrue (are_tokens words)
 unfolding scan
-scan_spelled skip at [] words e = subst (λ (l : List Word). IsTrue (are_tokens l)) (same_words [] words e) refl
+scan_spelled skip at [] words e = subst (λ (l : List TextToken). IsTrue (are_tokens l)) (same_words [] words e) refl
 scan_spelled zero at (b ∷ rest) words e = by_piece_spelled (piece b rest) (λ k. scan k (at + 1) rest) at words (piece_spelled b rest).is (λ k vs h. scan_spelled k (at + 1) rest vs h) e
 scan_spelled (suc skip) at (b ∷ rest) words e = scan_spelled skip (at + 1) rest words e
 
-pub tokens_spelled : (text : List ℕ) (words : List Word) → tokens_of text ≡ Ok words → IsTrue (are_tokens words)
+pub tokens_spelled : (text : List ℕ) (words : List TextToken) → tokens_of text ≡ Ok words → IsTrue (are_tokens words)
 tokens_spelled text words e = scan_spelled 0 0 text words e

@@ -9,7 +9,7 @@ use Rattle.kernel_tree.specs.declared.ast.Shape.TheVariants as shape
 use Rattle.kernel_tree.specs.declared.fault.Fault.TheVariants as fault
 use Rattle.kernel_tree.specs.declared.mark.Joint.TheVariants as joint
 use Rattle.kernel_tree.specs.declared.mark.Mark.TheVariants as mark
-use Rattle.kernel_tree.specs.Word.{IsName, IsNumber, IsType, IsMark}
+use Rattle.kernel_tree.specs.TextToken.{IsName, IsNumber, IsType, IsMark}
 use Rattle.kernel_tree.specs.Plain.{Term, Literal, Variable, Element, Operation, Conversion, Comparison, Define, Put, Update, Leave, Done, Then, Program}
 use Rattle.kernel_tree.specs.Tokens.{tokens_of, scan}
 use Rattle.kernel_tree.specs.Grammar.{number, name, up, operation, some, last, scalar, no_var, no_loop}
@@ -53,7 +53,7 @@ next = record {
   name = codes "f";
   params = record { name = x; shape = shape.Scalar ty.U64 } ∷ [];
   vars = [];
-  turns = None;
+  for_loop = None;
   answer = Some (record { type = ty.U64; value = Operation binary.Add (Variable x) (Literal (pos 1)) });
 }
 
@@ -80,7 +80,7 @@ axpy = record {
   name = codes "axpy";
   params = record { name = y; shape = shape.Array ty.I32 } ∷ record { name = x; shape = shape.Array ty.I32 } ∷ record { name = k; shape = shape.Scalar ty.I32 } ∷ record { name = n; shape = shape.Scalar ty.U64 } ∷ [];
   vars = [];
-  turns = Some (record { index = i; bound = n; body = Then (Put y (Variable i) (Operation binary.Add (at y) (Operation binary.Mul (Variable k) (at x)))) Done });
+  for_loop = Some (record { index = i; bound = n; body = Then (Put y (Variable i) (Operation binary.Add (at y) (Operation binary.Mul (Variable k) (at x)))) Done });
   answer = None;
 }
 
@@ -100,7 +100,7 @@ spread = record {
   name = codes "spread";
   params = record { name = a; shape = shape.Array ty.U8 } ∷ record { name = n; shape = shape.Scalar ty.U64 } ∷ [];
   vars = [];
-  turns = Some (record { index = i; bound = n; body = Then (Put a (Operation binary.Add (Variable i) (Literal (pos 1))) (at a)) Done });
+  for_loop = Some (record { index = i; bound = n; body = Then (Put a (Operation binary.Add (Variable i) (Literal (pos 1))) (at a)) Done });
   answer = None;
 }
 
@@ -129,7 +129,7 @@ pre = record {
   name = codes "pre";
   params = record { name = a; shape = shape.Array ty.U64 } ∷ record { name = n; shape = shape.Scalar ty.U64 } ∷ [];
   vars = record { name = s; type = ty.U64; init = Literal (pos 0) } ∷ [];
-  turns = Some (record { index = i; bound = n; body = Then (Update s update.Add (at a)) (Then (Put a (Variable i) (Variable s)) Done) });
+  for_loop = Some (record { index = i; bound = n; body = Then (Update s update.Add (at a)) (Then (Put a (Variable i) (Variable s)) Done) });
   answer = None;
 }
 
@@ -149,7 +149,7 @@ bright = record {
   name = codes "bright";
   params = record { name = a; shape = shape.Array ty.U8 } ∷ record { name = n; shape = shape.Scalar ty.U64 } ∷ [];
   vars = [];
-  turns = Some (record { index = i; bound = n; body = Then (Define v None (Operation binary.Add (Conversion (at a) ty.U16) (Literal (pos 40)))) (Then (Put a (Variable i) (Conversion (Operation binary.Min (Variable v) (Literal (pos 255))) ty.U8)) Done) });
+  for_loop = Some (record { index = i; bound = n; body = Then (Define v None (Operation binary.Add (Conversion (at a) ty.U16) (Literal (pos 40)))) (Then (Put a (Variable i) (Conversion (Operation binary.Min (Variable v) (Literal (pos 255))) ty.U8)) Done) });
   answer = None;
 }
 
@@ -165,7 +165,7 @@ len = record {
   name = codes "len";
   params = record { name = a; shape = shape.Array ty.U8 } ∷ record { name = n; shape = shape.Scalar ty.U64 } ∷ [];
   vars = [];
-  turns = Some (record { index = i; bound = n; body = Then (Leave (Comparison compare.Eq (at a) (Literal (pos 0)))) Done });
+  for_loop = Some (record { index = i; bound = n; body = Then (Leave (Comparison compare.Eq (at a) (Literal (pos 0)))) Done });
   answer = Some (record { type = ty.U64; value = Variable i });
 }
 

@@ -17,7 +17,7 @@ use Rattle.kernel_tree.specs.declared.ops.UpdateOp.{UpdateOp}
 use Rattle.kernel_tree.specs.declared.ops.UpdateOp.TheVariants as update
 use Rattle.kernel_tree.specs.declared.mark.Mark.{Mark}
 use Rattle.kernel_tree.specs.declared.mark.Mark.TheVariants as mark
-use Rattle.kernel_tree.specs.Word.{Word, IsName, IsNumber, IsType, IsCompare, IsUpdate, IsMark}
+use Rattle.kernel_tree.specs.TextToken.{TextToken, IsName, IsNumber, IsType, IsCompare, IsUpdate, IsMark}
 use Rattle.kernel_tree.specs.Tokens.{is_letter, is_name_byte, is_blank, is_run, is_name, reserved_type, reserved_mark, by_reserved, begins_hex, Piece, Token, piece, run_from, run_piece, literal, decimal_from, number_piece, before, by_piece, scan, tokens_of, is_token}
 use Rattle.number_text.specs.Numbers.{is_digit, is_hex_digit, digit_value, appended, value_of}
 use Rattle.kernel_tree.specs.Printing.{type_text, compare_text, update_text, mark_text, word_text, spaced, joined_text}
@@ -40,15 +40,15 @@ unfolding scan
 scan-skip [] at s = refl
 scan-skip (b ∷ t) at s = scan-skip t (at + 1) s
 
-pub scan-token : (b : ℕ) (rest : List ℕ) (at : ℕ) (w : Word) (k : ℕ) → piece b rest ≡ Token w k → scan 0 at (b ∷ rest) ≡ before w (scan k (at + 1) rest)
+pub scan-token : (b : ℕ) (rest : List ℕ) (at : ℕ) (w : TextToken) (k : ℕ) → piece b rest ≡ Token w k → scan 0 at (b ∷ rest) ≡ before w (scan k (at + 1) rest)
 unfolding scan
 scan-token b rest at w k e = ap (λ (p : Piece). by_piece p (λ k. scan k (at + 1) rest) at) e
 
 -- a text whose token is known, and what follows it
-abbrev Scans : Word → List ℕ → Type 0
+abbrev Scans : TextToken → List ℕ → Type 0
 Scans w text = (at : ℕ) (o : Option (List ℕ)) → scan 0 at (text ++ tail_of o) ≡ before w (scan 0 (moved (length text) at) (tail_of o))
 
-scans-from : (w : Word) (b : ℕ) (t : List ℕ) → ((o : Option (List ℕ)) → piece b (t ++ tail_of o) ≡ Token w (length t)) → Scans w (b ∷ t)
+scans-from : (w : TextToken) (b : ℕ) (t : List ℕ) → ((o : Option (List ℕ)) → piece b (t ++ tail_of o) ≡ Token w (length t)) → Scans w (b ∷ t)
 scans-from w b t e at o = scan-token b (t ++ tail_of o) at w (length t) (e o) ∙ ap (before w) (scan-skip t (at + 1) (tail_of o))
 
 -- ---- reserved words and symbols
@@ -209,7 +209,7 @@ number_scans n h =
 
 -- ---- lists
 
-word_scans : (w : Word) → IsTrue (is_token w) → Scans w (word_text w)
+word_scans : (w : TextToken) → IsTrue (is_token w) → Scans w (word_text w)
 word_scans (IsName x) h = name_scans x h
 word_scans (IsNumber n) h = number_scans n h
 word_scans (IsType t) h = type_scans t
@@ -218,28 +218,28 @@ word_scans (IsUpdate op) h = update_scans op
 word_scans (IsMark m) h = mark_scans m
 
 -- what stands after a token of a list
-abbrev following : List Word → Option (List ℕ)
+abbrev following : List TextToken → Option (List ℕ)
 following [] = None
 following (w ∷ ws) = Some (word_text w ++ spaced ws)
 
-spaced-is : (ws : List Word) → spaced ws ≡ tail_of (following ws)
+spaced-is : (ws : List TextToken) → spaced ws ≡ tail_of (following ws)
 unfolding spaced
 spaced-is [] = refl
 spaced-is (w ∷ ws) = refl
 
-mutual_scan : (w : Word) (ws : List Word) (at : ℕ) → IsTrue (is_token w) → ((at : ℕ) → scan 0 at (spaced ws) ≡ Ok ws) → scan 0 at (word_text w ++ spaced ws) ≡ Ok (w ∷ ws)
+mutual_scan : (w : TextToken) (ws : List TextToken) (at : ℕ) → IsTrue (is_token w) → ((at : ℕ) → scan 0 at (spaced ws) ≡ Ok ws) → scan 0 at (word_text w ++ spaced ws) ≡ Ok (w ∷ ws)
 mutual_scan w ws at h again =
     ap (λ (s : List ℕ). scan 0 at (word_text w ++ s)) (spaced-is ws)
     ∙ word_scans w h at (following ws)
     ∙ ap (λ (s : List ℕ). before w (scan 0 (moved (length (word_text w)) at) s)) (sym (spaced-is ws))
     ∙ ap (before w) (again (moved (length (word_text w)) at))
 
-spaced_scan : (ws : List Word) → Tokens ws → (at : ℕ) → scan 0 at (spaced ws) ≡ Ok ws
+spaced_scan : (ws : List TextToken) → Tokens ws → (at : ℕ) → scan 0 at (spaced ws) ≡ Ok ws
 unfolding scan spaced
 spaced_scan [] t at = refl
 spaced_scan (w ∷ ws) t at = mutual_scan w ws (at + 1) t.0 (spaced_scan ws t.1)
 
-pub tokens_of-joined_text : (ws : List Word) → Tokens ws → tokens_of (joined_text ws) ≡ Ok ws
+pub tokens_of-joined_text : (ws : List TextToken) → Tokens ws → tokens_of (joined_text ws) ≡ Ok ws
 unfolding scan
 tokens_of-joined_text [] t = refl
 tokens_of-joined_text (w ∷ ws) t = mutual_scan w ws 0 t.0 (spaced_scan ws t.1)

@@ -87,7 +87,7 @@ pub record IndexAlone (k : Program) (x : List ℕ) : Type 0 where
   pub vars : NoName x (accs_of k.vars)
   pub visible : NoName x (var_scope k).visible
 
-pub index_alone : (k : Program) (l : PlainLoop) → check_fault k ≡ None → k.turns ≡ Some l → IndexAlone k l.index
+pub index_alone : (k : Program) (l : PlainLoop) → check_fault k ≡ None → k.for_loop ≡ Some l → IndexAlone k l.index
 index_alone k l e t =
     let free : Untaken l.index (var_scope k).taken = not_added (is_taken (var_scope k) l.index) _ (index_faultless k l e t) in
     let vars = vars_untaken l.index k.vars (param_scope k) free in
@@ -219,5 +219,5 @@ scalar_param (p ∷ ps) vs x t e = by_test (bytes_eq p.name x) refl e (scalar_pa
         (0, ap (λ (s : Shape). Some (record { name = p.name; shape = s })) kind ∙ ap (λ y. Some (record { name = y; shape = shape.Scalar t })) named)
     by_test false f e h = let r = h e in (suc r.0, r.1)
 
-pub bound_param : (k : Program) (l : PlainLoop) → check_fault k ≡ None → k.turns ≡ Some l → HasBound k.params l
+pub bound_param : (k : Program) (l : PlainLoop) → check_fault k ≡ None → k.for_loop ≡ Some l → HasBound k.params l
 bound_param k l e t = scalar_param k.params k.vars l.bound U64 (ap (λ vs. option_map binding_of (find (has_name l.bound) vs)) (sym (var_visible k)) ∙ bound_scalar k l e t)

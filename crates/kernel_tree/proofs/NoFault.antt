@@ -99,5 +99,5 @@ bound_known item None e = absurd cc
 bound_known item (Some (binding.Scalar t)) e = ap (λ u. Some (binding.Scalar u)) (sym (no_mismatch item ty.U64 t e))
 bound_known item other e = absurd cc
 
-pub bound_scalar : (k : Program) (l : PlainLoop) → check_fault k ≡ None → k.turns ≡ Some l → lookup (var_scope k) l.bound ≡ Some (binding.Scalar ty.U64)
+pub bound_scalar : (k : Program) (l : PlainLoop) → check_fault k ≡ None → k.for_loop ≡ Some l → lookup (var_scope k) l.bound ≡ Some (binding.Scalar ty.U64)
 bound_scalar k l e t = bound_known (loop_start k) (lookup (var_scope k) l.bound) (bound_faultless k l e t)

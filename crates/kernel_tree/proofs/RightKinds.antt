@@ -6,8 +6,8 @@ use Rattle.kernel_tree.specs.declared.ops.BinaryOp.{BinaryOp}
 use Rattle.kernel_tree.specs.declared.fault.Found.{Found}
 use Rattle.kernel_tree.specs.Plain.{Term, Literal, Variable, Element, Unary, Operation, Shift, Conversion, Choice, Comparison, Both, Either, Not, Action, Define, Put, Update, Choose, Leave, Block, Done, Then, Otherwise, Nothing, Else, Accumulator, PlainLoop, Returned, Program}
 use Rattle.kernel_tree.specs.Items.{term_size, is_index_term, literal_value, moved_by, stream_offset}
-use Rattle.kernel_tree.specs.Typing.{Scope, Value, Condition, index_type, after_action, after_block, left, declared, in_loop, after_turns, param_scope, var_scope, faults, inner_faults, action_faults, block_faults, otherwise_faults, vars_faults, turns_faults, answer_faults, check_fault}
-use Rattle.kernel_tree.specs.Kinds.{IsValue, IsTruth, ActionKinds, BlockKinds, OtherwiseKinds, VarsKinds, TurnsKinds, AnswerKinds, KernelKinds}
+use Rattle.kernel_tree.specs.Typing.{Scope, Value, Condition, index_type, after_action, after_block, left, declared, in_loop, after_for_loop, param_scope, var_scope, faults, inner_faults, action_faults, block_faults, otherwise_faults, vars_faults, for_loop_faults, answer_faults, check_fault}
+use Rattle.kernel_tree.specs.Kinds.{IsValue, IsTruth, ActionKinds, BlockKinds, OtherwiseKinds, VarsKinds, ForLoopKinds, AnswerKinds, KernelKinds}
 use Rattle.kernel_tree.proofs.Faultless.{nil-left, nil-right, never, vars_faultless, loop_faultless, answer_faultless, body_faultless}
 use Rattle.kernel_tree.specs.declared.fault.Binding.TheVariants as binding
 
@@ -93,9 +93,9 @@ vars-kinds : (vs : List Accumulator) (s : Scope) (from : ℕ) → vars_faults s 
 vars-kinds [] s from h = tt
 vars-kinds (v ∷ vs) s from h = (value-kinds v.init s _ _ (nil-left _ _ h), vars-kinds vs (declared s v.name (binding.Accumulator v.type)) _ (nil-right _ _ (nil-right _ _ h)))
 
-turns-kinds : (o : Option PlainLoop) (s : Scope) (from : ℕ) → turns_faults s from o ≡ [] → TurnsKinds o
-turns-kinds None s from h = tt
-turns-kinds (Some l) s from h = block-kinds l.body (in_loop s l) _ (nil-right _ _ (nil-right _ _ h))
+for_loop-kinds : (o : Option PlainLoop) (s : Scope) (from : ℕ) → for_loop_faults s from o ≡ [] → ForLoopKinds o
+for_loop-kinds None s from h = tt
+for_loop-kinds (Some l) s from h = block-kinds l.body (in_loop s l) _ (nil-right _ _ (nil-right _ _ h))
 
 answer-kinds : (o : Option Returned) (s : Scope) (from : ℕ) → answer_faults s from o ≡ [] → AnswerKinds o
 answer-kinds None s from h = tt
@@ -104,9 +104,9 @@ answer-kinds (Some a) s from h = value-kinds a.value s _ _ h
 pub kernel-kinds : (k : Program) → check_fault k ≡ None → KernelKinds k
 kernel-kinds k e = record {
   vars = vars-kinds k.vars (param_scope k) _ (vars_faultless k e);
-  turns = turns-kinds k.turns (var_scope k) _ (loop_faultless k e);
-  answer = answer-kinds k.answer (after_turns (var_scope k) k.turns) _ (answer_faultless k e);
+  for_loop = for_loop-kinds k.for_loop (var_scope k) _ (loop_faultless k e);
+  answer = answer-kinds k.answer (after_for_loop (var_scope k) k.for_loop) _ (answer_faultless k e);
 }
 
-pub body-kinds : (k : Program) (l : PlainLoop) → check_fault k ≡ None → k.turns ≡ Some l → BlockKinds l.body
+pub body-kinds : (k : Program) (l : PlainLoop) → check_fault k ≡ None → k.for_loop ≡ Some l → BlockKinds l.body
 body-kinds k l e t = block-kinds l.body (in_loop (var_scope k) l) _ (body_faultless k l e t)

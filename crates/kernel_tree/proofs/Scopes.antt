@@ -4,7 +4,7 @@ use Rattle.kernel_tree.specs.declared.ops.Ty.{Ty}
 use Rattle.kernel_tree.specs.declared.fault.Binding.TheVariants as binding
 use Rattle.kernel_tree.specs.Plain.{Action, Define, Parameter, Accumulator, PlainLoop, Program}
 use Rattle.kernel_tree.specs.Items.{loop_index}
-use Rattle.kernel_tree.specs.Typing.{Scope, own, first, declared, defined, after_action, binding_of_shape, empty, after_params, after_vars, after_turns, param_scope, var_scope}
+use Rattle.kernel_tree.specs.Typing.{Scope, own, first, declared, defined, after_action, binding_of_shape, empty, after_params, after_vars, after_for_loop, param_scope, var_scope}
 use Rattle.kernel_tree.specs.Scopes.{param_local, var_local, locals_of, accs_of}
 
 -- ---- the visible names
@@ -33,9 +33,9 @@ vars_index : (vs : List Accumulator) (s : Scope) → (after_vars s vs).index ≡
 vars_index [] s = refl
 vars_index (v ∷ vs) s = vars_index vs (declared s v.name (binding.Accumulator v.type))
 
-turns_index : (o : Option PlainLoop) (s : Scope) → (after_turns s o).index ≡ s.index
-turns_index None s = refl
-turns_index (Some l) s = refl
+for_loop_index : (o : Option PlainLoop) (s : Scope) → (after_for_loop s o).index ≡ s.index
+for_loop_index None s = refl
+for_loop_index (Some l) s = refl
 
 pub param_index : (k : Program) → (param_scope k).index ≡ loop_index k
 param_index k = params_index k.params (empty (loop_index k))
@@ -43,8 +43,8 @@ param_index k = params_index k.params (empty (loop_index k))
 pub scope_index : (k : Program) → (var_scope k).index ≡ loop_index k
 scope_index k = vars_index k.vars (param_scope k) ∙ param_index k
 
-pub last_index : (k : Program) → (after_turns (var_scope k) k.turns).index ≡ loop_index k
-last_index k = turns_index k.turns (var_scope k) ∙ scope_index k
+pub last_index : (k : Program) → (after_for_loop (var_scope k) k.for_loop).index ≡ loop_index k
+last_index k = for_loop_index k.for_loop (var_scope k) ∙ scope_index k
 
 index_defined : (s : Scope) (x : List ℕ) (o : Option Ty) → (defined s x o).index ≡ s.index
 index_defined s x None = refl

@@ -7,7 +7,7 @@ use Rattle.std.proofs.lemmas.Bool.{and_from}
 use Rattle.kernel_tree.specs.Plain.{Action, Choose, Leave, Block, Done, Then, Otherwise, Nothing, Else, PlainLoop, Program}
 use Rattle.kernel_tree.specs.Grammar.{IsTree}
 use Rattle.kernel_tree.specs.Loops.{is_whole, is_whole_block, is_whole_otherwise, is_outer, has_outer_breaks}
-use Rattle.kernel_tree.proofs.Well.{tokens_from, WellAction, WellBlock, WellOtherwise, WellTurns, WellProgram, well_tree}
+use Rattle.kernel_tree.proofs.Well.{tokens_from, WellAction, WellBlock, WellOtherwise, WellForLoop, WellProgram, well_tree}
 
 well_kernel : (k : Program) → IsTree k → WellProgram k
 well_kernel k t = well_tree t.tree (tokens_from t.words t.tokens)
@@ -39,8 +39,8 @@ outer_block : (b : Block) → WellBlock true b → has_outer_breaks b ≡ true
 outer_block Done w = refl
 outer_block (Then s b) w = and_from (is_outer s) (has_outer_breaks b) (outer_action s w.0) (outer_block b w.1)
 
-outer_loop : (k : Program) (l : PlainLoop) → k.turns ≡ Some l → WellProgram k → has_outer_breaks l.body ≡ true
-outer_loop k l turns w = let body : WellTurns (Some l) = subst WellTurns turns w.turns in outer_block l.body body.1.1
+outer_loop : (k : Program) (l : PlainLoop) → k.for_loop ≡ Some l → WellProgram k → has_outer_breaks l.body ≡ true
+outer_loop k l for_loop w = let body : WellForLoop (Some l) = subst WellForLoop for_loop w.for_loop in outer_block l.body body.1.1
 
-pub outer_breaks : (k : Program) (l : PlainLoop) → ∥ IsTree k ∥₁ → k.turns ≡ Some l → has_outer_breaks l.body ≡ true
-outer_breaks k l tree turns = ∥∥₁_elim tree (Bool-set _ _) (λ t. outer_loop k l turns (well_kernel k t))
+pub outer_breaks : (k : Program) (l : PlainLoop) → ∥ IsTree k ∥₁ → k.for_loop ≡ Some l → has_outer_breaks l.body ≡ true
+outer_breaks k l tree for_loop = ∥∥₁_elim tree (Bool-set _ _) (λ t. outer_loop k l for_loop (well_kernel k t))

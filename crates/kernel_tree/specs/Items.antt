@@ -80,9 +80,9 @@ vars_size i [] = 0
 vars_size i (v ∷ vs) = term_size i v.init + 1 + vars_size i vs
 
 -- `for` and the body
-abbrev pub turns_size : Option PlainLoop → ℕ
-turns_size None = 0
-turns_size (Some l) = 1 + block_size (Some l.index) l.body
+abbrev pub for_loop_size : Option PlainLoop → ℕ
+for_loop_size None = 0
+for_loop_size (Some l) = 1 + block_size (Some l.index) l.body
 
 -- the expression and `return`
 abbrev pub answer_size : Option (List ℕ) → Option Returned → ℕ
@@ -94,15 +94,15 @@ index_of l = l.index
 
 -- the name of the loop variable
 abbrev pub loop_index : Program → Option (List ℕ)
-loop_index k = option_map index_of k.turns
+loop_index k = option_map index_of k.for_loop
 
 -- the number of `for`, and the first number after the loop
 abbrev pub loop_start : Program → ℕ
 loop_start k = length k.params + vars_size (loop_index k) k.vars
 
 abbrev pub loop_end : Program → ℕ
-loop_end k = loop_start k + turns_size k.turns
+loop_end k = loop_start k + for_loop_size k.for_loop
 
 -- the items of a kernel: its parameters, accumulators, loop and returned value
 abbrev pub size_of : Program → ℕ
-size_of k = length k.params + vars_size (loop_index k) k.vars + turns_size k.turns + answer_size (loop_index k) k.answer
+size_of k = length k.params + vars_size (loop_index k) k.vars + for_loop_size k.for_loop + answer_size (loop_index k) k.answer

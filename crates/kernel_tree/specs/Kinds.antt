@@ -52,9 +52,9 @@ abbrev pub VarsKinds : List Accumulator → Type 0
 VarsKinds [] = Unit {0}
 VarsKinds (v ∷ vs) = IsValue v.init × VarsKinds vs
 
-abbrev pub TurnsKinds : Option PlainLoop → Type 0
-TurnsKinds None = Unit {0}
-TurnsKinds (Some l) = BlockKinds l.body
+abbrev pub ForLoopKinds : Option PlainLoop → Type 0
+ForLoopKinds None = Unit {0}
+ForLoopKinds (Some l) = BlockKinds l.body
 
 abbrev pub AnswerKinds : Option Returned → Type 0
 AnswerKinds None = Unit {0}
@@ -62,5 +62,5 @@ AnswerKinds (Some a) = IsValue a.value
 
 pub record KernelKinds (k : Program) : Type 0 where
   pub vars : VarsKinds k.vars
-  pub turns : TurnsKinds k.turns
+  pub for_loop : ForLoopKinds k.for_loop
   pub answer : AnswerKinds k.answer

@@ -1,4 +1,4 @@
-pub mod Word
+pub mod TextToken
 pub mod Tokens
 pub mod Plain
 pub mod Grammar

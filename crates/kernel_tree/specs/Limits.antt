@@ -61,9 +61,9 @@ abbrev pub vars_depth : List Accumulator → ℕ
 vars_depth [] = 0
 vars_depth (v ∷ vs) = max (term_depth v.init) (vars_depth vs)
 
-abbrev pub turns_depth : Option PlainLoop → ℕ
-turns_depth None = 0
-turns_depth (Some l) = block_depth l.body
+abbrev pub for_loop_depth : Option PlainLoop → ℕ
+for_loop_depth None = 0
+for_loop_depth (Some l) = block_depth l.body
 
 abbrev pub answer_depth : Option Returned → ℕ
 answer_depth None = 0
@@ -71,4 +71,4 @@ answer_depth (Some a) = term_depth a.value
 
 -- the greatest depth of an initial value, a statement or the returned expression
 abbrev pub depth_of : Program → ℕ
-depth_of k = max (vars_depth k.vars) (max (turns_depth k.turns) (answer_depth k.answer))
+depth_of k = max (vars_depth k.vars) (max (for_loop_depth k.for_loop) (answer_depth k.answer))

@@ -20,7 +20,7 @@ use Rattle.kernel_tree.specs.declared.mark.Mark.{Mark}
 use Rattle.kernel_tree.specs.declared.mark.Mark.TheVariants as mark
 use Rattle.kernel_tree.specs.declared.token.Token.{Token}
 use Rattle.kernel_tree.specs.declared.token.Token.TheVariants as token
-use Rattle.kernel_tree.specs.Word.{Word, IsName, IsNumber, IsType, IsCompare, IsUpdate, IsMark}
+use Rattle.kernel_tree.specs.TextToken.{TextToken, IsName, IsNumber, IsType, IsCompare, IsUpdate, IsMark}
 
 -- an expression
 pub data Term : Type 0 where
@@ -79,7 +79,7 @@ pub record Program : Type 0 where
   pub name : List ℕ
   pub params : List Parameter
   pub vars : List Accumulator
-  pub turns : Option PlainLoop
+  pub for_loop : Option PlainLoop
   pub answer : Option Returned
 
 -- a name's bytes
@@ -132,8 +132,8 @@ accumulator_of v = record { name = name_of v.name; type = v.ty; init = term_of v
 abbrev pub accumulators_of : List Var → List Accumulator
 accumulators_of vs = map accumulator_of vs
 
-abbrev pub turns_of : Loop → PlainLoop
-turns_of l = record { index = name_of l.index; bound = name_of l.bound; body = block_of l.body.items }
+abbrev pub for_loop_of : Loop → PlainLoop
+for_loop_of l = record { index = name_of l.index; bound = name_of l.bound; body = block_of l.body.items }
 
 abbrev pub returned_of : Answer → Returned
 returned_of a = record { type = a.ty; value = term_of a.value }
@@ -143,11 +143,11 @@ program_of k = record {
   name = name_of k.name;
   params = parameters_of k.params.items;
   vars = accumulators_of k.vars.items;
-  turns = option_map turns_of k.body;
+  for_loop = option_map for_loop_of k.body;
   answer = option_map returned_of k.answer;
 }
 
-abbrev pub word_of : Token → Word
+abbrev pub word_of : Token → TextToken
 word_of (token.Name x) = IsName (name_of x)
 word_of (token.Number n) = IsNumber n.value
 word_of (token.Type t) = IsType t
@@ -155,7 +155,7 @@ word_of (token.Compare op) = IsCompare op
 word_of (token.Update op) = IsUpdate op
 word_of (token.Mark m) = IsMark m
 
-abbrev pub words_of : List Token → List Word
+abbrev pub words_of : List Token → List TextToken
 words_of ts = map word_of ts
 
 -- the number of a mark, in the order of the declaration

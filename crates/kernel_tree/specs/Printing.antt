@@ -1,4 +1,4 @@
--- The canonical tokens and the canonical text of a kernel. Each part is printed in front of other words.
+-- The canonical tokens and the canonical text of a kernel. Each part is printed in front of other tokens.
 use Rattle.std.specs.Prelude.{ℕ, suc, ℤ, pos, negsuc, List, [], ◌∷◌, ◌++◌, Option, Some, None, Bool, true, false, codes, decimal}
 use Rattle.kernel_tree.specs.declared.ops.Ty.{Ty}
 use Rattle.kernel_tree.specs.declared.ops.Ty.TheVariants as ty
@@ -16,39 +16,39 @@ use Rattle.kernel_tree.specs.declared.mark.Mark.{Mark}
 use Rattle.kernel_tree.specs.declared.mark.Mark.TheVariants as mark
 use Rattle.kernel_tree.specs.declared.place.Place.{Place}
 use Rattle.kernel_tree.specs.declared.place.Place.TheVariants as site
-use Rattle.kernel_tree.specs.Word.{Word, IsName, IsNumber, IsType, IsCompare, IsUpdate, IsMark}
+use Rattle.kernel_tree.specs.TextToken.{TextToken, IsName, IsNumber, IsType, IsCompare, IsUpdate, IsMark}
 use Rattle.kernel_tree.specs.Plain.{Term, Literal, Variable, Element, Unary, Operation, Shift, Conversion, Choice, Comparison, Both, Either, Not, Action, Define, Put, Update, Choose, Leave, Block, Done, Then, Otherwise, Nothing, Else, Parameter, Accumulator, PlainLoop, Returned, Program}
 
 -- ---- expressions
 
 -- parentheses open where an operator or a negative literal is an operand, and close after it
-unfoldable pub opened : Place → List Word → List Word
+unfoldable pub opened : Place → List TextToken → List TextToken
 opened site.Alone rest = rest
 opened site.Operand rest = IsMark mark.OpenParen ∷ rest
 opened site.Negated rest = IsMark mark.OpenParen ∷ rest
 
-unfoldable pub closed : Place → List Word → List Word
+unfoldable pub closed : Place → List TextToken → List TextToken
 closed site.Alone rest = rest
 closed site.Operand rest = IsMark mark.CloseParen ∷ rest
 closed site.Negated rest = IsMark mark.CloseParen ∷ rest
 
 -- a literal that is not negative stands in parentheses after a minus alone
-unfoldable pub number_opened : Place → List Word → List Word
+unfoldable pub number_opened : Place → List TextToken → List TextToken
 number_opened site.Alone rest = rest
 number_opened site.Operand rest = rest
 number_opened site.Negated rest = IsMark mark.OpenParen ∷ rest
 
-unfoldable pub number_closed : Place → List Word → List Word
+unfoldable pub number_closed : Place → List TextToken → List TextToken
 number_closed site.Alone rest = rest
 number_closed site.Operand rest = rest
 number_closed site.Negated rest = IsMark mark.CloseParen ∷ rest
 
-abbrev pub print_literal : ℤ → Place → List Word → List Word
+abbrev pub print_literal : ℤ → Place → List TextToken → List TextToken
 print_literal (pos n) place rest = number_opened place (IsNumber n ∷ number_closed place rest)
 print_literal (negsuc n) place rest = opened place (IsMark mark.Minus ∷ IsNumber (suc n) ∷ closed place rest)
 
 -- the count of a shift
-abbrev pub print_count : ℤ → List Word → List Word
+abbrev pub print_count : ℤ → List TextToken → List TextToken
 print_count (pos n) rest = IsNumber n ∷ rest
 print_count (negsuc n) rest = IsMark mark.Minus ∷ IsNumber (suc n) ∷ rest
 
@@ -72,22 +72,22 @@ mark_of_shift true = mark.ShiftLeft
 mark_of_shift false = mark.ShiftRight
 
 -- an operator and its operands, in parentheses where it is an operand itself
-abbrev pub print_between : (Place → List Word → List Word) → Word → (Place → List Word → List Word) → Place → List Word → List Word
+abbrev pub print_between : (Place → List TextToken → List TextToken) → TextToken → (Place → List TextToken → List TextToken) → Place → List TextToken → List TextToken
 print_between a w b place rest = opened place (a site.Operand (w ∷ b site.Operand (closed place rest)))
 
-abbrev pub print_call : Mark → (Place → List Word → List Word) → (Place → List Word → List Word) → List Word → List Word
+abbrev pub print_call : Mark → (Place → List TextToken → List TextToken) → (Place → List TextToken → List TextToken) → List TextToken → List TextToken
 print_call m a b rest = IsMark m ∷ IsMark mark.OpenParen ∷ a site.Alone (IsMark mark.Comma ∷ b site.Alone (IsMark mark.CloseParen ∷ rest))
 
-abbrev pub print_binary : Option Mark → BinaryOp → (Place → List Word → List Word) → (Place → List Word → List Word) → Place → List Word → List Word
+abbrev pub print_binary : Option Mark → BinaryOp → (Place → List TextToken → List TextToken) → (Place → List TextToken → List TextToken) → Place → List TextToken → List TextToken
 print_binary (Some m) op a b place rest = print_between a (IsMark m) b place rest
 print_binary None op a b place rest = print_call (mark_of_call op) a b rest
 
-abbrev pub print_unary : UnaryOp → (Place → List Word → List Word) → Place → List Word → List Word
+abbrev pub print_unary : UnaryOp → (Place → List TextToken → List TextToken) → Place → List TextToken → List TextToken
 print_unary unary.Neg e place rest = opened place (IsMark mark.Minus ∷ e site.Negated (closed place rest))
 print_unary unary.Flip e place rest = opened place (IsMark mark.Tilde ∷ e site.Operand (closed place rest))
 print_unary unary.Abs e place rest = IsMark mark.Abs ∷ IsMark mark.OpenParen ∷ e site.Alone (IsMark mark.CloseParen ∷ rest)
 
-abbrev pub print_term : Term → Place → List Word → List Word
+abbrev pub print_term : Term → Place → List TextToken → List TextToken
 print_term (Literal n) place rest = print_literal n place rest
 print_term (Variable x) place rest = IsName x ∷ rest
 print_term (Element a i) place rest = IsName a ∷ IsMark mark.OpenBracket ∷ print_term i site.Alone (IsMark mark.CloseBracket ∷ rest)
@@ -103,68 +103,68 @@ print_term (Not e) place rest = opened place (IsMark mark.Bang ∷ print_term e 
 
 -- ---- statements
 
-abbrev pub print_type : Option Ty → List Word → List Word
+abbrev pub print_type : Option Ty → List TextToken → List TextToken
 print_type None rest = rest
 print_type (Some t) rest = IsMark mark.Colon ∷ IsType t ∷ rest
 
 -- a statement, and statements with the brace after them
 abbrev mutual
-  pub print_action : Action → List Word → List Word
+  pub print_action : Action → List TextToken → List TextToken
   print_action (Define x t e) rest = IsMark mark.Let ∷ IsName x ∷ print_type t (IsMark mark.Equals ∷ print_term e site.Alone (IsMark mark.Semicolon ∷ rest))
   print_action (Put a i e) rest = IsName a ∷ IsMark mark.OpenBracket ∷ print_term i site.Alone (IsMark mark.CloseBracket ∷ IsMark mark.Equals ∷ print_term e site.Alone (IsMark mark.Semicolon ∷ rest))
   print_action (Update x op e) rest = IsName x ∷ IsUpdate op ∷ print_term e site.Alone (IsMark mark.Semicolon ∷ rest)
   print_action (Choose c b d) rest = IsMark mark.If ∷ print_term c site.Alone (IsMark mark.OpenBrace ∷ print_block b (print_otherwise d rest))
   print_action (Leave c) rest = IsMark mark.Break ∷ IsMark mark.If ∷ print_term c site.Alone (IsMark mark.Semicolon ∷ rest)
 
-  pub print_block : Block → List Word → List Word
+  pub print_block : Block → List TextToken → List TextToken
   print_block Done rest = IsMark mark.CloseBrace ∷ rest
   print_block (Then s b) rest = print_action s (print_block b rest)
 
-  pub print_otherwise : Otherwise → List Word → List Word
+  pub print_otherwise : Otherwise → List TextToken → List TextToken
   print_otherwise Nothing rest = rest
   print_otherwise (Else b) rest = IsMark mark.Else ∷ IsMark mark.OpenBrace ∷ print_block b rest
 
 -- ---- kernels
 
-abbrev pub print_shape : Shape → List Word → List Word
+abbrev pub print_shape : Shape → List TextToken → List TextToken
 print_shape (shape.Scalar t) rest = IsType t ∷ rest
 print_shape (shape.Array t) rest = IsMark mark.OpenBracket ∷ IsType t ∷ IsMark mark.CloseBracket ∷ rest
 
-abbrev pub print_param : Parameter → List Word → List Word
+abbrev pub print_param : Parameter → List TextToken → List TextToken
 print_param p rest = IsName p.name ∷ IsMark mark.Colon ∷ print_shape p.shape rest
 
 -- parameters after a first one
-abbrev pub print_others : List Parameter → List Word → List Word
+abbrev pub print_others : List Parameter → List TextToken → List TextToken
 print_others [] rest = rest
 print_others (p ∷ ps) rest = IsMark mark.Comma ∷ print_param p (print_others ps rest)
 
-abbrev pub print_params : List Parameter → List Word → List Word
+abbrev pub print_params : List Parameter → List TextToken → List TextToken
 print_params [] rest = rest
 print_params (p ∷ ps) rest = print_param p (print_others ps rest)
 
-abbrev pub print_vars : List Accumulator → List Word → List Word
+abbrev pub print_vars : List Accumulator → List TextToken → List TextToken
 print_vars [] rest = rest
 print_vars (v ∷ vs) rest = IsMark mark.Var ∷ IsName v.name ∷ IsMark mark.Colon ∷ IsType v.type ∷ IsMark mark.Equals ∷ print_term v.init site.Alone (IsMark mark.Semicolon ∷ print_vars vs rest)
 
-abbrev pub print_turns : Option PlainLoop → List Word → List Word
-print_turns None rest = rest
-print_turns (Some l) rest = IsMark mark.For ∷ IsName l.index ∷ IsMark mark.In ∷ IsNumber 0 ∷ IsMark mark.Range ∷ IsName l.bound ∷ IsMark mark.OpenBrace ∷ print_block l.body rest
+abbrev pub print_for_loop : Option PlainLoop → List TextToken → List TextToken
+print_for_loop None rest = rest
+print_for_loop (Some l) rest = IsMark mark.For ∷ IsName l.index ∷ IsMark mark.In ∷ IsNumber 0 ∷ IsMark mark.Range ∷ IsName l.bound ∷ IsMark mark.OpenBrace ∷ print_block l.body rest
 
 -- the type that is returned, and the returned expression
-abbrev pub print_arrow : Option Returned → List Word → List Word
+abbrev pub print_arrow : Option Returned → List TextToken → List TextToken
 print_arrow None rest = rest
 print_arrow (Some a) rest = IsMark mark.Arrow ∷ IsType a.type ∷ rest
 
-abbrev pub print_answer : Option Returned → List Word → List Word
+abbrev pub print_answer : Option Returned → List TextToken → List TextToken
 print_answer None rest = rest
 print_answer (Some a) rest = IsMark mark.Return ∷ print_term a.value site.Alone (IsMark mark.Semicolon ∷ rest)
 
 -- the canonical tokens of a kernel after its first one, which is `kernel`
-abbrev pub kernel_words : Program → List Word
-kernel_words k = IsName k.name ∷ IsMark mark.OpenParen ∷ print_params k.params (IsMark mark.CloseParen ∷ print_arrow k.answer (IsMark mark.OpenBrace ∷ print_vars k.vars (print_turns k.turns (print_answer k.answer (IsMark mark.CloseBrace ∷ [])))))
+abbrev pub kernel_words : Program → List TextToken
+kernel_words k = IsName k.name ∷ IsMark mark.OpenParen ∷ print_params k.params (IsMark mark.CloseParen ∷ print_arrow k.answer (IsMark mark.OpenBrace ∷ print_vars k.vars (print_for_loop k.for_loop (print_answer k.answer (IsMark mark.CloseBrace ∷ [])))))
 
 -- the canonical tokens of a kernel
-abbrev pub canonical_words : Program → List Word
+abbrev pub canonical_words : Program → List TextToken
 canonical_words k = IsMark mark.Kernel ∷ kernel_words k
 
 -- ---- texts
@@ -241,7 +241,7 @@ mark_text mark.Bang = codes "!"
 mark_text m = reserved_text m
 
 -- the text of a token, a number in decimal
-abbrev pub word_text : Word → List ℕ
+abbrev pub word_text : TextToken → List ℕ
 word_text (IsName x) = x
 word_text (IsNumber n) = decimal n
 word_text (IsType t) = type_text t
@@ -250,12 +250,12 @@ word_text (IsUpdate op) = update_text op
 word_text (IsMark m) = mark_text m
 
 -- tokens with a space before each
-unfoldable pub spaced : List Word → List ℕ
+unfoldable pub spaced : List TextToken → List ℕ
 spaced [] = []
 spaced (w ∷ ws) = 32 ∷ word_text w ++ spaced ws
 
 -- tokens joined by single spaces
-abbrev pub joined_text : List Word → List ℕ
+abbrev pub joined_text : List TextToken → List ℕ
 joined_text [] = []
 joined_text (w ∷ ws) = word_text w ++ spaced ws
 

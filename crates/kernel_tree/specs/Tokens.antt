@@ -9,7 +9,7 @@ use Rattle.kernel_tree.specs.declared.ops.CompareOp.TheVariants as compare
 use Rattle.kernel_tree.specs.declared.ops.UpdateOp.TheVariants as update
 use Rattle.kernel_tree.specs.declared.mark.Mark.{Mark}
 use Rattle.kernel_tree.specs.declared.mark.Mark.TheVariants as mark
-use Rattle.kernel_tree.specs.Word.{Word, IsName, IsNumber, IsType, IsCompare, IsUpdate, IsMark}
+use Rattle.kernel_tree.specs.TextToken.{TextToken, IsName, IsNumber, IsType, IsCompare, IsUpdate, IsMark}
 
 -- ---- bytes
 
@@ -71,12 +71,12 @@ reserved_mark w =
     if bytes_eq w (codes "let") then Some mark.Let else flow_mark w
 
 -- what a run of letters, digits and `_` spells
-abbrev pub by_reserved : Option Ty → Option Mark → List ℕ → Word
+abbrev pub by_reserved : Option Ty → Option Mark → List ℕ → TextToken
 by_reserved (Some t) m w = IsType t
 by_reserved None (Some m) w = IsMark m
 by_reserved None None w = IsName w
 
-abbrev pub run_word : List ℕ → Word
+abbrev pub run_word : List ℕ → TextToken
 run_word w = by_reserved (reserved_type w) (reserved_mark w) w
 
 -- a letter or `_`, and then letters, digits and `_`
@@ -98,7 +98,7 @@ begins_hex b (x ∷ d ∷ rest) = (b == 48) && (x == 120) && is_hex_digit d
 
 -- ---- symbols
 
-abbrev pub pair : ℕ → ℕ → Option Word
+abbrev pub pair : ℕ → ℕ → Option TextToken
 pair b c =
     if (b == 45) && (c == 62) then Some (IsMark mark.Arrow) else
     if (b == 46) && (c == 46) then Some (IsMark mark.Range) else
@@ -115,7 +115,7 @@ pair b c =
     if (b == 124) && (c == 61) then Some (IsUpdate update.Or) else
     if (b == 94) && (c == 61) then Some (IsUpdate update.Xor) else None
 
-abbrev pub single : ℕ → Option Word
+abbrev pub single : ℕ → Option TextToken
 single b =
     if b == 40 then Some (IsMark mark.OpenParen) else
     if b == 41 then Some (IsMark mark.CloseParen) else
@@ -143,7 +143,7 @@ single b =
 -- a gap between tokens, or a token, each with the number of its bytes after the first one
 pub data Piece : Type 0 where
   Gap : ℕ → Piece
-  Token : Word → ℕ → Piece
+  Token : TextToken → ℕ → Piece
   -- the first byte begins no token, or a number of 2^127 or more
   NoToken : Piece
 
@@ -175,7 +175,7 @@ number_piece b rest =
     if begins_hex b rest then hex_from (drop 1 rest) (prefix_len is_hex_digit (drop 1 rest)) else
     decimal_from b rest (prefix_len is_digit rest)
 
-abbrev pub symbol_of : Option Word → Option Word → Piece
+abbrev pub symbol_of : Option TextToken → Option TextToken → Piece
 symbol_of (Some w) o = Token w 1
 symbol_of None (Some w) = Token w 0
 symbol_of None None = NoToken
@@ -194,30 +194,30 @@ piece b rest =
 
 -- ---- the whole text
 
-abbrev pub before : Word → Result (List Word) ℕ → Result (List Word) ℕ
+abbrev pub before : TextToken → Result (List TextToken) ℕ → Result (List TextToken) ℕ
 before w (Ok ws) = Ok (w ∷ ws)
 before w (Err at) = Err at
 
 -- what follows a piece: the rest of the text past the given number of bytes
-abbrev pub by_piece : Piece → (ℕ → Result (List Word) ℕ) → ℕ → Result (List Word) ℕ
+abbrev pub by_piece : Piece → (ℕ → Result (List TextToken) ℕ) → ℕ → Result (List TextToken) ℕ
 by_piece (Gap k) next at = next k
 by_piece (Token w k) next at = before w (next k)
 by_piece NoToken next at = Err at
 
 -- the tokens of the bytes from a place on, past some bytes that belong to what came before
-unfoldable pub scan : ℕ → ℕ → List ℕ → Result (List Word) ℕ
+unfoldable pub scan : ℕ → ℕ → List ℕ → Result (List TextToken) ℕ
 scan skip at [] = Ok []
 scan zero at (b ∷ rest) = by_piece (piece b rest) (λ k. scan k (at + 1) rest) at
 scan (suc skip) at (b ∷ rest) = scan skip (at + 1) rest
 
 -- the tokens of a text, or the place of its first bad byte
-abbrev pub tokens_of : List ℕ → Result (List Word) ℕ
+abbrev pub tokens_of : List ℕ → Result (List TextToken) ℕ
 tokens_of text = scan 0 0 text
 
 -- ---- lists of tokens
 
 -- whether some text has this token
-abbrev pub is_token : Word → Bool
+abbrev pub is_token : TextToken → Bool
 is_token (IsName x) = is_name x
 is_token (IsNumber n) = nat_lt n (2 ^ 127)
 is_token (IsType t) = true
@@ -225,5 +225,5 @@ is_token (IsCompare op) = true
 is_token (IsUpdate op) = true
 is_token (IsMark m) = true
 
-abbrev pub are_tokens : List Word → Bool
+abbrev pub are_tokens : List TextToken → Bool
 are_tokens ws = list_all is_token ws

@@ -13,7 +13,7 @@ use Rattle.kernel_tree.specs.declared.fault.Binding.{Binding}
 use Rattle.kernel_tree.specs.declared.fault.Binding.TheVariants as binding
 use Rattle.kernel_tree.specs.Plain.{Term, Literal, Variable, Element, Unary, Operation, Shift, Conversion, Choice, Comparison, Both, Either, Not, Action, Define, Put, Update, Choose, Leave, Block, Done, Then, Otherwise, Nothing, Else, Parameter, Accumulator, PlainLoop, Returned, Program}
 use Rattle.kernel_tree.specs.Wrap.{bits_of, is_signed}
-use Rattle.kernel_tree.specs.Items.{term_size, stream_offset, index_items, action_size, block_size, vars_size, turns_size, loop_index, size_of}
+use Rattle.kernel_tree.specs.Items.{term_size, stream_offset, index_items, action_size, block_size, vars_size, for_loop_size, loop_index, size_of}
 use Rattle.kernel_tree.specs.Limits.{depth_of, most_items, most_depth, most_offset}
 
 -- ---- names
@@ -331,9 +331,9 @@ after_vars scope (v ∷ vs) = after_vars (declared scope v.name (binding.Accumul
 abbrev pub in_loop : Scope → PlainLoop → Scope
 in_loop scope l = let s = declared scope l.index binding.Index in record s { inside = true }
 
-abbrev pub after_turns : Scope → Option PlainLoop → Scope
-after_turns scope None = scope
-after_turns scope (Some l) = declared scope l.index binding.Index
+abbrev pub after_for_loop : Scope → Option PlainLoop → Scope
+after_for_loop scope None = scope
+after_for_loop scope (Some l) = declared scope l.index binding.Index
 
 abbrev pub params_faults : Scope → ℕ → List Parameter → List Found
 params_faults scope from [] = []
@@ -351,9 +351,9 @@ bound_faults item None = found_at item fault.Unknown
 bound_faults item (Some (binding.Scalar t)) = mismatch item (Some ty.U64) t
 bound_faults item (Some b) = found_at item fault.WrongKind
 
-abbrev pub turns_faults : Scope → ℕ → Option PlainLoop → List Found
-turns_faults scope from None = []
-turns_faults scope from (Some l) =
+abbrev pub for_loop_faults : Scope → ℕ → Option PlainLoop → List Found
+for_loop_faults scope from None = []
+for_loop_faults scope from (Some l) =
     bound_faults from (lookup scope l.bound) ++ (twice from scope l.index ++ block_faults (in_loop scope l) (from + 1) l.body)
 
 abbrev pub answer_faults : Scope → ℕ → Option Returned → List Found
@@ -371,8 +371,8 @@ var_scope k = after_vars (param_scope k) k.vars
 abbrev pub kernel_faults : Program → List Found
 kernel_faults k =
     let vars = length k.params in
-    let turns = vars + vars_size (loop_index k) k.vars in
-    params_faults (empty (loop_index k)) 0 k.params ++ (vars_faults (param_scope k) vars k.vars ++ (turns_faults (var_scope k) turns k.turns ++ answer_faults (after_turns (var_scope k) k.turns) (turns + turns_size k.turns) k.answer))
+    let for_loop = vars + vars_size (loop_index k) k.vars in
+    params_faults (empty (loop_index k)) 0 k.params ++ (vars_faults (param_scope k) vars k.vars ++ (for_loop_faults (var_scope k) for_loop k.for_loop ++ answer_faults (after_for_loop (var_scope k) k.for_loop) (for_loop + for_loop_size k.for_loop) k.answer))
 
 -- ---- the fault that is answered
 
@@ -459,9 +459,9 @@ abbrev pub vars_types : Scope → List Accumulator → List (Option Ty)
 vars_types scope [] = []
 vars_types scope (v ∷ vs) = term_types scope (Value (Some v.type)) v.init ++ (None ∷ vars_types (declared scope v.name (binding.Accumulator v.type)) vs)
 
-abbrev pub turns_types : Scope → Option PlainLoop → List (Option Ty)
-turns_types scope None = []
-turns_types scope (Some l) = None ∷ block_types (in_loop scope l) l.body
+abbrev pub for_loop_types : Scope → Option PlainLoop → List (Option Ty)
+for_loop_types scope None = []
+for_loop_types scope (Some l) = None ∷ block_types (in_loop scope l) l.body
 
 abbrev pub answer_types : Scope → Option Returned → List (Option Ty)
 answer_types scope None = []
@@ -469,4 +469,4 @@ answer_types scope (Some a) = term_types scope (Value (Some a.type)) a.value ++ 
 
 -- the wanted type of each item of a kernel: None for an item that is no value
 abbrev pub types_of : Program → List (Option Ty)
-types_of k = params_types k.params ++ (vars_types (param_scope k) k.vars ++ (turns_types (var_scope k) k.turns ++ answer_types (after_turns (var_scope k) k.turns) k.answer))
+types_of k = params_types k.params ++ (vars_types (param_scope k) k.vars ++ (for_loop_types (var_scope k) k.for_loop ++ answer_types (after_for_loop (var_scope k) k.for_loop) k.answer))

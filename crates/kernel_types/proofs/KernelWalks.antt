@@ -7,8 +7,8 @@ use Rattle.kernel_tree.specs.declared.fault.Binding.{Binding}
 use Rattle.kernel_tree.specs.declared.fault.Binding.TheVariants as binding
 use Rattle.kernel_tree.specs.declared.fault.Fault.TheVariants as fault
 use Rattle.kernel_tree.specs.Plain.{Parameter, Accumulator, Block, PlainLoop, Program, parameter_of, parameters_of}
-use Rattle.kernel_tree.specs.Items.{vars_size, turns_size, answer_size, loop_index, size_of}
-use Rattle.kernel_tree.specs.Typing.{Scope, empty, after_turns, param_scope, var_scope, params_faults, vars_faults, turns_faults, answer_faults, kernel_faults, block_faults, bound_faults, found_at, twice, is_taken, lookup, declared, in_loop, sooner, least}
+use Rattle.kernel_tree.specs.Items.{vars_size, for_loop_size, answer_size, loop_index, size_of}
+use Rattle.kernel_tree.specs.Typing.{Scope, empty, after_for_loop, param_scope, var_scope, params_faults, vars_faults, for_loop_faults, answer_faults, kernel_faults, block_faults, bound_faults, found_at, twice, is_taken, lookup, declared, in_loop, sooner, least}
 use Rattle.kernel_scope.specs.Scopes.{in_body}
 use Rattle.kernel_tree.proofs.Scopes.{param_index, scope_index, last_index, scope_outside}
 use Rattle.kernel_types.proofs.LeastFault.{sooner-assoc, least-append, both_rules}
@@ -29,10 +29,10 @@ vars_outside k s e = rw e (scope_outside k)
 pub vars_room : (k : Program) (s : Scope) (n : ℕ) (vs : List Accumulator) → s ≡ param_scope k → n ≡ length k.params → vs ≡ k.vars → size_of k < 2 ^ 32 → n + vars_size s.index vs < 2 ^ 32
 vars_room k s n vs e f g h = rw (e, g) (rw (param_index k) (omega arith))
 
-pub turns_room : (k : Program) (n : ℕ) → n ≡ length k.params + vars_size (loop_index k) k.vars → size_of k < 2 ^ 32 → n + turns_size k.turns < 2 ^ 32
-turns_room k n e h = omega arith
+pub for_loop_room : (k : Program) (n : ℕ) → n ≡ length k.params + vars_size (loop_index k) k.vars → size_of k < 2 ^ 32 → n + for_loop_size k.for_loop < 2 ^ 32
+for_loop_room k n e h = omega arith
 
-pub answer_room : (k : Program) (s : Scope) (n : ℕ) → s ≡ after_turns (var_scope k) k.turns → n ≡ length k.params + vars_size (loop_index k) k.vars + turns_size k.turns → size_of k < 2 ^ 32 → n + answer_size s.index k.answer < 2 ^ 32
+pub answer_room : (k : Program) (s : Scope) (n : ℕ) → s ≡ after_for_loop (var_scope k) k.for_loop → n ≡ length k.params + vars_size (loop_index k) k.vars + for_loop_size k.for_loop → size_of k < 2 ^ 32 → n + answer_size s.index k.answer < 2 ^ 32
 answer_room k s n e f h = rw e (rw (last_index k) (omega arith))
 
 pub vars_count : (k : Program) (s : Scope) (n m : ℕ) (vs : List Accumulator) → s ≡ param_scope k → n ≡ length k.params → vs ≡ k.vars → m ≡ n + vars_size s.index vs → m ≡ length k.params + vars_size (loop_index k) k.vars
@@ -42,18 +42,18 @@ vars_count k s n m vs e f g h = h ∙ ap₂ (λ i xs. n + vars_size i xs) (rw e 
 pub whole : (k : Program) (s₀ s₁ s₂ s₃ : Scope) (n₁ n₂ n₃ : ℕ) (ps : List Parameter) (vs : List Accumulator) (o₁ o₂ o₃ o₄ : Option Found) →
     s₀ ≡ empty (loop_index k) → ps ≡ k.params → o₁ ≡ least (params_faults s₀ 0 ps) →
     s₁ ≡ param_scope k → n₁ ≡ length k.params → vs ≡ k.vars → o₂ ≡ sooner o₁ (least (vars_faults s₁ n₁ vs)) →
-    s₂ ≡ var_scope k → n₂ ≡ length k.params + vars_size (loop_index k) k.vars → o₃ ≡ sooner o₂ (least (turns_faults s₂ n₂ k.turns)) →
-    s₃ ≡ after_turns (var_scope k) k.turns → n₃ ≡ length k.params + vars_size (loop_index k) k.vars + turns_size k.turns → o₄ ≡ sooner o₃ (least (answer_faults s₃ n₃ k.answer)) →
+    s₂ ≡ var_scope k → n₂ ≡ length k.params + vars_size (loop_index k) k.vars → o₃ ≡ sooner o₂ (least (for_loop_faults s₂ n₂ k.for_loop)) →
+    s₃ ≡ after_for_loop (var_scope k) k.for_loop → n₃ ≡ length k.params + vars_size (loop_index k) k.vars + for_loop_size k.for_loop → o₄ ≡ sooner o₃ (least (answer_faults s₃ n₃ k.answer)) →
     o₄ ≡ least (kernel_faults k)
 whole k s₀ s₁ s₂ s₃ n₁ n₂ n₃ ps vs o₁ o₂ o₃ o₄ a b c d e f g h i j l m n =
-    let turns = length k.params + vars_size (loop_index k) k.vars in
+    let for_loop = length k.params + vars_size (loop_index k) k.vars in
     let p = params_faults (empty (loop_index k)) 0 k.params in
     let v = vars_faults (param_scope k) (length k.params) k.vars in
-    let t = turns_faults (var_scope k) turns k.turns in
-    let r = answer_faults (after_turns (var_scope k) k.turns) (turns + turns_size k.turns) k.answer in
+    let t = for_loop_faults (var_scope k) for_loop k.for_loop in
+    let r = answer_faults (after_for_loop (var_scope k) k.for_loop) (for_loop + for_loop_size k.for_loop) k.answer in
     let first : o₁ ≡ least p = rw (← a, ← b) c in
     let second : o₂ ≡ sooner (least p) (least v) = g ∙ parts o₁ (least p) (vars_faults s₁ n₁ vs) v first (rw (d, e, f) refl) in
-    let third : o₃ ≡ sooner (sooner (least p) (least v)) (least t) = j ∙ parts o₂ (sooner (least p) (least v)) (turns_faults s₂ n₂ k.turns) t second (rw (h, i) refl) in
+    let third : o₃ ≡ sooner (sooner (least p) (least v)) (least t) = j ∙ parts o₂ (sooner (least p) (least v)) (for_loop_faults s₂ n₂ k.for_loop) t second (rw (h, i) refl) in
     let fourth : o₄ ≡ sooner (sooner (sooner (least p) (least v)) (least t)) (least r) = n ∙ parts o₃ (sooner (sooner (least p) (least v)) (least t)) (answer_faults s₃ n₃ k.answer) r third (rw (l, m) refl) in
     fourth ∙ joined p v t r
   where
@@ -74,7 +74,7 @@ pub loop_found : (s t : Scope) (n m : ℕ) (o p q bound again both : Option Foun
     taken ≡ is_taken s l.index → again ≡ least (if taken then found_at n fault.Twice else []) →
     both ≡ sooner bound again → p ≡ sooner o both →
     t ≡ declared s l.index binding.Index → m ≡ n + 1 → b ≡ l.body → q ≡ sooner p (least (block_faults (in_body t) m b)) →
-    q ≡ sooner o (least (turns_faults s n (Some l)))
+    q ≡ sooner o (least (for_loop_faults s n (Some l)))
 loop_found s t n m o p q bound again both x taken l b a c d e f g h i j k =
     let bs = bound_faults n (lookup s l.bound) in
     let ts = twice n s l.index in

@@ -1,7 +1,7 @@
 //! Goes over a kernel, item by item.
 
 ghost use Rattle.std.specs.Prelude.{◌≡◌, ◌∷◌, ◌++◌, [], ◌+◌, ◌<◌, ◌^◌, false, None, Some, IfOk, length, option_map};
-ghost use Rattle.kernel_tree.specs.Plain.{name_of, term_of, block_of, parameter_of, parameters_of, accumulator_of, accumulators_of, turns_of, returned_of, program_of};
+ghost use Rattle.kernel_tree.specs.Plain.{name_of, term_of, block_of, parameter_of, parameters_of, accumulator_of, accumulators_of, for_loop_of, returned_of, program_of};
 ghost use Rattle.kernel_tree.specs.Items as items;
 ghost use Rattle.kernel_tree.specs.Typing as typing;
 ghost use Rattle.kernel_scope.specs.Scopes.{scope_of, in_body, after_param, after_var};
@@ -128,49 +128,49 @@ fn walk_body<'a>(
 fn walk_loop<'a>(
     notes: &mut Notes,
     scope: &mut Scope<'a>,
-    turns: &'a Loop,
+    for_loop: &'a Loop,
 ) -> Result<(), AllocError>
-    requires room { notes.old.next + items.turns_size (Some (turns_of turns.now)) < 2 ^ 32 }
+    requires room { notes.old.next + items.for_loop_size (Some (for_loop_of for_loop.now)) < 2 ^ 32 }
     requires outside { scope.old.inside ≡ false }
-    requires index { (scope_of scope.old).index ≡ Some (items.index_of (turns_of turns.now)) }
+    requires index { (scope_of scope.old).index ≡ Some (items.index_of (for_loop_of for_loop.now)) }
     ensures scope { IfOk result (λ _. scope_of scope.new
-        ≡ typing.after_turns (scope_of scope.old) (Some (turns_of turns.now))) }
-    ensures next { IfOk result (λ _. notes.new.next ≡ notes.old.next + items.turns_size (Some (turns_of turns.now))) }
+        ≡ typing.after_for_loop (scope_of scope.old) (Some (for_loop_of for_loop.now))) }
+    ensures next { IfOk result (λ _. notes.new.next ≡ notes.old.next + items.for_loop_size (Some (for_loop_of for_loop.now))) }
     ensures found { IfOk result (λ _. notes.new.found
         ≡ typing.sooner notes.old.found (typing.least
-        (typing.turns_faults (scope_of scope.old) notes.old.next (Some (turns_of turns.now))))) }
+        (typing.for_loop_faults (scope_of scope.old) notes.old.next (Some (for_loop_of for_loop.now))))) }
     ensures types { IfOk result (λ _. notes.new.types.items
-        ≡ notes.old.types.items ++ typing.turns_types (scope_of scope.old) (Some (turns_of turns.now))) }
+        ≡ notes.old.types.items ++ typing.for_loop_types (scope_of scope.old) (Some (for_loop_of for_loop.now))) }
 {
     let item = notes.next;
-    let bound = bound_fault(item, lookup(scope, &turns.bound));
-    let found = sooner(bound, twice(item, is_taken(scope, &turns.index)));
+    let bound = bound_fault(item, lookup(scope, &for_loop.bound));
+    let found = sooner(bound, twice(item, is_taken(scope, &for_loop.index)));
     end(notes, found, None)?;
-    declare(scope, &turns.index, Binding::Index)?;
-    walk_body(notes, scope, &turns.body)
+    declare(scope, &for_loop.index, Binding::Index)?;
+    walk_body(notes, scope, &for_loop.body)
 }
 
-fn walk_turns<'a>(
+fn walk_for_loop<'a>(
     notes: &mut Notes,
     scope: &mut Scope<'a>,
-    turns: &'a Option<Loop>,
+    for_loop: &'a Option<Loop>,
 ) -> Result<(), AllocError>
-    requires room { notes.old.next + items.turns_size (option_map turns_of turns.now) < 2 ^ 32 }
+    requires room { notes.old.next + items.for_loop_size (option_map for_loop_of for_loop.now) < 2 ^ 32 }
     requires outside { scope.old.inside ≡ false }
-    requires index { (scope_of scope.old).index ≡ option_map items.index_of (option_map turns_of turns.now) }
+    requires index { (scope_of scope.old).index ≡ option_map items.index_of (option_map for_loop_of for_loop.now) }
     ensures scope { IfOk result (λ _. scope_of scope.new
-        ≡ typing.after_turns (scope_of scope.old) (option_map turns_of turns.now)) }
+        ≡ typing.after_for_loop (scope_of scope.old) (option_map for_loop_of for_loop.now)) }
     ensures next { IfOk result (λ _. notes.new.next
-        ≡ notes.old.next + items.turns_size (option_map turns_of turns.now)) }
+        ≡ notes.old.next + items.for_loop_size (option_map for_loop_of for_loop.now)) }
     ensures found { IfOk result (λ _. notes.new.found
         ≡ typing.sooner notes.old.found (typing.least
-        (typing.turns_faults (scope_of scope.old) notes.old.next (option_map turns_of turns.now)))) }
+        (typing.for_loop_faults (scope_of scope.old) notes.old.next (option_map for_loop_of for_loop.now)))) }
     ensures types { IfOk result (λ _. notes.new.types.items
-        ≡ notes.old.types.items ++ typing.turns_types (scope_of scope.old) (option_map turns_of turns.now)) }
+        ≡ notes.old.types.items ++ typing.for_loop_types (scope_of scope.old) (option_map for_loop_of for_loop.now)) }
 {
-    match turns {
+    match for_loop {
         None => Ok(()),
-        Some(turns) => walk_loop(notes, scope, turns),
+        Some(for_loop) => walk_loop(notes, scope, for_loop),
     }
 }
 
@@ -211,7 +211,7 @@ fn walk_parts<'a>(
 {
     walk_params(notes, scope, &kernel.params)?;
     walk_vars(notes, scope, &kernel.vars)?;
-    walk_turns(notes, scope, &kernel.body)?;
+    walk_for_loop(notes, scope, &kernel.body)?;
     walk_answer(notes, scope, &kernel.answer)
 }
 

@@ -1,7 +1,7 @@
 //! The size and the depth of a kernel. A kernel may be some thousand levels deep here.
 
 ghost use Rattle.std.specs.Prelude.{◌≡◌, ◌<◌, ◌^◌, option_map};
-ghost use Rattle.kernel_tree.specs.Plain.{Choose, Nothing, Else, term_of, action_of, block_of, accumulators_of, turns_of, returned_of, program_of};
+ghost use Rattle.kernel_tree.specs.Plain.{Choose, Nothing, Else, term_of, action_of, block_of, accumulators_of, for_loop_of, returned_of, program_of};
 ghost use Rattle.kernel_tree.specs.Items as items;
 ghost use Rattle.kernel_tree.specs.Limits as limits;
 ghost use Rattle.kernel_scope.specs.Scopes.{lent_text};
@@ -96,13 +96,13 @@ fn vars_size(index: Option<&str>, vars: &[Var]) -> u32
     size
 }
 
-fn turns_size(turns: &Option<Loop>) -> u32
-    requires { items.turns_size (option_map turns_of turns.now) < 2 ^ 32 }
-    ensures { result ≡ items.turns_size (option_map turns_of turns.now) }
+fn for_loop_size(for_loop: &Option<Loop>) -> u32
+    requires { items.for_loop_size (option_map for_loop_of for_loop.now) < 2 ^ 32 }
+    ensures { result ≡ items.for_loop_size (option_map for_loop_of for_loop.now) }
 {
-    match turns {
+    match for_loop {
         None => 0,
-        Some(turns) => 1 + block_size(Some(turns.index.text()), &turns.body),
+        Some(for_loop) => 1 + block_size(Some(for_loop.index.text()), &for_loop.body),
     }
 }
 
@@ -123,7 +123,7 @@ pub fn kernel_size(kernel: &Kernel) -> u32
 {
     let index = loop_index(&kernel.body);
     let before = kernel.params.len() as u32 + vars_size(index, &kernel.vars);
-    before + turns_size(&kernel.body) + answer_size(index, &kernel.answer)
+    before + for_loop_size(&kernel.body) + answer_size(index, &kernel.answer)
 }
 
 fn term_depth(expr: &Expr) -> u32
@@ -205,13 +205,13 @@ fn vars_depth(vars: &[Var]) -> u32
     depth
 }
 
-fn turns_depth(turns: &Option<Loop>) -> u32
-    requires { limits.turns_depth (option_map turns_of turns.now) < 2 ^ 32 }
-    ensures { result ≡ limits.turns_depth (option_map turns_of turns.now) }
+fn for_loop_depth(for_loop: &Option<Loop>) -> u32
+    requires { limits.for_loop_depth (option_map for_loop_of for_loop.now) < 2 ^ 32 }
+    ensures { result ≡ limits.for_loop_depth (option_map for_loop_of for_loop.now) }
 {
-    match turns {
+    match for_loop {
         None => 0,
-        Some(turns) => block_depth(&turns.body),
+        Some(for_loop) => block_depth(&for_loop.body),
     }
 }
 
@@ -230,6 +230,6 @@ pub fn kernel_depth(kernel: &Kernel) -> u32
     requires { limits.depth_of (program_of kernel.now) < 2 ^ 32 }
     ensures { result ≡ limits.depth_of (program_of kernel.now) }
 {
-    let body = turns_depth(&kernel.body).max(answer_depth(&kernel.answer));
+    let body = for_loop_depth(&kernel.body).max(answer_depth(&kernel.answer));
     vars_depth(&kernel.vars).max(body)
 }

@@ -18,8 +18,8 @@ use Rattle.machine_model.specs.VectorEffects.{field_of}
 use Rattle.machine_model.proofs.Frames.{went_leaves}
 use Rattle.machine_model.proofs.ScalarFrames.{scalar_leaves}
 use Rattle.machine_model.proofs.ListedWords.{step_does, step_cuts}
-use Rattle.label_fix.specs.DraftRun.{Kind, Always, If, Zero, NotZero, Entry, Put, Branch, Place, Laid, is_taken, after_label, following, place_of, address_of, walk, draft_run}
-use Rattle.label_fix.specs.Cuts.{count_on, walk_cuts, cuts}
+use Rattle.label_fix.specs.DraftRun.{Kind, Always, If, Zero, NotZero, DraftEntry, Put, Branch, Place, Laid, is_taken, after_label, following, place_of, address_of, walk, draft_run}
+use Rattle.label_fix.specs.Suppressions.{count_on, walk_cuts, cuts}
 use Rattle.label_fix.specs.Finished.{size, offset, branch_of, is_plain, IsBranch, AreFit, words_from, words_of}
 
 -- ---- branches
@@ -48,34 +48,34 @@ target_26 base from to pc hf ht e =
 
 -- ---- places
 
-pub size-append : (x y : List Entry) → size (x ++ y) ≡ size x + size y
+pub size-append : (x y : List DraftEntry) → size (x ++ y) ≡ size x + size y
 size-append [] y = omega arith
 size-append (Put i ∷ x) y = omega (arith, size-append x y)
 size-append (Branch k l ∷ x) y = omega (arith, size-append x y)
 size-append (Place l ∷ x) y = size-append x y
 
 -- the entries up to the place of a label
-abbrev before : List Entry → ℕ → List Entry
+abbrev before : List DraftEntry → ℕ → List DraftEntry
 before [] l = []
 before (Put i ∷ rest) l = Put i ∷ before rest l
 before (Branch k m ∷ rest) l = Branch k m ∷ before rest l
 before (Place m ∷ rest) l = Place m ∷ (if nat_eq m l then [] else before rest l)
 
-parts : (es : List Entry) (l : ℕ) → es ≡ before es l ++ after_label es l
+parts : (es : List DraftEntry) (l : ℕ) → es ≡ before es l ++ after_label es l
 parts [] l = refl
 parts (Put i ∷ rest) l = ap (λ es. Put i ∷ es) (parts rest l)
 parts (Branch k m ∷ rest) l = ap (λ es. Branch k m ∷ es) (parts rest l)
 parts (Place m ∷ rest) l =
     elim (nat_eq m l) as (λ c. Place m ∷ rest ≡ (Place m ∷ (if c then [] else before rest l)) ++ (if c then rest else after_label rest l)) [ true ↦ refl | false ↦ ap (λ es. Place m ∷ es) (parts rest l) ]
 
-placed : (es : List Entry) (l : ℕ) → place_of es l ≡ size (before es l)
+placed : (es : List DraftEntry) (l : ℕ) → place_of es l ≡ size (before es l)
 placed [] l = refl
 placed (Put i ∷ rest) l = ap suc (placed rest l)
 placed (Branch k m ∷ rest) l = ap suc (placed rest l)
 placed (Place m ∷ rest) l =
     elim (nat_eq m l) as (λ c. (if c then 0 else place_of rest l) ≡ size (if c then [] else before rest l)) [ true ↦ refl | false ↦ placed rest l ]
 
-place-small : (es : List Entry) (l : ℕ) → place_of es l ≤ size es
+place-small : (es : List DraftEntry) (l : ℕ) → place_of es l ≤ size es
 place-small es l = let e = ap size (parts es l) ∙ size-append (before es l) (after_label es l) in omega (arith, placed es l, e)
 
 -- ---- the words of a draft in memory
@@ -84,7 +84,7 @@ abbrev pub address_at : Laid → ℕ → ℕ
 address_at d n = (d.base + 4 * n) % 2 ^ 64
 
 -- the words of some entries, the first of which has number n, stand at their places
-abbrev pub Stands : Laid → Memory → ℕ → List Entry → Type 0
+abbrev pub Stands : Laid → Memory → ℕ → List DraftEntry → Type 0
 Stands d m n [] = Unit {0}
 Stands d m n (Put i ∷ rest) = (fetched m (address_at d n) ≡ Some (spell i)) × IsListed i × (is_plain i ≡ true) × Stands d m (suc n) rest
 Stands d m n (Branch k l ∷ rest) = (fetched m (address_at d n) ≡ Some (spells row (branch_of k n (place_of d.entries l)))) × IsInstruction row a64_names (branch_of k n (place_of d.entries l)) × Stands d m (suc n) rest
@@ -93,13 +93,13 @@ Stands d m n (Place l ∷ rest) = Stands d m n rest
 low : (d : Laid) (n : ℕ) → address_at d n < 2 ^ 64
 low d n = omega arith
 
-stands_keep : (d : Laid) (m w : Memory) (n : ℕ) (rest : List Entry) → ((a : ℕ) → a < 2 ^ 64 → fetched w a ≡ fetched m a) → Stands d m n rest → Stands d w n rest
+stands_keep : (d : Laid) (m w : Memory) (n : ℕ) (rest : List DraftEntry) → ((a : ℕ) → a < 2 ^ 64 → fetched w a ≡ fetched m a) → Stands d m n rest → Stands d w n rest
 stands_keep d m w n [] f h = tt
 stands_keep d m w n (Put i ∷ rest) f h = (f _ (low d n) ∙ h.0, h.1, h.2, stands_keep d m w (suc n) rest f h.3)
 stands_keep d m w n (Branch k l ∷ rest) f h = (f _ (low d n) ∙ h.0, h.1, stands_keep d m w (suc n) rest f h.2)
 stands_keep d m w n (Place l ∷ rest) f h = stands_keep d m w n rest f h
 
-stands_at : (d : Laid) (m : Memory) (n : ℕ) (pre rest : List Entry) → Stands d m n (pre ++ rest) → Stands d m (n + size pre) rest
+stands_at : (d : Laid) (m : Memory) (n : ℕ) (pre rest : List DraftEntry) → Stands d m n (pre ++ rest) → Stands d m (n + size pre) rest
 stands_at d m n [] rest h = let e : n ≡ n + 0 = omega arith in subst (λ k. Stands d m k rest) e h
 stands_at d m n (Put i ∷ pre) rest h = let e : suc n + size pre ≡ n + suc (size pre) = omega arith in subst (λ k. Stands d m k rest) e (stands_at d m (suc n) pre rest h.3)
 stands_at d m n (Branch k l ∷ pre) rest h = let e : suc n + size pre ≡ n + suc (size pre) = omega arith in subst (λ k. Stands d m k rest) e (stands_at d m (suc n) pre rest h.2)
@@ -107,10 +107,10 @@ stands_at d m n (Place l ∷ pre) rest h = stands_at d m n pre rest h
 
 -- ---- from an entry to the next
 
-onward : (d : Laid) (x : Entry) (pre rest : List Entry) → d.entries ≡ pre ++ x ∷ rest → d.entries ≡ (pre ++ x ∷ []) ++ rest
+onward : (d : Laid) (x : DraftEntry) (pre rest : List DraftEntry) → d.entries ≡ pre ++ x ∷ rest → d.entries ≡ (pre ++ x ∷ []) ++ rest
 onward d x pre rest e = e ∙ sym (append_assoc pre (x ∷ []) rest)
 
-here : (d : Laid) (pre rest : List Entry) (s : State) → d.entries ≡ pre ++ rest → Stands d s.memory 0 d.entries → Stands d s.memory (size pre) rest
+here : (d : Laid) (pre rest : List DraftEntry) (s : State) → d.entries ≡ pre ++ rest → Stands d s.memory 0 d.entries → Stands d s.memory (size pre) rest
 here d pre rest s e h = let z : 0 + size pre ≡ size pre = omega arith in subst (λ k. Stands d s.memory k rest) z (stands_at d s.memory 0 pre rest (subst (λ es. Stands d s.memory 0 es) e h))
 
 next_place : (d : Laid) (pc k : ℕ) → pc ≡ address_at d k → (pc + 4) % 2 ^ 64 ≡ address_at d (k + 1)
@@ -143,10 +143,10 @@ branch_does d (NotZero r) from to s hf ht e = ap (λ p. Went (if not (nat_eq (x_
 
 -- for n words, from any place
 abbrev Same : Laid → ℕ → Type 0
-Same d n = (taken : ℕ) (pre rest : List Entry) (s : State) → d.entries ≡ pre ++ rest → s.pc ≡ address_at d (size pre) → Stands d s.memory 0 d.entries → run n taken s ≡ draft_run d n taken rest s
+Same d n = (taken : ℕ) (pre rest : List DraftEntry) (s : State) → d.entries ≡ pre ++ rest → s.pc ≡ address_at d (size pre) → Stands d s.memory 0 d.entries → run n taken s ≡ draft_run d n taken rest s
 
 module _ (d : Laid) (few : size d.entries ≤ 65536) (n : ℕ) (ih : Same d n) where
-  went_on : (i : Listed) (o : Step) (taken : ℕ) (pre rest : List Entry) (s : State) → does i s ≡ o → is_plain i ≡ true → d.entries ≡ pre ++ Put i ∷ rest → s.pc ≡ address_at d (size pre) → Stands d s.memory 0 d.entries → go_on o s taken (run n taken) ≡ go_on o s taken (draft_run d n taken rest)
+  went_on : (i : Listed) (o : Step) (taken : ℕ) (pre rest : List DraftEntry) (s : State) → does i s ≡ o → is_plain i ≡ true → d.entries ≡ pre ++ Put i ∷ rest → s.pc ≡ address_at d (size pre) → Stands d s.memory 0 d.entries → go_on o s taken (run n taken) ≡ go_on o s taken (draft_run d n taken rest)
   went_on i (Went t) taken pre rest s is plain e p h =
       let k = passes i s t plain is in
       let z : size (pre ++ Put i ∷ []) ≡ size pre + 1 = size-append pre (Put i ∷ []) in
@@ -154,13 +154,13 @@ module _ (d : Laid) (few : size d.entries ≤ 65536) (n : ℕ) (ih : Same d n) w
   went_on i (Ended r) taken pre rest s is plain e p h = refl
   went_on i (Stopped kind pc at m) taken pre rest s is plain e p h = refl
 
-  branched : (c : Bool) (k : Kind) (l taken : ℕ) (pre rest : List Entry) (s : State) → d.entries ≡ pre ++ Branch k l ∷ rest → s.pc ≡ address_at d (size pre) → Stands d s.memory 0 d.entries → run n taken (if c then jump s (address_of d l) else next s) ≡ (if c then draft_run d n taken (following d l) (jump s (address_of d l)) else draft_run d n taken rest (next s))
+  branched : (c : Bool) (k : Kind) (l taken : ℕ) (pre rest : List DraftEntry) (s : State) → d.entries ≡ pre ++ Branch k l ∷ rest → s.pc ≡ address_at d (size pre) → Stands d s.memory 0 d.entries → run n taken (if c then jump s (address_of d l) else next s) ≡ (if c then draft_run d n taken (following d l) (jump s (address_of d l)) else draft_run d n taken rest (next s))
   branched true k l taken pre rest s e p h = ih taken (before d.entries l) (following d l) (jump s (address_of d l)) (parts d.entries l) (ap (address_at d) (placed d.entries l)) h
   branched false k l taken pre rest s e p h =
       let z : size (pre ++ Branch k l ∷ []) ≡ size pre + 1 = size-append pre (Branch k l ∷ []) in
       ih taken (pre ++ Branch k l ∷ []) rest (next s) (onward d (Branch k l) pre rest e) (next_place d s.pc (size pre) p ∙ ap (address_at d) (sym z)) h
 
-  same_walk : (rest pre : List Entry) (taken : ℕ) (s : State) → d.entries ≡ pre ++ rest → s.pc ≡ address_at d (size pre) → Stands d s.memory 0 d.entries → run (suc n) taken s ≡ walk d (draft_run d n (taken + 1)) (run (suc n) taken) (taken + 1) rest s
+  same_walk : (rest pre : List DraftEntry) (taken : ℕ) (s : State) → d.entries ≡ pre ++ rest → s.pc ≡ address_at d (size pre) → Stands d s.memory 0 d.entries → run (suc n) taken s ≡ walk d (draft_run d n (taken + 1)) (run (suc n) taken) (taken + 1) rest s
   same_walk [] pre taken s e p h = refl
   same_walk (Put i ∷ rest) pre taken s e p h =
       let at = here d pre _ s e h in
@@ -202,7 +202,7 @@ from_next d m n v words f k w e = let j : n + suc k ≡ suc n + k = omega arith 
 from_here : (d : Laid) (m : Memory) (n v : ℕ) (words : List ℕ) → From d m n (v ∷ words) → fetched m (address_at d n) ≡ Some v
 from_here d m n v words f = let j : n ≡ n + 0 = omega arith in ap (λ i. fetched m (address_at d i)) j ∙ f 0 v refl
 
-stands_from : (d : Laid) (m : Memory) (labels n : ℕ) (rest : List Entry) → AreFit labels rest → From d m n (words_from d.entries n rest) → Stands d m n rest
+stands_from : (d : Laid) (m : Memory) (labels n : ℕ) (rest : List DraftEntry) → AreFit labels rest → From d m n (words_from d.entries n rest) → Stands d m n rest
 stands_from d m labels n [] h f = tt
 stands_from d m labels n (Put i ∷ rest) h f = (from_here d m n _ _ f, h.0.0, h.0.1, stands_from d m labels (suc n) rest h.1 (from_next d m n _ _ f))
 stands_from d m labels n (Branch k l ∷ rest) h f = (from_here d m n _ _ f, branch_listed k n (place_of d.entries l) h.0, stands_from d m labels (suc n) rest h.2 (from_next d m n _ _ f))
@@ -213,13 +213,13 @@ pub runs_as_draft : RunsAsDraft
 unfolding words_of
 runs_as_draft d labels s fit few at p steps taken = same_run d few s p (stands_from d s.memory labels 0 d.entries fit (λ k w e. let z : 0 + k ≡ k = omega arith in ap (λ i. fetched s.memory (address_at d i)) z ∙ at k w e)) steps taken
 
-length_from : (whole rest : List Entry) (n : ℕ) → length (words_from whole n rest) ≡ size rest
+length_from : (whole rest : List DraftEntry) (n : ℕ) → length (words_from whole n rest) ≡ size rest
 length_from whole [] n = refl
 length_from whole (Put i ∷ rest) n = ap suc (length_from whole rest (suc n))
 length_from whole (Branch k l ∷ rest) n = ap suc (length_from whole rest (suc n))
 length_from whole (Place l ∷ rest) n = length_from whole rest n
 
-pub words_length : (entries : List Entry) → length (words_of entries) ≡ size entries
+pub words_length : (entries : List DraftEntry) → length (words_of entries) ≡ size entries
 unfolding words_of
 words_length entries = length_from entries entries 0
 
@@ -230,13 +230,13 @@ counted_by o cut n = elim o [ Went t ↦ cond cut 1 0 + suppressed n t | Ended r
 
 -- for n words, from any place
 abbrev Fewer : Laid → ℕ → Type 0
-Fewer d n = (pre rest : List Entry) (s : State) → d.entries ≡ pre ++ rest → s.pc ≡ address_at d (size pre) → Stands d s.memory 0 d.entries → cuts d n rest s ≤ suppressed n s
+Fewer d n = (pre rest : List DraftEntry) (s : State) → d.entries ≡ pre ++ rest → s.pc ≡ address_at d (size pre) → Stands d s.memory 0 d.entries → cuts d n rest s ≤ suppressed n s
 
 step_counts : (s : State) (i : Listed) (n : ℕ) → IsListed i → fetched s.memory s.pc ≡ Some (spell i) → suppressed (suc n) s ≡ counted_by (does i s) (cuts_in i s) n
 step_counts s i n h at = ap (λ o. counted_by o (suppresses s) n) (step_does s i h at) ∙ ap (λ cut. counted_by (does i s) cut n) (step_cuts s i h at)
 
 module _ (d : Laid) (few : size d.entries ≤ 65536) (n : ℕ) (ih : Fewer d n) where
-  fewer_on : (i : Listed) (o : Step) (cut : Bool) (pre rest : List Entry) (s : State) → does i s ≡ o → is_plain i ≡ true → d.entries ≡ pre ++ Put i ∷ rest → s.pc ≡ address_at d (size pre) → Stands d s.memory 0 d.entries → count_on o cut (cuts d n rest) ≤ counted_by o cut n
+  fewer_on : (i : Listed) (o : Step) (cut : Bool) (pre rest : List DraftEntry) (s : State) → does i s ≡ o → is_plain i ≡ true → d.entries ≡ pre ++ Put i ∷ rest → s.pc ≡ address_at d (size pre) → Stands d s.memory 0 d.entries → count_on o cut (cuts d n rest) ≤ counted_by o cut n
   fewer_on i (Went t) cut pre rest s is plain e p h =
       let k = passes i s t plain is in
       let z : size (pre ++ Put i ∷ []) ≡ size pre + 1 = size-append pre (Put i ∷ []) in
@@ -245,13 +245,13 @@ module _ (d : Laid) (few : size d.entries ≤ 65536) (n : ℕ) (ih : Fewer d n) 
   fewer_on i (Ended r) cut pre rest s is plain e p h = omega arith
   fewer_on i (Stopped kind pc at m) cut pre rest s is plain e p h = omega arith
 
-  fewer_branch : (c : Bool) (k : Kind) (l : ℕ) (pre rest : List Entry) (s : State) → d.entries ≡ pre ++ Branch k l ∷ rest → s.pc ≡ address_at d (size pre) → Stands d s.memory 0 d.entries → (if c then cuts d n (following d l) (jump s (address_of d l)) else cuts d n rest (next s)) ≤ suppressed n (if c then jump s (address_of d l) else next s)
+  fewer_branch : (c : Bool) (k : Kind) (l : ℕ) (pre rest : List DraftEntry) (s : State) → d.entries ≡ pre ++ Branch k l ∷ rest → s.pc ≡ address_at d (size pre) → Stands d s.memory 0 d.entries → (if c then cuts d n (following d l) (jump s (address_of d l)) else cuts d n rest (next s)) ≤ suppressed n (if c then jump s (address_of d l) else next s)
   fewer_branch true k l pre rest s e p h = ih (before d.entries l) (following d l) (jump s (address_of d l)) (parts d.entries l) (ap (address_at d) (placed d.entries l)) h
   fewer_branch false k l pre rest s e p h =
       let z : size (pre ++ Branch k l ∷ []) ≡ size pre + 1 = size-append pre (Branch k l ∷ []) in
       ih (pre ++ Branch k l ∷ []) rest (next s) (onward d (Branch k l) pre rest e) (next_place d s.pc (size pre) p ∙ ap (address_at d) (sym z)) h
 
-  fewer_walk : (rest pre : List Entry) (s : State) → d.entries ≡ pre ++ rest → s.pc ≡ address_at d (size pre) → Stands d s.memory 0 d.entries → walk_cuts d (cuts d n) rest s ≤ suppressed (suc n) s
+  fewer_walk : (rest pre : List DraftEntry) (s : State) → d.entries ≡ pre ++ rest → s.pc ≡ address_at d (size pre) → Stands d s.memory 0 d.entries → walk_cuts d (cuts d n) rest s ≤ suppressed (suc n) s
   fewer_walk [] pre s e p h = omega arith
   fewer_walk (Put i ∷ rest) pre s e p h =
       let at = here d pre _ s e h in

@@ -6,10 +6,10 @@ use Rattle.a64_code.specs.Table as a64
 use Rattle.machine_model.specs.CodeInMemory.{spell, IsListed}
 use Rattle.machine_model.specs.Frames.{is_branch}
 use Rattle.machine_model.specs.InstructionTable.{Listed, Scalar, Vector}
-use Rattle.label_fix.specs.DraftRun.{Kind, Always, If, Zero, NotZero, Entry, Put, Branch, Place, place_of}
+use Rattle.label_fix.specs.DraftRun.{Kind, Always, If, Zero, NotZero, DraftEntry, Put, Branch, Place, place_of}
 
 -- how many words some entries come to
-abbrev pub size : List Entry → ℕ
+abbrev pub size : List DraftEntry → ℕ
 size [] = 0
 size (Put i ∷ rest) = suc (size rest)
 size (Branch k l ∷ rest) = suc (size rest)
@@ -26,13 +26,13 @@ branch_of (Zero r) from to = record { name = a64.cbz; numbers = r ∷ offset 19 
 branch_of (NotZero r) from to = record { name = a64.cbnz; numbers = r ∷ offset 19 from to ∷ [] }
 
 -- the words of some entries of a whole, the first of which has number n
-abbrev pub words_from : List Entry → ℕ → List Entry → List ℕ
+abbrev pub words_from : List DraftEntry → ℕ → List DraftEntry → List ℕ
 words_from whole n [] = []
 words_from whole n (Put i ∷ rest) = spell i ∷ words_from whole (suc n) rest
 words_from whole n (Branch k l ∷ rest) = spells a64.row (branch_of k n (place_of whole l)) ∷ words_from whole (suc n) rest
 words_from whole n (Place l ∷ rest) = words_from whole n rest
 
-unfoldable pub words_of : List Entry → List ℕ
+unfoldable pub words_of : List DraftEntry → List ℕ
 words_of entries = words_from entries 0 entries
 
 -- no branch of its own: none of B, B.cond, CBZ, CBNZ and RET
@@ -62,7 +62,7 @@ IsBranch k = (has_register k ≡ true) × (has_condition k ≡ true)
 
 -- What every draft is: its words are instructions that go on to the next one, its branches can be written, and its labels
 -- are among the n that it gave.
-abbrev pub AreFit : ℕ → List Entry → Type 0
+abbrev pub AreFit : ℕ → List DraftEntry → Type 0
 AreFit n [] = Unit {0}
 AreFit n (Put i ∷ rest) = IsWord i × AreFit n rest
 AreFit n (Branch k l ∷ rest) = IsBranch k × (l < n) × AreFit n rest

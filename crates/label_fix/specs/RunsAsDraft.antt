@@ -3,7 +3,7 @@ use Rattle.std.specs.Prelude.{◌≡◌, ℕ, ◌≤◌, ◌%◌, ◌^◌}
 use Rattle.machine_model.specs.Machine.{State}
 use Rattle.machine_model.specs.Run.{run, suppressed}
 use Rattle.label_fix.specs.DraftRun.{Laid, draft_run}
-use Rattle.label_fix.specs.Cuts.{cuts}
+use Rattle.label_fix.specs.Suppressions.{cuts}
 use Rattle.label_fix.specs.Finished.{AreFit, StandAt, size, words_of}
 
 -- Wherever the words of fit entries stand, the machine's run from the first of them on is the draft's, for every number of

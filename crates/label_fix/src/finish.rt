@@ -9,28 +9,28 @@ ghost use Rattle.label_fix.specs.DraftRun as plain;
 ghost use Rattle.label_fix.specs.Finished.{AreFit, IsBranch, branch_of, offset, size, words_from, words_of, has_register};
 ghost use Rattle.label_fix.specs.Places.{placed_from};
 
-use crate::entry::{BranchKind, Entry, Word};
+use crate::entry::{BranchKind, DraftEntry, Word};
 use a64_code::{A64, CompareBranchOp};
 use std::alloc::{AllocError, Global};
 use word_rows::Bits;
 
 /// How many words some entries come to.
-pub fn count_words(entries: &[Entry]) -> u32
+pub fn count_words(entries: &[DraftEntry]) -> u32
     requires few { size (map entry_view entries.now) ≤ 65536 }
     ensures { result ≡ size (map entry_view entries.now) }
 {
     let mut count = 0;
     for entry in entries {
         match entry {
-            Entry::Put(_) | Entry::Branch(..) => count += 1,
-            Entry::Place(_) => {}
+            DraftEntry::Put(_) | DraftEntry::Branch(..) => count += 1,
+            DraftEntry::Place(_) => {}
         }
     }
     count
 }
 
 /// How many words stand before each label, by its number; before a label without a place, all of them.
-pub fn label_places(mut places: Vec<u32>, entries: &[Entry]) -> Vec<u32>
+pub fn label_places(mut places: Vec<u32>, entries: &[DraftEntry]) -> Vec<u32>
     requires few { size (map entry_view entries.now) ≤ 65536 }
     requires fit { AreFit (length places.items) (map entry_view entries.now) }
     ensures { result.items
@@ -40,7 +40,7 @@ pub fn label_places(mut places: Vec<u32>, entries: &[Entry]) -> Vec<u32>
     let mut words = 0;
     for entry in entries {
         match entry {
-            Entry::Place(label) => note(&mut places, label.number(), words),
+            DraftEntry::Place(label) => note(&mut places, label.number(), words),
             _ => words += 1,
         }
     }
@@ -59,7 +59,7 @@ fn note(places: &mut [u32], label: usize, words: u32)
 #[tactic(auto, unfolding(crate::specs::Finished::words_of), using(crate::proofs::Collected::place_within))]
 pub fn placed_words(
     alloc: Global,
-    entries: &[Entry],
+    entries: &[DraftEntry],
     places: &[u32],
 ) -> Result<Vec<u32>, AllocError>
     requires few { size (map entry_view entries.now) ≤ 65536 }
@@ -72,15 +72,15 @@ pub fn placed_words(
     let mut count = 0;
     for entry in entries {
         match entry {
-            Entry::Put(word) => {
+            DraftEntry::Put(word) => {
                 words.push(encode(*word))?;
                 count += 1;
             }
-            Entry::Branch(kind, to) => {
+            DraftEntry::Branch(kind, to) => {
                 words.push(encode_branch(*kind, count, places[to.number()]))?;
                 count += 1;
             }
-            Entry::Place(_) => {}
+            DraftEntry::Place(_) => {}
         }
     }
     Ok(words)
@@ -88,7 +88,7 @@ pub fn placed_words(
 
 // The word of an instruction.
 fn encode(word: Word) -> u32
-    ensures { (whole rest : List plain.Entry) (n : ℕ)
+    ensures { (whole rest : List plain.DraftEntry) (n : ℕ)
         → words_from whole n (plain.Put (word_view word) ∷ rest) ≡ result ∷ words_from whole (suc n) rest }
 {
     match word {

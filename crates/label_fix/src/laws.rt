@@ -1,7 +1,7 @@
 //! What the words of a draft do.
 
 ghost use Rattle.std.specs.Prelude.{◌≡◌, List, length};
-ghost use Rattle.label_fix.specs.DraftRun.{Entry};
+ghost use Rattle.label_fix.specs.DraftRun.{DraftEntry};
 ghost use Rattle.label_fix.specs.Finished.{size, words_of};
 ghost use Rattle.label_fix.specs.RunsAsDraft.{RunsAsDraft, CutsAreSuppressed};
 
@@ -9,5 +9,5 @@ ghost use Rattle.label_fix.specs.RunsAsDraft.{RunsAsDraft, CutsAreSuppressed};
 pub fn labels()
     ensures runs { RunsAsDraft }
     ensures cuts { CutsAreSuppressed }
-    ensures count { (entries : List Entry) → length (words_of entries) ≡ size entries }
+    ensures count { (entries : List DraftEntry) → length (words_of entries) ≡ size entries }
 {}

@@ -140,7 +140,7 @@ fn each_shifted(
 }
 
 // Elements of 8 bits. The width and the operation are chosen before the loop, so that each has a loop of its own. One
-// function of all widths would grow so large that the compiler chose the width in each turn of the loop.
+// function of all widths would grow so large that the compiler chose the width in each iteration of the loop.
 #[inline(never)]
 fn binary_in_8(op: LaneOp, vl: Vl, zs: &mut [ZReg; 32], left: usize, right: usize, out: usize)
     requires left { left < 32 }
@@ -266,7 +266,7 @@ pub fn binary_in(
 }
 
 // Elements of 8 bits. The width and the operation are chosen before the loop, so that each has a loop of its own. One
-// function of all widths would grow so large that the compiler chose the width in each turn of the loop.
+// function of all widths would grow so large that the compiler chose the width in each iteration of the loop.
 #[inline(never)]
 fn merge_in_8(op: LaneOp, vl: Vl, pg: &PReg, zs: &mut [ZReg; 32], right: usize, out: usize)
     requires right { right < 32 }
@@ -387,7 +387,7 @@ pub fn merge_in(
 }
 
 // Elements of 8 bits. The width and the operation are chosen before the loop, so that each has a loop of its own. One
-// function of all widths would grow so large that the compiler chose the width in each turn of the loop.
+// function of all widths would grow so large that the compiler chose the width in each iteration of the loop.
 #[inline(never)]
 fn merge_one_in_8(op: LaneUnary, vl: Vl, pg: &PReg, zs: &mut [ZReg; 32], z: usize, out: usize)
     requires narrower { source_bits op < width_bits Width.B }

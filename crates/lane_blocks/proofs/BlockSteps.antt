@@ -7,7 +7,7 @@ use Rattle.std.proofs.Math.Nat.{mul-suc, mul-zero, mul-add, mul_assoc, mod-eq_of
 use lib.Lanes.{chunk, put_chunk}
 use borrow.Rule.Slice.PartMut.{put_mid, mid_of}
 use Rattle.guest_types.specs.declared.length.Width.{Width}
-use Rattle.guest_types.specs.declared.length.Width.TheVariants.{B, H, S, D}
+use Rattle.guest_types.specs.declared.length.Width.TheVariants.{B}
 use Rattle.guest_types.specs.Length.{IsLength, width_bytes, modulus, lanes, all_lanes}
 use Rattle.guest_types.specs.Elements.{number_of_bytes, elements, register, at, bit}
 use Rattle.guest_types.proofs.Registers.{elements-ext, elements-split, element-block, chunk-elements, length-elements}
@@ -18,21 +18,15 @@ use Rattle.lane_blocks.specs.Blocks.{block_lanes, block_of, with_block, cleared_
 
 pub block-bytes : (w : Width) → width_bytes w * block_lanes w ≡ 32
 block-bytes B = refl
-block-bytes H = refl
-block-bytes S = refl
-block-bytes D = refl
+block-bytes other = refl
 
 pub all-blocks : (w : Width) → block_lanes w * 8 ≡ all_lanes w
 all-blocks B = refl
-all-blocks H = refl
-all-blocks S = refl
-all-blocks D = refl
+all-blocks other = refl
 
 pub lane-inside : (w : Width) (e : ℕ) → e < block_lanes w → (0 < width_bytes w) × (width_bytes w * e < 32)
 lane-inside B e l = (omega arith, omega arith)
-lane-inside H e l = (omega arith, omega arith)
-lane-inside S e l = (omega arith, omega arith)
-lane-inside D e l = (omega arith, omega arith)
+lane-inside other e l = (omega arith, omega arith)
 
 -- ---- parts of a list
 
@@ -142,9 +136,7 @@ holds-end w f i z h most least =
 
 pub shorter : (w : Width) (vl i : ℕ) → IsLength vl → (vl / 8 + 31) / 32 ≤ i → lanes vl w ≤ block_lanes w * i
 shorter B vl i h all = omega arith
-shorter H vl i h all = omega arith
-shorter S vl i h all = omega arith
-shorter D vl i h all = omega arith
+shorter other vl i h all = omega arith
 
 -- the blocks of the length, and zeros past it
 pub begins-cleared : (w : Width) (f : ℕ → ℕ) (vl i : ℕ) (z now : List ℕ) → IsLength vl → Begins w f i z → (vl / 8 + 31) / 32 ≤ i → now ≡ cleared_above z (vl / 8) → now ≡ register (width_bytes w) f (lanes vl w)

@@ -89,15 +89,11 @@ offset D e = 0
 
 starts : (w : Width) (e : ℕ) → 8 * (width_bytes w * e) ≡ 8 * (8 * block w e) + offset w e
 starts B e = omega arith
-starts H e = omega arith
-starts S e = omega arith
-starts D e = omega arith
+starts other e = omega arith
 
 ends : (w : Width) (e : ℕ) → offset w e + 8 * width_bytes w ≤ 64
 ends B e = omega arith
-ends H e = omega arith
-ends S e = omega arith
-ends D e = omega arith
+ends other e = omega arith
 
 pub at-part : (w : Width) (e : ℕ) (z : List ℕ) → Small z → at w z e ≡ at D z (block w e) / 2 ^ offset w e % 2 ^ (8 * width_bytes w)
 at-part w e z h =

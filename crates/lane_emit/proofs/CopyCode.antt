@@ -19,7 +19,7 @@ use Rattle.machine_model.specs.States.{IsState}
 use Rattle.machine_model.specs.VectorEffects.{do_vector, put_lanes}
 use Rattle.sve_code.specs.Table.{z_orr, sxtb, uxtb, sxth, uxth, sxtw, uxtw}
 use Rattle.lane_emit.specs.Right.{ZRight}
-use Rattle.lane_emit.specs.Stretch.{Word, word, OnlyZ, Ready, MakesZ}
+use Rattle.lane_emit.specs.Stretch.{VectorInstruction, word, OnlyZ, Ready, MakesZ}
 use Rattle.lane_emit.specs.LaneCode.{size_of, z_copy, extension, z_extend, z_settle}
 use Rattle.lane_emit.proofs.Residues.{held}
 use Rattle.lane_emit.proofs.ExtendedLanes.{held-wrap, sxtb-held, sxth-held, sxtw-held, uxtb-held, uxth-held, uxtw-held}
@@ -28,7 +28,7 @@ use Rattle.lane_emit.proofs.Stretches.{width-size, only_same, small_at, small_ma
 
 -- ---- copies
 
-pub copy_then : {rest : List Word} {s : State} (d a : ℕ) (w : Width) {n : ℕ} (u : ℕ → ℤ) {v : ℕ → ℤ} → Ready w n s → d < 32 → a < 32 → ZRight w n (z_at s a) u
+pub copy_then : {rest : List VectorInstruction} {s : State} (d a : ℕ) (w : Width) {n : ℕ} (u : ℕ → ℤ) {v : ℕ → ℤ} → Ready w n s → d < 32 → a < 32 → ZRight w n (z_at s a) u
     → ((t : State) → IsState t → OnlyZ d s t → ZRight w n (z_at t d) u → MakesZ rest t d w n v) → MakesZ (z_copy d a rest) s d w n v
 copy_then {rest = rest} {s = s} d a w {n = n} u {v = v} r ld la right more = by (nat_eq d a) refl
   where
@@ -49,7 +49,7 @@ copy_z d a w u r ld la right = copy_then d a w u r ld la right (λ t is only her
 merged_one : (op : LaneUnary) (w : Width) (p old z : List ℕ) (e : ℕ) (x y : ℤ) → active w p e ≡ true → at w z e ≡ held w x → unary op (modulus w) (held w x) ≡ held w y → merge_one_at op w p old z e ≡ held w y
 merged_one op w p old z e x y on is law = ap (λ b. cond b (unary op (modulus w) (at w z e)) (at w old e)) on ∙ ap (unary op (modulus w)) is ∙ law
 
-pub unary_then : {i : Word} {rest : List Word} {s : State} (op : LaneUnary) (d a : ℕ) (w : Width) {n : ℕ} (x u : ℕ → ℤ) {v : ℕ → ℤ} → Ready w n s → d < 32 → ZRight w n (z_at s a) x
+pub unary_then : {i : VectorInstruction} {rest : List VectorInstruction} {s : State} (op : LaneUnary) (d a : ℕ) (w : Width) {n : ℕ} (x u : ℕ → ℤ) {v : ℕ → ℤ} → Ready w n s → d < 32 → ZRight w n (z_at s a) x
     → do_vector i s ≡ put_lanes s d w (merge_one_at op w (p_at s 1) (z_at s d) (z_at s a)) → ((e : ℕ) → e < n → unary op (modulus w) (held w (x e)) ≡ held w (u e))
     → ((t : State) → IsState t → OnlyZ d s t → ZRight w n (z_at t d) u → MakesZ rest t d w n v) → MakesZ (i ∷ rest) s d w n v
 unary_then {s = s} op d a w x u r ld right does law more =
@@ -62,7 +62,7 @@ abbrev ones : LaneUnary → Width → ℕ → ℕ → State → ℕ → ℕ
 ones op w d a s = merge_one_at op w (p_at s 1) (z_at s d) (z_at s a)
 
 module _ {s : State} (d a : ℕ) (w : Width) {n : ℕ} (u : ℕ → ℤ) (r : Ready w n s) (ld : d < 32) (right : ZRight w n (z_at s a) u) where
-  one_word : (t : Ty) (op : LaneUnary) (i : Word) → do_vector i s ≡ put_lanes s d w (ones op w d a s) → ((e : ℕ) → unary op (modulus w) (held w (u e)) ≡ held w (wrap t (u e))) → MakesZ (i ∷ []) s d w n (λ e. wrap t (u e))
+  one_word : (t : Ty) (op : LaneUnary) (i : VectorInstruction) → do_vector i s ≡ put_lanes s d w (ones op w d a s) → ((e : ℕ) → unary op (modulus w) (held w (u e)) ≡ held w (wrap t (u e))) → MakesZ (i ∷ []) s d w n (λ e. wrap t (u e))
   one_word t op i does law = unary_then op d a w u (λ e. wrap t (u e)) r ld right does (λ e lt. law e) (λ t is only here. done_z is here)
 
   sxtb_word : 8 ≤ width_bits w → MakesZ (word sxtb (d ∷ a ∷ 1 ∷ size_of w ∷ []) ∷ []) s d w n (λ e. wrap ty.I8 (u e))

@@ -5,7 +5,7 @@ use Rattle.std.proofs.lemmas.Int.{ints}
 use Rattle.std.proofs.lemmas.Bool.{true≢false, cases_lt, cases_eq, lt-ltb, le-ltb, le-leb, lt-leb, eq-eqb, ne_eqb, ltb-true, ltb-false}
 use Rattle.std.proofs.lemmas.Bool.Decides.{nat_tests}
 use Rattle.guest_types.specs.declared.length.Width.{Width}
-use Rattle.guest_types.specs.declared.length.Width.TheVariants.{B, H, S, D}
+use Rattle.guest_types.specs.declared.length.Width.TheVariants.{B}
 use Rattle.guest_types.specs.declared.operation.LaneOp.TheVariants as lane_ops
 use Rattle.guest_types.specs.declared.operation.LaneCompare.TheVariants as compares
 use Rattle.guest_types.specs.Length.{width_bits, modulus}
@@ -19,15 +19,11 @@ use Rattle.lane_emit.proofs.Residues.{held, held-up, held-down, held-plain, halv
 
 bias_up : (w : Width) (n : ℕ) → n < 2 ^ (width_bits w - 1) → (n + modulus w / 2) % modulus w ≡ n + 2 ^ (width_bits w - 1)
 bias_up B n h = omega (arith, h)
-bias_up H n h = omega (arith, h)
-bias_up S n h = omega (arith, h)
-bias_up D n h = omega (arith, h)
+bias_up other n h = omega (arith, h)
 
 bias_down : (w : Width) (n : ℕ) → n < 2 ^ (width_bits w - 1) → (modulus w - 1 - n + modulus w / 2) % modulus w ≡ 2 ^ (width_bits w - 1) - 1 - n
 bias_down B n h = omega (arith, h)
-bias_down H n h = omega (arith, h)
-bias_down S n h = omega (arith, h)
-bias_down D n h = omega (arith, h)
+bias_down other n h = omega (arith, h)
 
 -- the place of a value in the order of its elements
 abbrev place : ℕ → ℤ → ℕ

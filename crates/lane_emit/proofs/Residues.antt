@@ -33,9 +33,7 @@ held-word D (negsuc n) = omega arith
 
 some_values : (w : Width) → 0 < modulus w
 some_values B = omega arith
-some_values H = omega arith
-some_values S = omega arith
-some_values D = omega arith
+some_values other = omega arith
 
 pub held-below : (w : Width) (z : ℤ) → held w z < modulus w
 held-below w z = subst (λ n. n < modulus w) (sym (held-word w z)) (mod-lt (word z) (some_values w))
@@ -50,9 +48,7 @@ held-same w a b e = held-word w a ∙ ap (λ n. n % modulus w) e ∙ sym (held-w
 -- the low bits of the low 64 bits
 pub low : (w : Width) (n : ℕ) → n % 2 ^ 64 % modulus w ≡ n % modulus w
 low B n = omega arith
-low H n = omega arith
-low S n = omega arith
-low D n = omega arith
+low other n = omega arith
 
 held-of : (w : Width) (z : ℤ) (n : ℕ) → word z ≡ n % 2 ^ 64 → held w z ≡ n % modulus w
 held-of w z n e = held-word w z ∙ ap (λ m. m % modulus w) e ∙ low w n
@@ -61,9 +57,7 @@ held-of w z n e = held-word w z ∙ ap (λ m. m % modulus w) e ∙ low w n
 
 sum_low : (w : Width) (a b : ℕ) → (a % modulus w + b % modulus w) % modulus w ≡ (a + b) % modulus w
 sum_low B a b = omega arith
-sum_low H a b = omega arith
-sum_low S a b = omega arith
-sum_low D a b = omega arith
+sum_low other a b = omega arith
 
 pub add-held : (w : Width) (x y : ℤ) → lane lane_ops.Add (modulus w) (held w x) (held w y) ≡ held w (x +ℤ y)
 add-held w x y =
@@ -76,9 +70,7 @@ word-negated (negsuc n) = omega arith
 
 difference_low : (w : Width) (a b : ℕ) → a < 2 ^ 64 → b < 2 ^ 64 → (a % modulus w + (modulus w - b % modulus w)) % modulus w ≡ (a + (2 ^ 64 - b) % 2 ^ 64) % modulus w
 difference_low B a b h k = omega (arith, h, k)
-difference_low H a b h k = omega (arith, h, k)
-difference_low S a b h k = omega (arith, h, k)
-difference_low D a b h k = omega (arith, h, k)
+difference_low other a b h k = omega (arith, h, k)
 
 pub sub-held : (w : Width) (x y : ℤ) → lane lane_ops.Sub (modulus w) (held w x) (held w y) ≡ held w (x -ℤ y)
 sub-held w x y =
@@ -110,9 +102,7 @@ xor-held w x y = ap₂ bit_xor (held-power w x) (held-power w y) ∙ sym (xor_mo
 
 negated_low : (w : Width) (b : ℕ) → b < 2 ^ 64 → (modulus w - b % modulus w) % modulus w ≡ (2 ^ 64 - b) % modulus w
 negated_low B b k = omega (arith, k)
-negated_low H b k = omega (arith, k)
-negated_low S b k = omega (arith, k)
-negated_low D b k = omega (arith, k)
+negated_low other b k = omega (arith, k)
 
 pub neg-held : (w : Width) (x : ℤ) → unary unaries.Neg (modulus w) (held w x) ≡ held w (neg_ℤ x)
 neg-held w x =
@@ -123,9 +113,7 @@ word-flipped x = word-add (neg_ℤ x) (negsuc 0) ∙ ap (λ n. (n + (2 ^ 64 - 1)
 
 flipped_low : (w : Width) (b : ℕ) → b < 2 ^ 64 → modulus w - 1 - b % modulus w ≡ (2 ^ 64 - 1 - b) % modulus w
 flipped_low B b k = omega (arith, k)
-flipped_low H b k = omega (arith, k)
-flipped_low S b k = omega (arith, k)
-flipped_low D b k = omega (arith, k)
+flipped_low other b k = omega (arith, k)
 
 pub not-held : (w : Width) (x : ℤ) → unary unaries.Not (modulus w) (held w x) ≡ held w (neg_ℤ x -ℤ pos 1)
 not-held w x =
@@ -136,15 +124,11 @@ not-held w x =
 
 pub held-up : (w : Width) (n : ℕ) → n < 2 ^ (width_bits w - 1) → held w (pos n) ≡ n
 held-up B n h = omega (arith, h)
-held-up H n h = omega (arith, h)
-held-up S n h = omega (arith, h)
-held-up D n h = omega (arith, h)
+held-up other n h = omega (arith, h)
 
 pub held-down : (w : Width) (n : ℕ) → n < 2 ^ (width_bits w - 1) → held w (negsuc n) ≡ modulus w - 1 - n
 held-down B n h = omega (arith, h)
-held-down H n h = omega (arith, h)
-held-down S n h = omega (arith, h)
-held-down D n h = omega (arith, h)
+held-down other n h = omega (arith, h)
 
 pub held-plain : (w : Width) (n : ℕ) → n < 2 ^ width_bits w → held w (pos n) ≡ n
 held-plain w n h = mod-eq_of_lt h
@@ -152,22 +136,16 @@ held-plain w n h = mod-eq_of_lt h
 -- half of the values of an element
 pub half : (w : Width) → modulus w / 2 ≡ 2 ^ (width_bits w - 1)
 half B = refl
-half H = refl
-half S = refl
-half D = refl
+half other = refl
 
 pub halves : (w : Width) → 2 ^ (width_bits w - 1) + 2 ^ (width_bits w - 1) ≡ modulus w
 halves B = refl
-halves H = refl
-halves S = refl
-halves D = refl
+halves other = refl
 
 -- the absolute value of one that is negative
 up_again : (w : Width) (n : ℕ) → n < 2 ^ (width_bits w - 1) → (modulus w - (modulus w - 1 - n)) % modulus w ≡ held w (pos (suc n))
 up_again B n h = omega (arith, h)
-up_again H n h = omega (arith, h)
-up_again S n h = omega (arith, h)
-up_again D n h = omega (arith, h)
+up_again other n h = omega (arith, h)
 
 pub abs-held : (w : Width) (x : ℤ) → InBits true (width_bits w) x → unary unaries.Abs (modulus w) (held w x) ≡ held w (pos (unsigned_abs x))
 abs-held w (pos n) h =

@@ -36,9 +36,7 @@ size_is D v le lt =
 
 element_bits : (w : Width) → element_width (size_of w) ≡ width_bits w
 element_bits B = refl
-element_bits H = refl
-element_bits S = refl
-element_bits D = refl
+element_bits other = refl
 
 module _ (s : State) (d a : ℕ) (op : ShiftOp) where
   -- a shift of elements whose size has this number

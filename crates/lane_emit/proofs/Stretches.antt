@@ -3,7 +3,7 @@ use Rattle.std.proofs.Common.{◌≡◌, ℕ, ◌%◌, ◌<◌, ◌≤◌, ℤ, 
 use Rattle.std.specs.Prelude.{slice_index_or}
 use Rattle.std.proofs.lemmas.List.Elements.{All-get_or}
 use Rattle.guest_types.specs.declared.length.Width.{Width}
-use Rattle.guest_types.specs.declared.length.Width.TheVariants.{B, H, S, D}
+use Rattle.guest_types.specs.declared.length.Width.TheVariants.{B}
 use Rattle.guest_types.specs.Length.{IsLength, width_bytes, modulus, lanes}
 use Rattle.guest_types.specs.Elements.{register, at, active}
 use Rattle.guest_types.specs.LaneMemory.{width_of_size}
@@ -13,16 +13,14 @@ use Rattle.machine_model.specs.VectorEffects.{do_vector, put_lanes}
 use Rattle.machine_model.specs.States.{IsVector, IsState}
 use Rattle.machine_model.proofs.StateSteps.{vector_made, lanes_put}
 use Rattle.lane_emit.specs.Right.{ZRight}
-use Rattle.lane_emit.specs.Stretch.{Word, do_all, and_then, OnlyZ, Ready, MakesZ}
+use Rattle.lane_emit.specs.Stretch.{VectorInstruction, do_all, and_then, OnlyZ, Ready, MakesZ}
 use Rattle.lane_emit.specs.LaneCode.{size_of}
 use Rattle.lane_emit.proofs.Residues.{held, held-whole}
 use Rattle.lane_emit.proofs.BitwiseLanes.{Small, small_all}
 
 pub width-size : (w : Width) → width_of_size (size_of w) ≡ w
 width-size B = refl
-width-size H = refl
-width-size S = refl
-width-size D = refl
+width-size other = refl
 
 -- ---- what is left alone
 
@@ -69,11 +67,11 @@ pub done_z : {s : State} {d : ℕ} {w : Width} {n : ℕ} {v : ℕ → ℤ} → I
 done_z {s = s} {d = d} h right = record { end = s; runs = refl; is = h; only = only_same d s; right = right }
 
 -- the same value by another name
-pub renamed_z : {c : List Word} {s : State} {d : ℕ} {w : Width} {n : ℕ} {u v : ℕ → ℤ} → ((e : ℕ) → e < n → held w (u e) ≡ held w (v e)) → MakesZ c s d w n u → MakesZ c s d w n v
+pub renamed_z : {c : List VectorInstruction} {s : State} {d : ℕ} {w : Width} {n : ℕ} {u v : ℕ → ℤ} → ((e : ℕ) → e < n → held w (u e) ≡ held w (v e)) → MakesZ c s d w n u → MakesZ c s d w n v
 renamed_z same m = record { end = m.end; runs = m.runs; is = m.is; only = m.only; right = λ e lt. m.right e lt ∙ same e lt }
 
 -- a word that writes elements, and the rest of the code
-pub first_z : {i : Word} {rest : List Word} {s : State} {d : ℕ} (w : Width) {n : ℕ} (k : Width) (f : ℕ → ℕ) (u : ℕ → ℤ) {v : ℕ → ℤ} → IsState s → d < 32 → do_vector i s ≡ put_lanes s d k f → ZRight w n (register (width_bytes k) f (lanes s.vl k)) u
+pub first_z : {i : VectorInstruction} {rest : List VectorInstruction} {s : State} {d : ℕ} (w : Width) {n : ℕ} (k : Width) (f : ℕ → ℕ) (u : ℕ → ℤ) {v : ℕ → ℤ} → IsState s → d < 32 → do_vector i s ≡ put_lanes s d k f → ZRight w n (register (width_bytes k) f (lanes s.vl k)) u
     → ((t : State) → IsState t → OnlyZ d s t → ZRight w n (z_at t d) u → MakesZ rest t d w n v) → MakesZ (i ∷ rest) s d w n v
 first_z {i = i} {rest = rest} {s = s} {d = d} w {n = n} k f u h lt does right more =
     let bytes = register (width_bytes k) f (lanes s.vl k) in
@@ -93,6 +91,6 @@ first_z {i = i} {rest = rest} {s = s} {d = d} w {n = n} k f u h lt does right mo
 pub held_lanes : (w : Width) (n count : ℕ) (f : ℕ → ℕ) (u : ℕ → ℤ) → n ≤ count → ((e : ℕ) → e < n → f e ≡ held w (u e)) → ZRight w n (register (width_bytes w) f count) u
 held_lanes w n count f u le same e lt = at-register w f count e (omega (arith, lt, le)) ∙ ap (λ m. m % modulus w) (same e lt) ∙ held-whole w (u e)
 
-pub lanes_z : {i : Word} {rest : List Word} {s : State} {d : ℕ} (w : Width) {n : ℕ} (f : ℕ → ℕ) (u : ℕ → ℤ) {v : ℕ → ℤ} → Ready w n s → d < 32 → do_vector i s ≡ put_lanes s d w f → ((e : ℕ) → e < n → f e ≡ held w (u e))
+pub lanes_z : {i : VectorInstruction} {rest : List VectorInstruction} {s : State} {d : ℕ} (w : Width) {n : ℕ} (f : ℕ → ℕ) (u : ℕ → ℤ) {v : ℕ → ℤ} → Ready w n s → d < 32 → do_vector i s ≡ put_lanes s d w f → ((e : ℕ) → e < n → f e ≡ held w (u e))
     → ((t : State) → IsState t → OnlyZ d s t → ZRight w n (z_at t d) u → MakesZ rest t d w n v) → MakesZ (i ∷ rest) s d w n v
 lanes_z {s = s} w {n = n} f u r lt does same more = first_z w w f u r.is lt does (held_lanes w n (lanes s.vl w) f u r.few same) more

@@ -26,7 +26,7 @@ use Rattle.machine_model.specs.VectorEffects.{do_vector, put_truths, put_tested}
 use Rattle.machine_model.proofs.StateSteps.{truths_put, tested_put}
 use Rattle.sve_code.specs.Table.{cmphs, cmphi, cmpge, cmpgt, cmpeq, cmpne}
 use Rattle.lane_emit.specs.Right.{ZRight, PRight, within}
-use Rattle.lane_emit.specs.Stretch.{Word, and_then, do_all, MakesP}
+use Rattle.lane_emit.specs.Stretch.{VectorInstruction, and_then, do_all, MakesP}
 use Rattle.lane_emit.specs.LaneCode.{compare_word, test_code, invert_code, same_code, any_code}
 use Rattle.lane_emit.proofs.Ranges.{InBits}
 use Rattle.lane_emit.proofs.Residues.{held}
@@ -38,7 +38,7 @@ use Rattle.lane_emit.proofs.Values.{in_lane}
 -- ---- one word
 
 -- by the elements of a comparison, which also sets the flags
-tested_p : {i : Word} {s : State} {d : ℕ} (w : Width) (mask f truth : ℕ → Bool) → IsState s → d < 16 → do_vector i s ≡ put_tested s d w mask f → ((e : ℕ) → e < lanes s.vl w → f e ≡ truth e) → MakesP (i ∷ []) s d w truth
+tested_p : {i : VectorInstruction} {s : State} {d : ℕ} (w : Width) (mask f truth : ℕ → Bool) → IsState s → d < 16 → do_vector i s ≡ put_tested s d w mask f → ((e : ℕ) → e < lanes s.vl w → f e ≡ truth e) → MakesP (i ∷ []) s d w truth
 tested_p {i = i} {s = s} {d = d} w mask f truth h lt does same =
     let bytes = predicate (width_bytes w) f (lanes s.vl w) in
     record {
@@ -63,7 +63,7 @@ bit_made vl w f e h lt =
     bit-predicate 1 f (lanes vl B) (width_bytes w * e) (let most = (lanes-bound vl B h).1 in omega (arith, inside, most)) ∙ element_bit-bytes f (lanes vl B) (width_bytes w * e) inside
 
 -- bit by bit
-logic_p : {i : Word} {s : State} {d : ℕ} (w : Width) (f truth : ℕ → Bool) → IsState s → d < 16 → do_vector i s ≡ put_truths s d B f → ((e : ℕ) → e < lanes s.vl w → f (width_bytes w * e) ≡ truth e) → MakesP (i ∷ []) s d w truth
+logic_p : {i : VectorInstruction} {s : State} {d : ℕ} (w : Width) (f truth : ℕ → Bool) → IsState s → d < 16 → do_vector i s ≡ put_truths s d B f → ((e : ℕ) → e < lanes s.vl w → f (width_bytes w * e) ≡ truth e) → MakesP (i ∷ []) s d w truth
 logic_p {i = i} {s = s} {d = d} w f truth h lt does same =
     let bytes = predicate 1 f (lanes s.vl B) in
     record {
@@ -121,7 +121,7 @@ module _ {s : State} (w : Width) {n : ℕ} (h : IsState s) (d m : ℕ) (ld : d <
 
   -- ---- comparisons
 
-  compared : (op : LaneCompare) (i : Word) (a b : ℕ) (x y : ℕ → ℤ) (c : ℕ → Bool) → do_vector i s ≡ put_tested s d w (active w (p_at s m)) (compare_at op w (p_at s m) (z_at s a) (z_at s b)) → ZRight w n (z_at s a) x → ZRight w n (z_at s b) y
+  compared : (op : LaneCompare) (i : VectorInstruction) (a b : ℕ) (x y : ℕ → ℤ) (c : ℕ → Bool) → do_vector i s ≡ put_tested s d w (active w (p_at s m)) (compare_at op w (p_at s m) (z_at s a) (z_at s b)) → ZRight w n (z_at s a) x → ZRight w n (z_at s b) y
       → ((e : ℕ) → e < n → is_true op (modulus w) (held w (x e)) (held w (y e)) ≡ c e) → MakesP (i ∷ []) s d w (within n (λ e. on e && c e))
   compared op i a b x y c does ax by_ law =
       tested_p w (active w (p_at s m)) (compare_at op w (p_at s m) (z_at s a) (z_at s b)) _ h ld does

@@ -6,8 +6,8 @@ use Rattle.kernel_tree.specs.Items.{loop_start}
 use Rattle.reg_assign.specs.declared.interval.RegClass.{RegClass}
 use Rattle.reg_assign.specs.declared.interval.RegClass.TheVariants.{Z, P}
 use Rattle.reg_assign.specs.Registers.{Assignment}
-use Rattle.loop_form.specs.declared.loop_item.Source.{Source}
-use Rattle.loop_form.specs.declared.loop_item.Source.TheVariants.{Constant, Outer, LoopIndex, Made}
+use Rattle.loop_form.specs.declared.loop_item.Operand.{Operand}
+use Rattle.loop_form.specs.declared.loop_item.Operand.TheVariants.{Constant, Outer, LoopIndex, Made}
 use Rattle.loop_form.specs.Needs as needs
 use Rattle.loop_form.specs.Needs.{Throughout, scalar_of, same_type, same_number, throughout}
 use Rattle.loop_form.specs.Places.{value_places}
@@ -36,7 +36,7 @@ item_place k class q = flat (slice_get (value_places k class) (q - loop_start k)
 -- ---- values from before the loop
 
 -- what is held throughout the loop for an operand, where it is no value of an item
-abbrev pub throughout_of : Program → Source → Option Throughout
+abbrev pub throughout_of : Program → Operand → Option Throughout
 throughout_of k (Constant t n) = Some (needs.Constant t n)
 throughout_of k (Outer p) = option_map scalar_of (slice_get k.params p)
 throughout_of k LoopIndex = Some needs.Index
@@ -63,7 +63,7 @@ place_of_one ts None = None
 place_of_one ts (Some t) = place_in t ts
 
 -- the place of an operand's interval, and of an accumulator's
-abbrev pub held_place : Program → Source → Option ℕ
+abbrev pub held_place : Program → Operand → Option ℕ
 held_place k x = place_of_one (throughout k Z) (throughout_of k x)
 
 abbrev pub sum_place : Program → List ℕ → Option ℕ
@@ -72,13 +72,13 @@ sum_place k x = place_in (needs.Accumulating x) (throughout k Z)
 -- ---- registers
 
 -- each value has the register of its interval, the one of a condition two more than its number
-abbrev pub source_register : Program → Assignment → Source → ℕ
-source_register k a (Made q) = register_of 31 a (item_place k Z q)
-source_register k a x = register_of 31 a (held_place k x)
+abbrev pub operand_register : Program → Assignment → Operand → ℕ
+operand_register k a (Made q) = register_of 31 a (item_place k Z q)
+operand_register k a x = register_of 31 a (held_place k x)
 
 abbrev pub predicate_register : Program → Assignment → ℕ → ℕ
 predicate_register k b q = 2 + register_of 0 b (item_place k P q)
 
 -- by the registers of the intervals of class Z and of class P
 abbrev pub loop_registers : Program → (a b : Assignment) → Registers
-loop_registers k a b = record { source = source_register k a; z = λ q. source_register k a (Made q); p = predicate_register k b }
+loop_registers k a b = record { source = operand_register k a; z = λ q. operand_register k a (Made q); p = predicate_register k b }

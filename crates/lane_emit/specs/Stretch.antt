@@ -10,10 +10,10 @@ use Rattle.machine_model.specs.VectorEffects.{do_vector}
 use Rattle.machine_model.specs.States.{IsState}
 use Rattle.lane_emit.specs.Right.{ZRight, PRight}
 
-abbrev pub Word : Type 0
-Word = Instruction Name
+abbrev pub VectorInstruction : Type 0
+VectorInstruction = Instruction Name
 
-abbrev pub word : Name → List ℕ → Word
+abbrev pub word : Name → List ℕ → VectorInstruction
 word name numbers = record { name = name; numbers = numbers }
 
 abbrev pub and_then : Step → (State → Step) → Step
@@ -22,7 +22,7 @@ and_then (Ended result) f = Ended result
 and_then (Stopped kind pc at memory) f = Stopped kind pc at memory
 
 -- the instructions in order
-abbrev pub do_all : List Word → State → Step
+abbrev pub do_all : List VectorInstruction → State → Step
 do_all [] s = Went s
 do_all (v ∷ vs) s = and_then (do_vector v s) (do_all vs)
 
@@ -56,7 +56,7 @@ pub record Ready (w : Width) (n : ℕ) (s : State) : Type 0 where
   pub all : PRight w n (p_at s 1) all_at
 
 -- code that leaves a value in vector register d, right in n lanes, and changes nothing else
-pub record MakesZ (c : List Word) (s : State) (d : ℕ) (w : Width) (n : ℕ) (value : ℕ → ℤ) : Type 0 where
+pub record MakesZ (c : List VectorInstruction) (s : State) (d : ℕ) (w : Width) (n : ℕ) (value : ℕ → ℤ) : Type 0 where
   pub end : State
   pub runs : do_all c s ≡ Went end
   pub is : IsState end
@@ -64,7 +64,7 @@ pub record MakesZ (c : List Word) (s : State) (d : ℕ) (w : Width) (n : ℕ) (v
   pub right : ZRight w n (z_at end d) value
 
 -- the same with a truth in predicate register d, also false in all elements of the vector length after the lanes
-pub record MakesP (c : List Word) (s : State) (d : ℕ) (w : Width) (truth : ℕ → Bool) : Type 0 where
+pub record MakesP (c : List VectorInstruction) (s : State) (d : ℕ) (w : Width) (truth : ℕ → Bool) : Type 0 where
   pub end : State
   pub runs : do_all c s ≡ Went end
   pub is : IsState end

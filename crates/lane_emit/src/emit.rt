@@ -28,14 +28,14 @@ fn emit_operator(
 {
     let d = registers.z(item);
     match *op {
-        LoopOp::Apply {
+        LoopOp::Unary {
             op,
             ty: Some(ty),
             arg,
         } => {
             apply(words, width, op, ty, d, registers.source(arg))?;
         }
-        LoopOp::Combine {
+        LoopOp::Binary {
             op,
             ty: Some(ty),
             left,
@@ -63,10 +63,10 @@ fn emit_value(
 {
     let d = registers.z(item);
     match *op {
-        LoopOp::Apply { .. } | LoopOp::Combine { .. } => {
+        LoopOp::Unary { .. } | LoopOp::Binary { .. } => {
             emit_operator(words, width, registers, item, op)?;
         }
-        LoopOp::Move {
+        LoopOp::Shift {
             left,
             count,
             ty: Some(ty),
@@ -81,8 +81,8 @@ fn emit_value(
         } => {
             cast(words, width, from, to, d, registers.source(arg))?;
         }
-        LoopOp::Copy { arg, .. } => z_copy(words, d, registers.source(arg))?,
-        LoopOp::Pick { cond, yes, no, .. } => {
+        LoopOp::Let { arg, .. } => z_copy(words, d, registers.source(arg))?,
+        LoopOp::Select { cond, yes, no, .. } => {
             let p = wide(registers.p(cond));
             words.push(select(width, d, p, registers.source(yes), registers.source(no)))?;
         }
@@ -106,7 +106,7 @@ fn emit_truth(
     let d = wide(registers.p(item));
     let m = wide(mask);
     match *op {
-        LoopOp::Test {
+        LoopOp::Compare {
             op,
             ty: Some(ty),
             left,
@@ -116,15 +116,15 @@ fn emit_truth(
             let b = registers.source(right);
             words.push(test(op, ty, width, d, mask, a, b))?;
         }
-        LoopOp::Invert(c) => {
+        LoopOp::Not(c) => {
             let c = wide(registers.p(c));
             words.push(logical(PredicateLogicalOp::Bic, d, m, m, c))?;
         }
-        LoopOp::Same(c) => {
+        LoopOp::And(c) => {
             let c = wide(registers.p(c));
             words.push(logical(PredicateLogicalOp::And, d, m, c, c))?;
         }
-        LoopOp::Any(a, b) => {
+        LoopOp::Or(a, b) => {
             let a = wide(registers.p(a));
             let b = wide(registers.p(b));
             words.push(logical(PredicateLogicalOp::Orr, d, m, a, b))?;

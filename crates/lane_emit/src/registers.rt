@@ -3,15 +3,15 @@
 ghost use Rattle.std.specs.Prelude.{◌≡◌, ◌+◌, ◌-◌, length, slice_get, is_some};
 ghost use Rattle.reg_assign.specs.declared.interval.RegClass.TheVariants as class;
 ghost use Rattle.reg_assign.specs.Registers.{IsAssignment};
-ghost use Rattle.loop_form.specs.declared.loop_item.Source.TheVariants as operand;
+ghost use Rattle.loop_form.specs.declared.loop_item.Operand.TheVariants as operand;
 ghost use Rattle.loop_form.specs.HeldView.{view_of};
 ghost use Rattle.loop_form.specs.Needs as needs;
 ghost use Rattle.loop_form.specs.Registers.{FitsKernel};
 ghost use Rattle.loop_form.specs.View.{program};
-ghost use Rattle.lane_emit.specs.LoopRegisters.{IsWithin, flat, register_of, place_in, held_place, sum_place, source_register};
+ghost use Rattle.lane_emit.specs.LoopRegisters.{IsWithin, flat, register_of, place_in, held_place, sum_place, operand_register};
 
 use crate::held_place::place_among;
-use loop_form::{Held, LoopFacts, Source};
+use loop_form::{Held, LoopFacts, Operand};
 use reg_assign::{Assigned, VectorRegs};
 use sve_code::{GoverningReg, VectorReg};
 use word_rows::Bits;
@@ -79,7 +79,7 @@ impl<'a> LaneRegisters<'a> {
     // The vector register of a parameter.
     #[tactic(auto, unfolding(loop_form::specs::View::program))]
     fn param(&self, place: u32) -> VectorReg
-        ensures { result.number ≡ source_register (kernel_in self.now) (vectors_in self.now) (operand.Outer place) }
+        ensures { result.number ≡ operand_register (kernel_in self.now) (vectors_in self.now) (operand.Outer place) }
     {
         match self.facts.kernel.kernel().params.get(place as usize) {
             None => Bits { number: 31 },
@@ -104,14 +104,14 @@ impl<'a> LaneRegisters<'a> {
     }
 
     /// The vector register of an operand.
-    pub fn source(&self, source: Source) -> VectorReg
+    pub fn source(&self, source: Operand) -> VectorReg
         ensures { result.number ≡ (registers_of self.now).source source }
     {
         match source {
-            Source::Constant(ty, number) => self.held_register(Held::Constant(ty, number)),
-            Source::Outer(place) => self.param(place),
-            Source::LoopIndex => self.held_register(Held::Index),
-            Source::Made(item) => self.z(item),
+            Operand::Constant(ty, number) => self.held_register(Held::Constant(ty, number)),
+            Operand::Outer(place) => self.param(place),
+            Operand::LoopIndex => self.held_register(Held::Index),
+            Operand::Made(item) => self.z(item),
         }
     }
 

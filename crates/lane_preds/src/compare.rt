@@ -121,7 +121,7 @@ fn each_block(
 }
 
 // Elements of 8 bits. The width and the comparison are chosen before the loop, so that each has a loop of its own. One
-// function of all widths would grow so large that the compiler chose the width in each turn of the loop.
+// function of all widths would grow so large that the compiler chose the width in each iteration of the loop.
 #[inline(never)]
 fn compare_in_8(op: LaneCompare, vl: Vl, pg: &PReg, left: &ZReg, right: &ZReg, out: &mut PReg)
     ensures { out.new.bits ≡ compare_of op Width.B (lanes vl Width.B) pg.now.bits left.now.bytes right.now.bytes }

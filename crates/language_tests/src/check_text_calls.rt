@@ -7,7 +7,7 @@ use kernel_front::accept;
 use kernel_tree::{BinaryOp, Ty};
 use loop_class::class;
 use loop_form::need::Needs;
-use loop_form::{Item, ItemKind, LoopOp, Source, Stream};
+use loop_form::{Item, ItemKind, LoopOp, Operand, Stream};
 use loop_items::loop_items;
 use loop_lists::{index_reach, intervals, lane_width, listing, needs, streams};
 use reg_assign::{Interval, RegClass};
@@ -108,11 +108,11 @@ fn items_of_the_loop(rt: HostRuntime) -> Result<(), Fail> {
     assert_eq!(rt; items[4].item, 10);
     let product = matches!(
         items[2].op,
-        LoopOp::Combine {
+        LoopOp::Binary {
             op: BinaryOp::Mul,
             ty: Some(Ty::I32),
-            left: Source::Outer(2),
-            right: Source::Made(7),
+            left: Operand::Outer(2),
+            right: Operand::Made(7),
         }
     );
     assert!(rt; product);

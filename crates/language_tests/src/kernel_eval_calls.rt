@@ -48,7 +48,7 @@ fn count(alloc: Global) -> Result<Checked, Fail> {
         name: name(alloc, "n")?,
         shape: Shape::Scalar(Ty::U64),
     })?;
-    let turns = Loop {
+    let for_loop = Loop {
         index: name(alloc, "i")?,
         bound: name(alloc, "n")?,
         body: Vec::new(alloc),
@@ -61,7 +61,7 @@ fn count(alloc: Global) -> Result<Checked, Fail> {
         name: name(alloc, "f")?,
         params,
         vars: Vec::new(alloc),
-        body: Some(turns),
+        body: Some(for_loop),
         answer: Some(answer),
     };
     let mut types = Vec::new(alloc);

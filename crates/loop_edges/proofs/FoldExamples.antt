@@ -23,7 +23,7 @@ two_sums = record {
   name = f;
   params = record { name = a; shape = shape.Array ty.I16 } ∷ record { name = b; shape = shape.Array ty.U32 } ∷ record { name = n; shape = shape.Scalar ty.U64 } ∷ [];
   vars = record { name = s; type = ty.I16; init = (Literal (pos 0)) } ∷ record { name = t; type = ty.U32; init = (Literal (pos 0)) } ∷ [];
-  turns = Some (record { index = i; bound = n; body = (Then (Update s update.Min (Element a (Variable i))) (Then (Update t update.Add (Element b (Variable i))) Done)) });
+  for_loop = Some (record { index = i; bound = n; body = (Then (Update s update.Min (Element a (Variable i))) (Then (Update t update.Add (Element b (Variable i))) Done)) });
   answer = None;
 }
 

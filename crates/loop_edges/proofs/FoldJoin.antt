@@ -14,7 +14,7 @@ use Rattle.machine_model.specs.Machine.{State, x_at, z_at}
 use Rattle.machine_model.specs.States.{IsState}
 use Rattle.machine_model.proofs.ScalarStates.{scalar_keeps}
 use Rattle.a64_code.specs.Table.{umov}
-use Rattle.label_fix.specs.DraftRun.{Entry, Laid, ins, word_of}
+use Rattle.label_fix.specs.DraftRun.{DraftEntry, Laid, ins, word_of}
 use Rattle.label_fix.specs.Stretches.{Goes}
 use Rattle.label_fix.proofs.StretchSteps.{put_goes, chain}
 use Rattle.lane_emit.specs.Right.{IsOf}
@@ -57,7 +57,7 @@ bare_assigned = record {
 }
 
 -- One general register has the value now; besides it, those from X26 on and Z31 alone may differ.
-pub record Joined (D : Laid) (c : List Entry) (s : State) (rest : List Entry) (x : ℕ) (v : ℤ) (most : ℕ) : Type 0 where
+pub record Joined (D : Laid) (c : List DraftEntry) (s : State) (rest : List DraftEntry) (x : ℕ) (v : ℤ) (most : ℕ) : Type 0 where
   pub end : State
   pub goes : Goes D c s rest end most
   pub is : IsState end
@@ -70,7 +70,7 @@ pub record Joined (D : Laid) (c : List Entry) (s : State) (rest : List Entry) (x
 
 module _ (D : Laid) (w : Width) (op : UpdateOp) (t : Ty) where
   -- after the reduction: into X27, extended, and joined with the register x
-  joined_from : (x : ℕ) (acc v : ℤ) (s : State) (rest : List Entry) → IsState s → element 8 (z_at s 31) 0 % 2 ^ bits_of t ≡ residue (bits_of t) v → IsOf t v → IsOf t acc → x ≤ 25 → x_at s x ≡ word acc
+  joined_from : (x : ℕ) (acc v : ℤ) (s : State) (rest : List DraftEntry) → IsState s → element 8 (z_at s 31) 0 % 2 ^ bits_of t ≡ residue (bits_of t) v → IsOf t v → IsOf t acc → x ≤ 25 → x_at s x ≡ word acc
       → Joined D (ins umov (27 ∷ 31 ∷ []) ∷ word_code (settle_word true t 27) (scalar.binary_code (operator_of op) t x x 27 rest)) s rest x (joined op t acc v) 5
   joined_from x acc v s rest is low of_v of_acc le has =
       let d = element 8 (z_at s 31) 0 in
@@ -99,7 +99,7 @@ module _ (D : Laid) (w : Width) (op : UpdateOp) (t : Ty) where
       }
 
   -- the whole
-  pub join_runs : (z x : ℕ) (acc : ℤ) (taken : ℕ → ℤ) (s : State) (rest : List Entry) → Ready w (lanes s.vl w) s → bits_of t ≤ width_bits w → LanesHold op t w (lanes s.vl w) (z_at s z) taken → ((e : ℕ) → e < lanes s.vl w → IsOf t (taken e)) → IsOf t acc → x ≤ 25 → x_at s x ≡ word acc
+  pub join_runs : (z x : ℕ) (acc : ℤ) (taken : ℕ → ℤ) (s : State) (rest : List DraftEntry) → Ready w (lanes s.vl w) s → bits_of t ≤ width_bits w → LanesHold op t w (lanes s.vl w) (z_at s z) taken → ((e : ℕ) → e < lanes s.vl w → IsOf t (taken e)) → IsOf t acc → x ≤ 25 → x_at s x ≡ word acc
       → Joined D (join_code w op t z x rest) s rest x (joined op t acc (together op t (lanes s.vl w) taken)) 6
   join_runs z x acc taken s rest ready wide holds of of_acc le has =
       let n = lanes s.vl w in

@@ -17,7 +17,7 @@ use Rattle.loop_form.specs.Needs.{Throughout, Scalar, Constant, Index, Accumulat
 use Rattle.loop_form.specs.Registers.{FitsKernel}
 use Rattle.loop_form.proofs.IntervalRegisters.{chosen_of}
 use Rattle.loop_form.proofs.PlaceLaws.{throughout-place}
-use Rattle.label_fix.specs.DraftRun.{Entry, Laid}
+use Rattle.label_fix.specs.DraftRun.{DraftEntry, Laid}
 use Rattle.label_fix.specs.Stretches.{Goes}
 use Rattle.label_fix.proofs.StretchSteps.{stay, chain}
 use Rattle.lane_emit.specs.Right.{PRight}
@@ -52,7 +52,7 @@ pub record Folding (g : Ground) (c : Assignment) (cur : Names) (sum : List ℕ �
   pub others : (r : ℕ) → r ≤ 25 → ((x : List ℕ) (m : ℕ) → sum_place g.kernel x ≡ Some m → r ≢ home_of g c x) → x_at t r ≡ x_at s r
 
 -- the code from place j on
-pub record Folded (g : Ground) (c : Assignment) (cur : Names) (sum : List ℕ → ℕ → ℤ) (s : State) (D : Laid) (code : List Entry) (t : State) (rest : List Entry) (j most : ℕ) : Type 0 where
+pub record Folded (g : Ground) (c : Assignment) (cur : Names) (sum : List ℕ → ℕ → ℤ) (s : State) (D : Laid) (code : List DraftEntry) (t : State) (rest : List DraftEntry) (j most : ℕ) : Type 0 where
   pub end : State
   pub goes : Goes D code t rest end most
   pub folding : Folding g c cur sum s j end
@@ -88,7 +88,7 @@ module _ (g : Ground) (ok : IsGround g) (c : Assignment) (fit : FitsKernel g.ker
   home_low x m e = (low_at (kernel_homes (register_in c) k) x homes.low (found x m e)).0
 
   -- its code, at its place
-  join_code_runs : (y : List ℕ) (j : ℕ) (t : State) (rest : List Entry) → sum_place k y ≡ Some j → Folding g c cur sum s j t
+  join_code_runs : (y : List ℕ) (j : ℕ) (t : State) (rest : List DraftEntry) → sum_place k y ≡ Some j → Folding g c cur sum s j t
       → Joined D (join_code (width g) (update_of k y) (type_of_var k y) (slice_index g.vectors.registers j) (home_of g c y) rest) t rest (home_of g c y) (value_at cur y) 6
   join_code_runs y j t rest p h =
       let so = b.sums y (updated y j p) in
@@ -102,7 +102,7 @@ module _ (g : Ground) (ok : IsGround g) (c : Assignment) (fit : FitsKernel g.ker
       subst (λ v. Joined D (join_code w (update_of k y) (type_of_var k y) z (home_of g c y) rest) t rest (home_of g c y) v 6) now q
 
   -- one accumulator
-  join_one : (y : List ℕ) (j : ℕ) (t : State) (rest : List Entry) → slice_get (throughout k Z) j ≡ Some (Accumulating y) → Folding g c cur sum s j t
+  join_one : (y : List ℕ) (j : ℕ) (t : State) (rest : List DraftEntry) → slice_get (throughout k Z) j ≡ Some (Accumulating y) → Folding g c cur sum s j t
       → Folded g c cur sum s D (fold_one (register_in c) k (slice_index g.vectors.registers j) (Accumulating y) rest) t rest (suc j) 6
   join_one y j t rest e h =
       let p = first_place k y j ok.sound e in
@@ -153,14 +153,14 @@ module _ (g : Ground) (ok : IsGround g) (c : Assignment) (fit : FitsKernel g.ker
       other : (x : List ℕ) (m : ℕ) → sum_place k x ≡ Some m → m ≢ j
       other x m f q = sum_only x (sym e ∙ ap (slice_get (throughout k Z)) (sym q) ∙ name_at k x m f)
 
-  fold_one_runs : (u : Throughout) (j : ℕ) (t : State) (rest : List Entry) → slice_get (throughout k Z) j ≡ Some u → Folding g c cur sum s j t → Folded g c cur sum s D (fold_one (register_in c) k (slice_index g.vectors.registers j) u rest) t rest (suc j) (joined_steps u)
+  fold_one_runs : (u : Throughout) (j : ℕ) (t : State) (rest : List DraftEntry) → slice_get (throughout k Z) j ≡ Some u → Folding g c cur sum s j t → Folded g c cur sum s D (fold_one (register_in c) k (slice_index g.vectors.registers j) u rest) t rest (suc j) (joined_steps u)
   fold_one_runs (Accumulating y) j t rest e h = join_one y j t rest e h
   fold_one_runs (Scalar x) j t rest e h = record { end = t; goes = stay 0; folding = skip_one (Scalar x) j t e refl h }
   fold_one_runs (Constant v n) j t rest e h = record { end = t; goes = stay 0; folding = skip_one (Constant v n) j t e refl h }
   fold_one_runs Index j t rest e h = record { end = t; goes = stay 0; folding = skip_one Index j t e refl h }
 
   -- the accumulators from place j on
-  folds_run : (us : List Throughout) (j : ℕ) (t : State) (rest : List Entry) → ((m : ℕ) → slice_get (throughout k Z) (j + m) ≡ slice_get us m) → Folding g c cur sum s j t
+  folds_run : (us : List Throughout) (j : ℕ) (t : State) (rest : List DraftEntry) → ((m : ℕ) → slice_get (throughout k Z) (j + m) ≡ slice_get us m) → Folding g c cur sum s j t
       → Folded g c cur sum s D (folds_code (register_in c) k g.vectors j us rest) t rest (j + length us) (joined_all us)
   folds_run [] j t rest at h = let e : j ≡ j + 0 = omega arith in record { end = t; goes = stay 0; folding = subst (λ m. Folding g c cur sum s m t) e h }
   folds_run (u ∷ us) j t rest at h =
@@ -175,7 +175,7 @@ module _ (g : Ground) (ok : IsGround g) (c : Assignment) (fit : FitsKernel g.ker
       }
 
   -- all of them
-  pub all_folded : (t : State) (rest : List Entry) → Folding g c cur sum s 0 t → Folded g c cur sum s D (folds_code (register_in c) k g.vectors 0 (throughout k Z) rest) t rest (length (throughout k Z)) (joined_all (throughout k Z))
+  pub all_folded : (t : State) (rest : List DraftEntry) → Folding g c cur sum s 0 t → Folded g c cur sum s D (folds_code (register_in c) k g.vectors 0 (throughout k Z) rest) t rest (length (throughout k Z)) (joined_all (throughout k Z))
   all_folded t rest h =
       let r = folds_run (throughout k Z) 0 t rest (λ m. let e : 0 + m ≡ m = omega arith in ap (slice_get (throughout k Z)) e) h in
       let e : 0 + length (throughout k Z) ≡ length (throughout k Z) = omega arith in

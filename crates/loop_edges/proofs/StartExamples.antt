@@ -23,7 +23,7 @@ lowest = record {
   name = f;
   params = record { name = a; shape = shape.Array ty.I16 } ∷ record { name = b; shape = shape.Scalar ty.I16 } ∷ record { name = n; shape = shape.Scalar ty.U64 } ∷ [];
   vars = record { name = s; type = ty.I16; init = (Literal (pos 0)) } ∷ [];
-  turns = Some (record { index = i; bound = n; body = (Then (Update s update.Min (Operation binary.Add (Element a (Variable i)) (Operation binary.And (Variable b) (Literal (negsuc 1))))) Done) });
+  for_loop = Some (record { index = i; bound = n; body = (Then (Update s update.Min (Operation binary.Add (Element a (Variable i)) (Operation binary.And (Variable b) (Literal (negsuc 1))))) Done) });
   answer = None;
 }
 

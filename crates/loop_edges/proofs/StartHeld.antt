@@ -23,7 +23,7 @@ use Rattle.kernel_meaning.specs.ScalarRun.{started}
 use Rattle.kernel_meaning.specs.Ranges.{TypeRange}
 use Rattle.kernel_meaning.proofs.NameRanges.{found_type, name_range}
 use Rattle.kernel_meaning.proofs.StartRanges.{started_ranged}
-use Rattle.loop_form.specs.Entries.{Content, IsLiteral, IsName, IsRead, IsLet, IsStore, IsUpdate, IsPlain, Entry, loop_entries}
+use Rattle.loop_form.specs.Entries.{Content, IsLiteral, IsName, IsUpdate, Entry, loop_entries}
 use Rattle.loop_form.specs.Lanes.{var_type, target_type, lane_width_of}
 use Rattle.loop_form.specs.Listing.{names}
 use Rattle.loop_form.specs.Needs.{Throughout, is_scalar, is_named_scalar, scalar_of, scalars, new_constant, is_constant, constants, index_held, is_update, updates, is_updated, accumulating_of, same_type, same_number, throughout}
@@ -82,11 +82,7 @@ new_comes k before t (IsLiteral n) = by (list_any (is_constant t n) before)
     by true = tt
     by false = (tt, tt)
 new_comes k before t (IsName x) = tt
-new_comes k before t (IsRead a i) = tt
-new_comes k before t (IsLet x) = tt
-new_comes k before t (IsStore a i) = tt
-new_comes k before t (IsUpdate x op) = tt
-new_comes k before t (IsPlain c) = tt
+new_comes k before t other = tt
 
 constants_come : (k : Program) (before es : List Entry) → AllCome k (constants before es)
 unfolding constants
@@ -233,12 +229,7 @@ sum_typed k args m names x t sound e is =
 
 update_wide : (k : Program) (w : Width) (x : List ℕ) (t : Ty) (c : Content) → ((u : Ty) → target_type k c ≡ Some u → bits_of u ≤ width_bits w) → is_update x c ≡ true → var_type x k.vars ≡ Some t → bits_of t ≤ width_bits w
 update_wide k w x t (IsUpdate y op) h e is = h t (ap (λ z. var_type z k.vars) (bytes_told y x e) ∙ is)
-update_wide k w x t (IsLiteral n) h e is = absurd cc
-update_wide k w x t (IsName y) h e is = absurd cc
-update_wide k w x t (IsRead a i) h e is = absurd cc
-update_wide k w x t (IsLet y) h e is = absurd cc
-update_wide k w x t (IsStore a i) h e is = absurd cc
-update_wide k w x t (IsPlain c) h e is = absurd cc
+update_wide k w x t other h e is = absurd cc
 
 updated_wide : (k : Program) (w : Width) (x : List ℕ) (t : Ty) (es : List Entry) → AreWide k w es → list_any (updates x) es ≡ true → var_type x k.vars ≡ Some t → bits_of t ≤ width_bits w
 updated_wide k w x t [] h e is = absurd cc

@@ -4,7 +4,7 @@ use Rattle.std.specs.Prelude.{is_some, option_map, slice_index, slice_get, unwra
 use Rattle.std.proofs.lemmas.Bool.Decides.{eqb_tells}
 use Rattle.std.proofs.lemmas.Option.{slice_get_within}
 use Rattle.guest_types.specs.declared.length.Width.{Width}
-use Rattle.guest_types.specs.declared.length.Width.TheVariants.{B, H, S, D}
+use Rattle.guest_types.specs.declared.length.Width.TheVariants.{B}
 use Rattle.guest_types.specs.Length.{IsLength, width_bytes, lanes}
 use Rattle.guest_types.specs.Elements.{active, predicate}
 use Rattle.guest_types.specs.Lanes.{all_at}
@@ -20,11 +20,11 @@ use Rattle.kernel_tree.specs.Plain.{Parameter}
 use Rattle.kernel_tree.specs.Items.{size_of}
 use Rattle.kernel_meaning.specs.Operators.{wrapped}
 use Rattle.kernel_meaning.specs.Eval.{Names, value_at}
-use Rattle.label_fix.specs.DraftRun.{Entry, Laid}
+use Rattle.label_fix.specs.DraftRun.{DraftEntry, Laid}
 use Rattle.label_fix.proofs.StretchSteps.{Goes, stay, put_goes, chain}
 use Rattle.reg_assign.specs.declared.interval.RegClass.TheVariants.{Z}
-use Rattle.loop_form.specs.declared.loop_item.Source.{Source}
-use Rattle.loop_form.specs.declared.loop_item.Source.TheVariants.{Constant, Outer, LoopIndex, Made}
+use Rattle.loop_form.specs.declared.loop_item.Operand.{Operand}
+use Rattle.loop_form.specs.declared.loop_item.Operand.TheVariants.{Constant, Outer, LoopIndex, Made}
 use Rattle.loop_form.specs.Needs.{Throughout, scalar_of, throughout}
 use Rattle.loop_form.specs.Streams.{place_of}
 use Rattle.loop_form.proofs.IntervalRegisters.{Chosen, chosen_of}
@@ -54,9 +54,7 @@ use Rattle.chunk_emit.proofs.FitsAssigned.{there}
 
 low_bit : (vl : ℕ) (w : Width) (e : ℕ) → IsLength vl → e < lanes vl w → width_bytes w * e < lanes vl B
 low_bit vl B e h lt = omega (arith, h, lt)
-low_bit vl H e h lt = omega (arith, h, lt)
-low_bit vl S e h lt = omega (arith, h, lt)
-low_bit vl D e h lt = omega (arith, h, lt)
+low_bit vl other e h lt = omega (arith, h, lt)
 
 few_bits : (vl : ℕ) → IsLength vl → lanes vl B ≤ 256
 few_bits vl h = omega (arith, h)
@@ -94,13 +92,13 @@ module _ (g : Ground) (m : Memory) (h : IsGround g) where
   abbrev AreLaid : ℕ → State → Type 0
   AreLaid j s = (i : ℕ) (t : Throughout) → i < j → slice_get all i ≡ Some t → RightIn g t (z_at s (slice_index registers i))
 
-  record AllLaid (d : Laid) (c : List Entry) (s : State) (rest : List Entry) (j most : ℕ) : Type 0 where
+  record AllLaid (d : Laid) (c : List DraftEntry) (s : State) (rest : List DraftEntry) (j most : ℕ) : Type 0 where
     end : State
     goes : Goes d c s rest end most
     stays : Stays g m end
     laid : AreLaid j end
 
-  laid_next : (d : Laid) (j : ℕ) (t : Throughout) (c : List Entry) (s : State) (rest : List Entry) → slice_get all j ≡ Some t → (l : Lays g m d t (slice_index registers j) c s rest) → AreLaid j s → AreLaid (suc j) l.end
+  laid_next : (d : Laid) (j : ℕ) (t : Throughout) (c : List DraftEntry) (s : State) (rest : List DraftEntry) → slice_get all j ≡ Some t → (l : Lays g m d t (slice_index registers j) c s rest) → AreLaid j s → AreLaid (suc j) l.end
   laid_next d j t c s rest e l before i u lt f =
       ⊎_elim
       (λ same.
@@ -109,7 +107,7 @@ module _ (g : Ground) (m : Memory) (h : IsGround g) where
       (λ other. subst (RightIn g u) (sym (l.others (slice_index registers i) (registers_apart i j u t other.1 f e))) (before i u (omega (arith, lt, other.1)) f))
       (eqb_tells i j)
 
-  lay_all : (ts : List Throughout) (j : ℕ) (d : Laid) (rest : List Entry) (s : State) → ((i : ℕ) → slice_get all (j + i) ≡ slice_get ts i) → Stays g m s → AreLaid j s → AllLaid d (holds_code g.kernel g.vectors j ts rest) s rest (j + length ts) (laid_all ts)
+  lay_all : (ts : List Throughout) (j : ℕ) (d : Laid) (rest : List DraftEntry) (s : State) → ((i : ℕ) → slice_get all (j + i) ≡ slice_get ts i) → Stays g m s → AreLaid j s → AllLaid d (holds_code g.kernel g.vectors j ts rest) s rest (j + length ts) (laid_all ts)
   lay_all [] j d rest s here k before = record {
     end = s;
     goes = stay 0;
@@ -156,16 +154,16 @@ module _ (g : Ground) (m : Memory) (h : IsGround g) where
           typed = λ a. subst (λ o. IsOf (scalar_type o) (nth_value g.names p)) (sym is) (parameter_typed g.kernel g.args g.start g.names p q.name c.1 h.begins is);
         }
 
-    source_held : (x : Source) → (layout g).held x ≡ true → x ≢ LoopIndex → HeldAll g end x
-    source_held (Constant t n) held ne =
+    operand_held : (x : Operand) → (layout g).held x ≡ true → x ≢ LoopIndex → HeldAll g end x
+    operand_held (Constant t n) held ne =
         let i = there (place_in (needs.Constant t n) all) held in
         record {
           right = λ a. subst (λ o. ZRight (width g) (most_lanes g) (z_at end (register_of 31 g.vectors o)) (λ e. wrapped t n)) (sym i.1) (laid_at (needs.Constant t n) i.0 i.1);
           typed = λ a. constant_typed t n;
         }
-    source_held (Outer p) held ne = outer_held p (slice_get g.kernel.params p) refl held
-    source_held LoopIndex held ne = absurd (ne refl)
-    source_held (Made q) held ne = absurd cc
+    operand_held (Outer p) held ne = outer_held p (slice_get g.kernel.params p) refl held
+    operand_held LoopIndex held ne = absurd (ne refl)
+    operand_held (Made q) held ne = absurd cc
 
     sum_lanes : (x : List ℕ) → (layout g).updated x ≡ true
         → LanesHold ((layout g).update x) ((layout g).sum_type x) (width g) (most_lanes g) (z_at end ((layout g).sum x)) (nothing_taken g x)
@@ -207,7 +205,7 @@ module _ (g : Ground) (m : Memory) (h : IsGround g) where
     index = k.index;
     x = λ r le ne. k.x r le;
     all = k.all;
-    held = source_held end laid;
+    held = operand_held end laid;
     lanes = sum_lanes end laid;
   }
 

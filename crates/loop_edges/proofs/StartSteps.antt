@@ -14,7 +14,7 @@ use Rattle.kernel_tree.specs.declared.ast.Shape.TheVariants as shape
 use Rattle.kernel_tree.specs.Wrap.{bits_of}
 use Rattle.kernel_meaning.specs.Operators.{word, wrapped}
 use Rattle.kernel_meaning.proofs.Residues.{word-below}
-use Rattle.label_fix.specs.DraftRun.{Entry, Laid}
+use Rattle.label_fix.specs.DraftRun.{DraftEntry, Laid}
 use Rattle.label_fix.proofs.StretchSteps.{Goes, stay, chain}
 use Rattle.loop_form.specs.Needs as needs
 use Rattle.loop_form.specs.Needs.{Throughout}
@@ -41,7 +41,7 @@ use Rattle.loop_edges.proofs.StartHeld.{Comes, param_place, sum_wide}
 -- ---- a constant in X26
 
 -- a number in X26, and no other register changed but the program counter
-pub record IsNumber (d : Laid) (v : ℕ) (c : List Entry) (s : State) (rest : List Entry) : Type 0 where
+pub record IsNumber (d : Laid) (v : ℕ) (c : List DraftEntry) (s : State) (rest : List DraftEntry) : Type 0 where
   pub end : State
   pub goes : Goes d c s rest end 4
   pub is : IsState end
@@ -52,7 +52,7 @@ pub record IsNumber (d : Laid) (v : ℕ) (c : List Entry) (s : State) (rest : Li
   pub vl : end.vl ≡ s.vl
   pub memory : end.memory ≡ s.memory
 
-pub number_set : (d : Laid) (v : ℕ) (s : State) (rest : List Entry) → IsState s → v < 2 ^ 64 → IsNumber d v (const_code 26 v rest) s rest
+pub number_set : (d : Laid) (v : ℕ) (s : State) (rest : List DraftEntry) → IsState s → v < 2 ^ 64 → IsNumber d v (const_code 26 v rest) s rest
 number_set d v s rest is small =
     let k = const_fills d 26 (omega arith) v s rest is.x_count small in
     record {
@@ -87,14 +87,14 @@ RightIn g (needs.Accumulating x) z =
     LanesHold (update_of g.kernel x) (type_of_var g.kernel x) (width g) (most_lanes g) z (λ e. identity (update_of g.kernel x) (type_of_var g.kernel x))
 
 -- code that lays a value into a vector register, and changes no other one
-pub record Lays (g : Ground) (m : Memory) (d : Laid) (t : Throughout) (z : ℕ) (c : List Entry) (s : State) (rest : List Entry) : Type 0 where
+pub record Lays (g : Ground) (m : Memory) (d : Laid) (t : Throughout) (z : ℕ) (c : List DraftEntry) (s : State) (rest : List DraftEntry) : Type 0 where
   pub end : State
   pub goes : Goes d c s rest end (laid_steps t)
   pub stays : Stays g m end
   pub others : (r : ℕ) → r ≢ z → z_at end r ≡ z_at s r
   pub right : RightIn g t (z_at end z)
 
-stays_number : {g : Ground} {m : Memory} {d : Laid} {v : ℕ} {c rest : List Entry} {s : State} → Stays g m s → (n : IsNumber d v c s rest) → Stays g m n.end
+stays_number : {g : Ground} {m : Memory} {d : Laid} {v : ℕ} {c rest : List DraftEntry} {s : State} → Stays g m s → (n : IsNumber d v c s rest) → Stays g m n.end
 stays_number {g = g} h n = record {
   is = n.is;
   vl = n.vl ∙ h.vl;
@@ -114,7 +114,7 @@ stays_only {g = g} h is o = record {
   all = λ e lt. ap (λ p. active (width g) (slice_index_or p 1 []) e) o.p ∙ h.all e lt;
 }
 
-module _ (g : Ground) (m : Memory) (h : IsGround g) (d : Laid) (rest : List Entry) (z : ℕ) (small : z < 32) where
+module _ (g : Ground) (m : Memory) (h : IsGround g) (d : Laid) (rest : List DraftEntry) (z : ℕ) (small : z < 32) where
   -- from a general register
   hold_scalar : (x : List ℕ) (s : State) → Comes g.kernel (needs.Scalar x) → Stays g m s → Lays g m d (needs.Scalar x) z (hold_code g.kernel z (needs.Scalar x) rest) s rest
   hold_scalar x s c k =

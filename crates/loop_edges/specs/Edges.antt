@@ -8,7 +8,7 @@ use Rattle.kernel_meaning.specs.Eval.{Names}
 use Rattle.kernel_meaning.specs.Ranges.{AreRanged}
 use Rattle.machine_model.specs.Machine.{State, x_at}
 use Rattle.machine_model.specs.States.{IsState}
-use Rattle.label_fix.specs.DraftRun.{Entry, Laid}
+use Rattle.label_fix.specs.DraftRun.{DraftEntry, Laid}
 use Rattle.label_fix.specs.Stretches.{Goes}
 use Rattle.reg_assign.specs.declared.interval.RegClass.TheVariants.{X, Z}
 use Rattle.reg_assign.specs.Registers.{Assignment}
@@ -26,7 +26,7 @@ abbrev pub nothing_taken : Ground → List ℕ → ℕ → ℤ
 nothing_taken g x e = identity ((layout g).update x) ((layout g).sum_type x)
 
 -- At most so many words lead to the state before the first pass.
-pub record Starts (g : Ground) (m : Memory) (d : Laid) (code : List Entry) (s : State) (rest : List Entry) (most : ℕ) : Type 0 where
+pub record Starts (g : Ground) (m : Memory) (d : Laid) (code : List DraftEntry) (s : State) (rest : List DraftEntry) (most : ℕ) : Type 0 where
   pub end : State
   pub goes : Goes d code s rest end most
   pub head : AtHead g 0 g.names m (nothing_taken g) end
@@ -34,11 +34,11 @@ pub record Starts (g : Ground) (m : Memory) (d : Laid) (code : List Entry) (s : 
 -- The code before the loop, from a state with the names as the loop begins: the registers of the ground are those of the state.
 abbrev pub StartRuns : Type 0
 StartRuns =
-    (g : Ground) (m : Memory) (d : Laid) (rest : List Entry) (s : State) → IsGround g → IsState s → s.vl ≡ g.vl → s.memory ≡ m → x_at s 9 ≡ 0 → ((r : ℕ) → r ≤ 25 → x_at s r ≡ slice_index g.x r)
+    (g : Ground) (m : Memory) (d : Laid) (rest : List DraftEntry) (s : State) → IsGround g → IsState s → s.vl ≡ g.vl → s.memory ≡ m → x_at s 9 ≡ 0 → ((r : ℕ) → r ≤ 25 → x_at s r ≡ slice_index g.x r)
     → Starts g m d (start_code g.kernel g.vectors rest) s rest (1 + laid_all (throughout g.kernel Z))
 
 -- At most so many words lead to a state before iteration i, from which scalar code goes on.
-pub record Folds (R : ℕ → ℕ) (g : Ground) (i : ℕ) (cur : Names) (m : Memory) (d : Laid) (code : List Entry) (s : State) (rest : List Entry) (most : ℕ) : Type 0 where
+pub record Folds (R : ℕ → ℕ) (g : Ground) (i : ℕ) (cur : Names) (m : Memory) (d : Laid) (code : List DraftEntry) (s : State) (rest : List DraftEntry) (most : ℕ) : Type 0 where
   pub end : State
   pub goes : Goes d code s rest end most
   pub at : AtIteration R g.kernel i cur m end
@@ -46,7 +46,7 @@ pub record Folds (R : ℕ → ℕ) (g : Ground) (i : ℕ) (cur : Names) (m : Mem
 -- The code after the loop, from a state before a pass.
 abbrev pub FoldRuns : Type 0
 FoldRuns =
-    (g : Ground) (c : Assignment) (i : ℕ) (cur : Names) (m : Memory) (sum : List ℕ → ℕ → ℤ) (d : Laid) (rest : List Entry) (s : State) → IsGround g → FitsKernel g.kernel X c → AreRanged (var_scope g.kernel).visible g.names
+    (g : Ground) (c : Assignment) (i : ℕ) (cur : Names) (m : Memory) (sum : List ℕ → ℕ → ℤ) (d : Laid) (rest : List DraftEntry) (s : State) → IsGround g → FitsKernel g.kernel X c → AreRanged (var_scope g.kernel).visible g.names
     → AreHeld (kernel_homes (register_in c) g.kernel) g.names s → AtHead g i cur m sum s
     → Folds (register_in c) g i cur m d (fold_code (register_in c) g.kernel g.vectors rest) s rest (joined_all (throughout g.kernel Z))
 

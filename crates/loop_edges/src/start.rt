@@ -61,7 +61,7 @@ pub fn register_of(params: &[Param], name: &str) -> Reg
 // ---- code
 
 // A general register in all elements of a vector register.
-fn spread(width: Width, z: VectorReg, x: Reg) -> Word
+fn broadcast(width: Width, z: VectorReg, x: Reg) -> Word
     ensures { word_view result ≡ Vector (word dup (z.number ∷ x.number ∷ size_of width ∷ [])) }
 {
     Word::V(start_word(width, z, x))
@@ -73,7 +73,7 @@ fn emit_number(draft: &mut Draft, width: Width, z: VectorReg, value: u64) -> Res
 {
     let scratch = Bits { number: 26 };
     emit_const(draft, scratch, value)?;
-    draft.put(spread(width, z, scratch))?;
+    draft.put(broadcast(width, z, scratch))?;
     Ok(())
 }
 
@@ -93,7 +93,7 @@ fn emit_value(
     match value {
         Held::Scalar(name) => {
             let x = register_of(&tree.params, name);
-            draft.put(spread(facts.width, z, x))?;
+            draft.put(broadcast(facts.width, z, x))?;
         }
         Held::Constant(ty, number) => {
             emit_number(draft, facts.width, z, word(wrapped(ty, number)))?;

@@ -5,8 +5,9 @@ use Rattle.guest_types.specs.declared.length.Width.TheVariants.{B, H, S, D}
 use Rattle.kernel_tree.specs.Plain.{Term, Literal, Variable, Element, Operation, Define, Put, Block, Done, Then, Program}
 use Rattle.loop_form.specs.Entries.{item_type}
 use Rattle.loop_form.specs.Listing.{last_use_from, listing_of}
-use Rattle.loop_form.specs.declared.loop_item.Source.TheVariants.{Constant, Outer, Made}
-use Rattle.loop_form.specs.LoopItems.{item, Load, Combine, Cast, Copy, Store, Add, Test, Invert, Any, Quit, loop_items_of}
+use Rattle.loop_form.specs.declared.loop_item.Operand.TheVariants.{Constant, Outer, Made}
+use Rattle.loop_form.specs.LoopItems.{item, loop_items_of}
+use Rattle.loop_form.specs.LoopItems as ops
 use Rattle.loop_form.specs.Streams.{streams_of}
 use Rattle.loop_form.specs.Reaches.{index_reach, reaches_of}
 use Rattle.reg_assign.specs.declared.interval.Interval.{Interval}
@@ -118,73 +119,73 @@ bright-listing = refl
 
 -- a cast from one type to another, a literal's type, and a `let`
 bright-items : loop_items_of bright ≡
-    item 3 None (Load p (Outer 0) (Some ty.U8) (pos 0))
-    ∷ item 4 None (Cast (Some ty.U8) ty.U16 (Made 3))
-    ∷ item 6 None (Combine binary.Add (Some ty.U16) (Made 4) (Constant (Some ty.U16) (pos 40)))
-    ∷ item 7 None (Copy (Some ty.U16) (Made 6))
-    ∷ item 10 None (Combine binary.Min (Some ty.U16) (Made 7) (Constant (Some ty.U16) (pos 255)))
-    ∷ item 11 None (Cast (Some ty.U16) ty.U8 (Made 10))
-    ∷ item 12 None (Store p (Outer 0) (Some ty.U8) (pos 0) (Made 11))
+    item 3 None (ops.Load p (Outer 0) (Some ty.U8) (pos 0))
+    ∷ item 4 None (ops.Cast (Some ty.U8) ty.U16 (Made 3))
+    ∷ item 6 None (ops.Binary binary.Add (Some ty.U16) (Made 4) (Constant (Some ty.U16) (pos 40)))
+    ∷ item 7 None (ops.Let (Some ty.U16) (Made 6))
+    ∷ item 10 None (ops.Binary binary.Min (Some ty.U16) (Made 7) (Constant (Some ty.U16) (pos 255)))
+    ∷ item 11 None (ops.Cast (Some ty.U16) ty.U8 (Made 10))
+    ∷ item 12 None (ops.Store p (Outer 0) (Some ty.U8) (pos 0) (Made 11))
     ∷ []
 bright-items = refl
 
 -- the first block under its condition, the second under `else`, and in it a block under a condition of its own
 choice-items : loop_items_of choice ≡
-    item 4 None (Load a (Outer 0) (Some ty.I32) (pos 0))
-    ∷ item 6 None (Test compare.Lt (Some ty.I32) (Made 4) (Constant (Some ty.I32) (pos 0)))
-    ∷ item 9 (Some 6) (Load a (Outer 0) (Some ty.I32) (pos 0))
-    ∷ item 10 (Some 6) (Combine binary.Sub (Some ty.I32) (Constant (Some ty.I32) (pos 0)) (Made 9))
-    ∷ item 11 (Some 6) (Store y (Outer 1) (Some ty.I32) (pos 0) (Made 10))
-    ∷ item 12 None (Invert 6)
-    ∷ item 13 (Some 12) (Load a (Outer 0) (Some ty.I32) (pos 0))
-    ∷ item 15 (Some 12) (Test compare.Gt (Some ty.I32) (Made 13) (Constant (Some ty.I32) (pos 9)))
-    ∷ item 18 (Some 15) (Store y (Outer 1) (Some ty.I32) (pos 0) (Constant (Some ty.I32) (pos 9)))
+    item 4 None (ops.Load a (Outer 0) (Some ty.I32) (pos 0))
+    ∷ item 6 None (ops.Compare compare.Lt (Some ty.I32) (Made 4) (Constant (Some ty.I32) (pos 0)))
+    ∷ item 9 (Some 6) (ops.Load a (Outer 0) (Some ty.I32) (pos 0))
+    ∷ item 10 (Some 6) (ops.Binary binary.Sub (Some ty.I32) (Constant (Some ty.I32) (pos 0)) (Made 9))
+    ∷ item 11 (Some 6) (ops.Store y (Outer 1) (Some ty.I32) (pos 0) (Made 10))
+    ∷ item 12 None (ops.Not 6)
+    ∷ item 13 (Some 12) (ops.Load a (Outer 0) (Some ty.I32) (pos 0))
+    ∷ item 15 (Some 12) (ops.Compare compare.Gt (Some ty.I32) (Made 13) (Constant (Some ty.I32) (pos 9)))
+    ∷ item 18 (Some 15) (ops.Store y (Outer 1) (Some ty.I32) (pos 0) (Constant (Some ty.I32) (pos 9)))
     ∷ []
 choice-items = refl
 
 -- `(a[i] == 1 || a[i] == 2) || (a[i] == 3 || !(a[i] == 4))`: the right side of each `||` under its mark
 ways-items : loop_items_of ways ≡
-    item 4 None (Load a (Outer 0) (Some ty.U8) (pos 0))
-    ∷ item 6 None (Test compare.Eq (Some ty.U8) (Made 4) (Constant (Some ty.U8) (pos 1)))
-    ∷ item 7 None (Invert 6)
-    ∷ item 8 (Some 7) (Load a (Outer 0) (Some ty.U8) (pos 0))
-    ∷ item 10 (Some 7) (Test compare.Eq (Some ty.U8) (Made 8) (Constant (Some ty.U8) (pos 2)))
-    ∷ item 11 None (Any 6 10)
-    ∷ item 12 None (Invert 11)
-    ∷ item 13 (Some 12) (Load a (Outer 0) (Some ty.U8) (pos 0))
-    ∷ item 15 (Some 12) (Test compare.Eq (Some ty.U8) (Made 13) (Constant (Some ty.U8) (pos 3)))
-    ∷ item 16 (Some 12) (Invert 15)
-    ∷ item 17 (Some 16) (Load a (Outer 0) (Some ty.U8) (pos 0))
-    ∷ item 19 (Some 16) (Test compare.Eq (Some ty.U8) (Made 17) (Constant (Some ty.U8) (pos 4)))
-    ∷ item 20 (Some 16) (Invert 19)
-    ∷ item 21 (Some 12) (Any 15 20)
-    ∷ item 22 None (Any 11 21)
-    ∷ item 25 (Some 22) (Store y (Outer 1) (Some ty.U8) (pos 0) (Constant (Some ty.U8) (pos 1)))
+    item 4 None (ops.Load a (Outer 0) (Some ty.U8) (pos 0))
+    ∷ item 6 None (ops.Compare compare.Eq (Some ty.U8) (Made 4) (Constant (Some ty.U8) (pos 1)))
+    ∷ item 7 None (ops.Not 6)
+    ∷ item 8 (Some 7) (ops.Load a (Outer 0) (Some ty.U8) (pos 0))
+    ∷ item 10 (Some 7) (ops.Compare compare.Eq (Some ty.U8) (Made 8) (Constant (Some ty.U8) (pos 2)))
+    ∷ item 11 None (ops.Or 6 10)
+    ∷ item 12 None (ops.Not 11)
+    ∷ item 13 (Some 12) (ops.Load a (Outer 0) (Some ty.U8) (pos 0))
+    ∷ item 15 (Some 12) (ops.Compare compare.Eq (Some ty.U8) (Made 13) (Constant (Some ty.U8) (pos 3)))
+    ∷ item 16 (Some 12) (ops.Not 15)
+    ∷ item 17 (Some 16) (ops.Load a (Outer 0) (Some ty.U8) (pos 0))
+    ∷ item 19 (Some 16) (ops.Compare compare.Eq (Some ty.U8) (Made 17) (Constant (Some ty.U8) (pos 4)))
+    ∷ item 20 (Some 16) (ops.Not 19)
+    ∷ item 21 (Some 12) (ops.Or 15 20)
+    ∷ item 22 None (ops.Or 11 21)
+    ∷ item 25 (Some 22) (ops.Store y (Outer 1) (Some ty.U8) (pos 0) (Constant (Some ty.U8) (pos 1)))
     ∷ []
 ways-items = refl
 
 -- `break if a[i] == 0 || b[i] == 0`: two breaks, in the places of the mark and of the `||`
 either-items : loop_items_of either ≡
-    item 4 None (Load a (Outer 0) (Some ty.U8) (pos 0))
-    ∷ item 6 None (Test compare.Eq (Some ty.U8) (Made 4) (Constant (Some ty.U8) (pos 0)))
-    ∷ item 7 None (Quit 6)
-    ∷ item 8 None (Load b (Outer 1) (Some ty.U8) (pos 0))
-    ∷ item 10 None (Test compare.Eq (Some ty.U8) (Made 8) (Constant (Some ty.U8) (pos 0)))
-    ∷ item 11 None (Quit 10)
+    item 4 None (ops.Load a (Outer 0) (Some ty.U8) (pos 0))
+    ∷ item 6 None (ops.Compare compare.Eq (Some ty.U8) (Made 4) (Constant (Some ty.U8) (pos 0)))
+    ∷ item 7 None (ops.Break 6)
+    ∷ item 8 None (ops.Load b (Outer 1) (Some ty.U8) (pos 0))
+    ∷ item 10 None (ops.Compare compare.Eq (Some ty.U8) (Made 8) (Constant (Some ty.U8) (pos 0)))
+    ∷ item 11 None (ops.Break 10)
     ∷ []
 either-items = refl
 
 -- with a third array, three: the second mark, of number 13, has no item
 three-items : loop_items_of three ≡
-    item 5 None (Load a (Outer 0) (Some ty.U8) (pos 0))
-    ∷ item 7 None (Test compare.Eq (Some ty.U8) (Made 5) (Constant (Some ty.U8) (pos 0)))
-    ∷ item 8 None (Quit 7)
-    ∷ item 9 None (Load b (Outer 1) (Some ty.U8) (pos 0))
-    ∷ item 11 None (Test compare.Eq (Some ty.U8) (Made 9) (Constant (Some ty.U8) (pos 0)))
-    ∷ item 12 None (Quit 11)
-    ∷ item 14 None (Load c (Outer 2) (Some ty.U8) (pos 0))
-    ∷ item 16 None (Test compare.Eq (Some ty.U8) (Made 14) (Constant (Some ty.U8) (pos 0)))
-    ∷ item 17 None (Quit 16)
+    item 5 None (ops.Load a (Outer 0) (Some ty.U8) (pos 0))
+    ∷ item 7 None (ops.Compare compare.Eq (Some ty.U8) (Made 5) (Constant (Some ty.U8) (pos 0)))
+    ∷ item 8 None (ops.Break 7)
+    ∷ item 9 None (ops.Load b (Outer 1) (Some ty.U8) (pos 0))
+    ∷ item 11 None (ops.Compare compare.Eq (Some ty.U8) (Made 9) (Constant (Some ty.U8) (pos 0)))
+    ∷ item 12 None (ops.Break 11)
+    ∷ item 14 None (ops.Load c (Outer 2) (Some ty.U8) (pos 0))
+    ∷ item 16 None (ops.Compare compare.Eq (Some ty.U8) (Made 14) (Constant (Some ty.U8) (pos 0)))
+    ∷ item 17 None (ops.Break 16)
     ∷ []
 three-items = refl
 
@@ -195,9 +196,9 @@ break-needs = refl
 
 -- an update, by the accumulator's name and the element's type
 running-items : loop_items_of running ≡
-    item 5 None (Load a (Outer 0) (Some ty.U64) (pos 0))
-    ∷ item 6 None (Add s update.Add (Some ty.U64) (Made 5))
-    ∷ item 8 None (Store a (Outer 0) (Some ty.U64) (pos 0) (Outer 2))
+    item 5 None (ops.Load a (Outer 0) (Some ty.U64) (pos 0))
+    ∷ item 6 None (ops.Update s update.Add (Some ty.U64) (Made 5))
+    ∷ item 8 None (ops.Store a (Outer 0) (Some ty.U64) (pos 0) (Outer 2))
     ∷ []
 running-items = refl
 
@@ -240,7 +241,7 @@ many = record {
   name = [];
   params = record { name = a; shape = shape.Array ty.U8 } ∷ record { name = y; shape = shape.Array ty.U8 } ∷ record { name = n; shape = shape.Scalar ty.U64 } ∷ [];
   vars = [];
-  turns = Some (record { index = i; bound = n; body = lets 40 0 });
+  for_loop = Some (record { index = i; bound = n; body = lets 40 0 });
   answer = None;
 }
 

@@ -14,7 +14,7 @@ use Rattle.reg_assign.specs.declared.interval.RegClass.TheVariants.{Z, P, X}
 use Rattle.reg_assign.specs.declared.interval.Interval.{Interval}
 use Rattle.reg_assign.specs.Intervals.{is_live, overlap, greater_overlap, need_of, AscendFrom, Ascend}
 use Rattle.reg_assign.proofs.Overlaps.{one, live, overlap-cons, overlap-append, overlap-need, need-most}
-use Rattle.loop_form.specs.Entries.{Content, IsLiteral, IsName, IsRead, IsLet, IsStore, IsUpdate, IsPlain, Entry, kind_of, entries_of, loop_entries}
+use Rattle.loop_form.specs.Entries.{Content, IsLiteral, IsName, IsLet, Entry, kind_of, entries_of, loop_entries}
 use Rattle.loop_form.specs.Listing.{names, last_of, last_use_at, last_use_in, has_value, held}
 use Rattle.loop_form.specs.Needs.{Throughout, Index, Constant, is_constant, is_scalar, throughout, scalars, is_named_scalar, scalar_of, constants, new_constant, index_held, is_updated, accumulating_of, span, spans_of, counted, values, most_live, need, whole, intervals}
 use Rattle.loop_form.specs.Numbers.{Numbered, AreForward}
@@ -106,11 +106,7 @@ constant-few before e (IsLiteral n) = by (list_any (is_constant e.type n) before
     by true = omega arith
     by false = omega arith
 constant-few before e (IsName x) = omega arith
-constant-few before e (IsRead a i) = omega arith
-constant-few before e (IsLet x) = omega arith
-constant-few before e (IsStore a i) = omega arith
-constant-few before e (IsUpdate x op) = omega arith
-constant-few before e (IsPlain k) = omega arith
+constant-few before e other = omega arith
 
 constants-few : (before es : List Entry) → length (constants before es) ≤ length es
 unfolding constants

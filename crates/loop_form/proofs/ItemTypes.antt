@@ -4,9 +4,9 @@ use Rattle.std.specs.Prelude.{slice_get}
 use Rattle.kernel_tree.specs.declared.ops.Ty.{Ty}
 use Rattle.kernel_tree.specs.Plain.{Term, Literal, Variable, Element, Unary, Operation, Shift, Conversion, Choice, Comparison, Both, Either, Not, Action, Define, Put, Update, Choose, Leave, Block, Done, Then, Otherwise, Nothing, Else, Parameter, Accumulator, PlainLoop, Returned, Program}
 use Rattle.kernel_tree.specs.Items.{stream_offset, index_items, loop_index}
-use Rattle.kernel_tree.specs.Typing.{Scope, Role, Value, wanted, index_type, declared, left, after_action, after_block, after_turns, in_loop, param_scope, var_scope, inner_types, term_types, action_types, block_types, otherwise_types, params_types, vars_types, turns_types, answer_types, types_of}
+use Rattle.kernel_tree.specs.Typing.{Scope, Role, Value, wanted, index_type, declared, left, after_action, after_block, after_for_loop, in_loop, param_scope, var_scope, inner_types, term_types, action_types, block_types, otherwise_types, params_types, vars_types, for_loop_types, answer_types, types_of}
 use Rattle.kernel_tree.proofs.Scopes.{index_after, param_index, scope_index, last_index}
-use Rattle.loop_form.specs.Entries.{Content, IsRead, Entry, entry, item_type, inner_entries, term_entries, action_entries, block_entries, otherwise_entries, params_entries, vars_entries, turns_entries, answer_entries, entries_of, loop_entries}
+use Rattle.loop_form.specs.Entries.{Content, IsRead, Entry, entry, item_type, inner_entries, term_entries, action_entries, block_entries, otherwise_entries, params_entries, vars_entries, for_loop_entries, answer_entries, entries_of, loop_entries}
 use Rattle.loop_form.specs.Numbers.{Numbered}
 use Rattle.loop_form.proofs.Numbers.{all-listed}
 use Rattle.kernel_tree.specs.declared.fault.Binding.TheVariants as binding
@@ -102,9 +102,9 @@ module _ (k : Program) where
   vars_match [] s b e = none
   vars_match (v ∷ vs) s b e = on (term_entries k b _ v.init) _ (term_types s _ v.init) _ (term_matches v.init s _ b _ e) (ahead _ _ _ _ _ _ (vars_match vs (declared s v.name (binding.Accumulator v.type)) _ e))
 
-  turns_match : (o : Option PlainLoop) (s : Scope) (b : ℕ) → s.index ≡ loop_index k → Matches k (turns_entries k b o) (turns_types s o)
-  turns_match None s b e = none
-  turns_match (Some l) s b e = more refl (block_matches l.body (in_loop s l) _ e)
+  for_loop_matches : (o : Option PlainLoop) (s : Scope) (b : ℕ) → s.index ≡ loop_index k → Matches k (for_loop_entries k b o) (for_loop_types s o)
+  for_loop_matches None s b e = none
+  for_loop_matches (Some l) s b e = more refl (block_matches l.body (in_loop s l) _ e)
 
   answer_match : (o : Option Returned) (s : Scope) (b : ℕ) → s.index ≡ loop_index k → Matches k (answer_entries k b o) (answer_types s o)
   answer_match None s b e = none
@@ -114,7 +114,7 @@ module _ (k : Program) where
   all_match =
       on (params_entries k 0 k.params) _ (params_types k.params) _ (params_match k.params 0)
       (on (vars_entries k _ k.vars) _ (vars_types (param_scope k) k.vars) _ (vars_match k.vars (param_scope k) _ (param_index k))
-      (on (loop_entries k) _ (turns_types (var_scope k) k.turns) _ (turns_match k.turns (var_scope k) _ (scope_index k)) (answer_match k.answer (after_turns (var_scope k) k.turns) _ (last_index k))))
+      (on (loop_entries k) _ (for_loop_types (var_scope k) k.for_loop) _ (for_loop_matches k.for_loop (var_scope k) _ (scope_index k)) (answer_match k.answer (after_for_loop (var_scope k) k.for_loop) _ (last_index k))))
 
   -- ---- the types of some items
 
@@ -150,8 +150,8 @@ module _ (k : Program) where
   later_types (x ∷ xs) ys (t ∷ ts) us (more is h) e = let later : map type_of (xs ++ ys) ≡ ts ++ us = cc in later_types xs ys ts us h later
 
   -- the items of the loop
-  pub loop_types : map type_of (loop_entries k) ≡ turns_types (var_scope k) k.turns
+  pub loop_types : map type_of (loop_entries k) ≡ for_loop_types (var_scope k) k.for_loop
   loop_types =
-      first_types (loop_entries k) _ (turns_types (var_scope k) k.turns) _ (turns_match k.turns (var_scope k) _ (scope_index k))
+      first_types (loop_entries k) _ (for_loop_types (var_scope k) k.for_loop) _ (for_loop_matches k.for_loop (var_scope k) _ (scope_index k))
       (later_types (vars_entries k _ k.vars) _ (vars_types (param_scope k) k.vars) _ (vars_match k.vars (param_scope k) _ (param_index k))
       (later_types (params_entries k 0 k.params) _ (params_types k.params) _ (params_match k.params 0) all_types))

@@ -14,13 +14,7 @@ use Rattle.kernel_tree.specs.declared.ops.Ty.TheVariants as ty
 
 width-is : (t : Ty) → width_bits (width_of t) ≡ bits_of t
 width-is ty.I8 = refl
-width-is ty.U8 = refl
-width-is ty.I16 = refl
-width-is ty.U16 = refl
-width-is ty.I32 = refl
-width-is ty.U32 = refl
-width-is ty.I64 = refl
-width-is ty.U64 = refl
+width-is other = refl
 
 wider-left : (w : Width) (o : Option Ty) → width_bits w ≤ width_bits (wider w o)
 wider-left w None = omega arith

@@ -58,7 +58,7 @@ axpy = record {
   name = f;
   params = record { name = y; shape = shape.Array ty.I32 } ∷ record { name = x; shape = shape.Array ty.I32 } ∷ record { name = k; shape = shape.Scalar ty.I32 } ∷ record { name = n; shape = shape.Scalar ty.U64 } ∷ [];
   vars = [];
-  turns = Some (record { index = i; bound = n; body = (Then (Put y (Variable i) (Operation binary.Add (Element y (Variable i)) (Operation binary.Mul (Variable k) (Element x (Variable i))))) Done) });
+  for_loop = Some (record { index = i; bound = n; body = (Then (Put y (Variable i) (Operation binary.Add (Element y (Variable i)) (Operation binary.Mul (Variable k) (Element x (Variable i))))) Done) });
   answer = None;
 }
 
@@ -68,7 +68,7 @@ spread = record {
   name = f;
   params = record { name = a; shape = shape.Array ty.U8 } ∷ record { name = n; shape = shape.Scalar ty.U64 } ∷ [];
   vars = [];
-  turns = Some (record { index = i; bound = n; body = (Then (Put a (Operation binary.Add (Variable i) (Literal (pos 1))) (Element a (Variable i))) Done) });
+  for_loop = Some (record { index = i; bound = n; body = (Then (Put a (Operation binary.Add (Variable i) (Literal (pos 1))) (Element a (Variable i))) Done) });
   answer = None;
 }
 
@@ -78,7 +78,7 @@ running = record {
   name = f;
   params = record { name = a; shape = shape.Array ty.U64 } ∷ record { name = n; shape = shape.Scalar ty.U64 } ∷ [];
   vars = record { name = s; type = ty.U64; init = (Literal (pos 0)) } ∷ [];
-  turns = Some (record { index = i; bound = n; body = (Then (Update s update.Add (Element a (Variable i))) (Then (Put a (Variable i) (Variable s)) Done)) });
+  for_loop = Some (record { index = i; bound = n; body = (Then (Update s update.Add (Element a (Variable i))) (Then (Put a (Variable i) (Variable s)) Done)) });
   answer = None;
 }
 
@@ -88,7 +88,7 @@ bright = record {
   name = f;
   params = record { name = p; shape = shape.Array ty.U8 } ∷ record { name = n; shape = shape.Scalar ty.U64 } ∷ [];
   vars = [];
-  turns = Some (record { index = i; bound = n; body = (Then (Define v None (Operation binary.Add (Conversion (Element p (Variable i)) ty.U16) (Literal (pos 40)))) (Then (Put p (Variable i) (Conversion (Operation binary.Min (Variable v) (Literal (pos 255))) ty.U8)) Done)) });
+  for_loop = Some (record { index = i; bound = n; body = (Then (Define v None (Operation binary.Add (Conversion (Element p (Variable i)) ty.U16) (Literal (pos 40)))) (Then (Put p (Variable i) (Conversion (Operation binary.Min (Variable v) (Literal (pos 255))) ty.U8)) Done)) });
   answer = None;
 }
 
@@ -98,7 +98,7 @@ ways = record {
   name = f;
   params = record { name = a; shape = shape.Array ty.U8 } ∷ record { name = y; shape = shape.Array ty.U8 } ∷ record { name = n; shape = shape.Scalar ty.U64 } ∷ [];
   vars = [];
-  turns = Some (record { index = i; bound = n; body = (Then (Choose (Either (Either (Comparison compare.Eq (Element a (Variable i)) (Literal (pos 1))) (Comparison compare.Eq (Element a (Variable i)) (Literal (pos 2)))) (Either (Comparison compare.Eq (Element a (Variable i)) (Literal (pos 3))) (Not (Comparison compare.Eq (Element a (Variable i)) (Literal (pos 4)))))) (Then (Put y (Variable i) (Literal (pos 1))) Done) Nothing) Done) });
+  for_loop = Some (record { index = i; bound = n; body = (Then (Choose (Either (Either (Comparison compare.Eq (Element a (Variable i)) (Literal (pos 1))) (Comparison compare.Eq (Element a (Variable i)) (Literal (pos 2)))) (Either (Comparison compare.Eq (Element a (Variable i)) (Literal (pos 3))) (Not (Comparison compare.Eq (Element a (Variable i)) (Literal (pos 4)))))) (Then (Put y (Variable i) (Literal (pos 1))) Done) Nothing) Done) });
   answer = None;
 }
 
@@ -108,7 +108,7 @@ choice = record {
   name = f;
   params = record { name = a; shape = shape.Array ty.I32 } ∷ record { name = y; shape = shape.Array ty.I32 } ∷ record { name = n; shape = shape.Scalar ty.U64 } ∷ [];
   vars = [];
-  turns = Some (record { index = i; bound = n; body = (Then (Choose (Comparison compare.Lt (Element a (Variable i)) (Literal (pos 0))) (Then (Put y (Variable i) (Operation binary.Sub (Literal (pos 0)) (Element a (Variable i)))) Done) (Else (Then (Choose (Comparison compare.Gt (Element a (Variable i)) (Literal (pos 9))) (Then (Put y (Variable i) (Literal (pos 9))) Done) Nothing) Done))) Done) });
+  for_loop = Some (record { index = i; bound = n; body = (Then (Choose (Comparison compare.Lt (Element a (Variable i)) (Literal (pos 0))) (Then (Put y (Variable i) (Operation binary.Sub (Literal (pos 0)) (Element a (Variable i)))) Done) (Else (Then (Choose (Comparison compare.Gt (Element a (Variable i)) (Literal (pos 9))) (Then (Put y (Variable i) (Literal (pos 9))) Done) Nothing) Done))) Done) });
   answer = None;
 }
 
@@ -118,7 +118,7 @@ lasts = record {
   name = f;
   params = record { name = a; shape = shape.Array ty.U8 } ∷ record { name = b; shape = shape.Array ty.U8 } ∷ record { name = y; shape = shape.Array ty.U8 } ∷ record { name = n; shape = shape.Scalar ty.U64 } ∷ [];
   vars = [];
-  turns = Some (record { index = i; bound = n; body = (Then (Define v None (Element a (Variable i))) (Then (Define u None (Element b (Variable i))) (Then (Put y (Variable i) (Operation binary.Add (Variable v) (Operation binary.Mul (Element b (Variable i)) (Operation binary.Sub (Element b (Operation binary.Add (Variable i) (Literal (pos 1)))) (Variable v))))) Done))) });
+  for_loop = Some (record { index = i; bound = n; body = (Then (Define v None (Element a (Variable i))) (Then (Define u None (Element b (Variable i))) (Then (Put y (Variable i) (Operation binary.Add (Variable v) (Operation binary.Mul (Element b (Variable i)) (Operation binary.Sub (Element b (Operation binary.Add (Variable i) (Literal (pos 1)))) (Variable v))))) Done))) });
   answer = None;
 }
 
@@ -128,7 +128,7 @@ pairs = record {
   name = f;
   params = record { name = a; shape = shape.Array ty.U8 } ∷ record { name = y; shape = shape.Array ty.U16 } ∷ record { name = n; shape = shape.Scalar ty.U64 } ∷ [];
   vars = [];
-  turns = Some (record { index = i; bound = n; body = (Then (Put y (Variable i) (Operation binary.Add (Conversion (Operation binary.Add (Element a (Variable i)) (Literal (pos 1))) ty.U16) (Literal (pos 1)))) Done) });
+  for_loop = Some (record { index = i; bound = n; body = (Then (Put y (Variable i) (Operation binary.Add (Conversion (Operation binary.Add (Element a (Variable i)) (Literal (pos 1))) ty.U16) (Literal (pos 1)))) Done) });
   answer = None;
 }
 
@@ -138,7 +138,7 @@ values = record {
   name = f;
   params = record { name = x; shape = shape.Scalar ty.I32 } ∷ record { name = y; shape = shape.Scalar ty.I32 } ∷ [];
   vars = record { name = s; type = ty.I32; init = (Operation binary.Add (Operation binary.Mul (Variable x) (Literal (pos 3))) (Operation binary.Mul (Variable y) (Operation binary.Sub (Variable x) (Literal (pos 2))))) } ∷ record { name = t; type = ty.I64; init = (Operation binary.Mul (Conversion (Variable s) ty.I64) (Literal (pos 5))) } ∷ [];
-  turns = None;
+  for_loop = None;
   answer = Some (record { type = ty.I64; value = (Operation binary.Add (Variable t) (Conversion (Variable s) ty.I64)) });
 }
 
@@ -148,7 +148,7 @@ look = record {
   name = f;
   params = record { name = t; shape = shape.Array ty.U8 } ∷ record { name = x; shape = shape.Array ty.U8 } ∷ record { name = y; shape = shape.Array ty.U64 } ∷ record { name = n; shape = shape.Scalar ty.U64 } ∷ [];
   vars = [];
-  turns = Some (record { index = i; bound = n; body = (Then (Put y (Variable i) (Conversion (Element t (Element x (Variable i))) ty.U64)) Done) });
+  for_loop = Some (record { index = i; bound = n; body = (Then (Put y (Variable i) (Conversion (Element t (Element x (Variable i))) ty.U64)) Done) });
   answer = None;
 }
 
@@ -158,7 +158,7 @@ far = record {
   name = f;
   params = record { name = t; shape = shape.Array ty.U8 } ∷ record { name = x; shape = shape.Array ty.U64 } ∷ record { name = y; shape = shape.Array ty.U64 } ∷ record { name = n; shape = shape.Scalar ty.U64 } ∷ [];
   vars = [];
-  turns = Some (record { index = i; bound = n; body = (Then (Put y (Variable i) (Conversion (Element t (Element x (Variable i))) ty.U64)) Done) });
+  for_loop = Some (record { index = i; bound = n; body = (Then (Put y (Variable i) (Conversion (Element t (Element x (Variable i))) ty.U64)) Done) });
   answer = None;
 }
 
@@ -168,7 +168,7 @@ pick = record {
   name = f;
   params = record { name = t; shape = shape.Array ty.I32 } ∷ record { name = x; shape = shape.Array ty.U64 } ∷ record { name = n; shape = shape.Scalar ty.U64 } ∷ [];
   vars = record { name = s; type = ty.I64; init = (Literal (pos 0)) } ∷ [];
-  turns = Some (record { index = i; bound = n; body = (Then (Update s update.Add (Conversion (Element t (Element x (Variable i))) ty.I64)) Done) });
+  for_loop = Some (record { index = i; bound = n; body = (Then (Update s update.Add (Conversion (Element t (Element x (Variable i))) ty.I64)) Done) });
   answer = Some (record { type = ty.I64; value = (Variable s) });
 }
 
@@ -180,7 +180,7 @@ casts = record {
   name = f;
   params = record { name = t; shape = shape.Array ty.U64 } ∷ record { name = x; shape = shape.Array ty.U16 } ∷ record { name = a; shape = shape.Array ty.U32 } ∷ record { name = y; shape = shape.Array ty.U64 } ∷ record { name = n; shape = shape.Scalar ty.U64 } ∷ [];
   vars = [];
-  turns = Some (record { index = i; bound = n; body = (Then (Put y (Variable i) (Operation binary.Add (Operation binary.Add (Operation binary.Add (Element t (Conversion (Conversion (Element x (Variable i)) ty.U32) ty.U64)) (Element t (Conversion (Conversion (Element a (Variable i)) ty.U8) ty.U64))) (Element t (Conversion (Element a (Variable i)) ty.U64))) (Element t (Operation binary.Add (Variable i) (Literal (pos 1)))))) Done) });
+  for_loop = Some (record { index = i; bound = n; body = (Then (Put y (Variable i) (Operation binary.Add (Operation binary.Add (Operation binary.Add (Element t (Conversion (Conversion (Element x (Variable i)) ty.U32) ty.U64)) (Element t (Conversion (Conversion (Element a (Variable i)) ty.U8) ty.U64))) (Element t (Conversion (Element a (Variable i)) ty.U64))) (Element t (Operation binary.Add (Variable i) (Literal (pos 1)))))) Done) });
   answer = None;
 }
 
@@ -190,7 +190,7 @@ near = record {
   name = f;
   params = record { name = t; shape = shape.Array ty.U64 } ∷ record { name = x; shape = shape.Array ty.U8 } ∷ record { name = y; shape = shape.Array ty.U64 } ∷ record { name = n; shape = shape.Scalar ty.U64 } ∷ [];
   vars = [];
-  turns = Some (record { index = i; bound = n; body = (Then (Put y (Variable i) (Operation binary.Add (Element t (Conversion (Element x (Variable i)) ty.U64)) (Element t (Operation binary.Add (Variable i) (Literal (pos 1)))))) Done) });
+  for_loop = Some (record { index = i; bound = n; body = (Then (Put y (Variable i) (Operation binary.Add (Element t (Conversion (Element x (Variable i)) ty.U64)) (Element t (Operation binary.Add (Variable i) (Literal (pos 1)))))) Done) });
   answer = None;
 }
 
@@ -200,7 +200,7 @@ either = record {
   name = f;
   params = record { name = a; shape = shape.Array ty.U8 } ∷ record { name = b; shape = shape.Array ty.U8 } ∷ record { name = n; shape = shape.Scalar ty.U64 } ∷ [];
   vars = [];
-  turns = Some (record { index = i; bound = n; body = (Then (Leave (Either (Comparison compare.Eq (Element a (Variable i)) (Literal (pos 0))) (Comparison compare.Eq (Element b (Variable i)) (Literal (pos 0))))) Done) });
+  for_loop = Some (record { index = i; bound = n; body = (Then (Leave (Either (Comparison compare.Eq (Element a (Variable i)) (Literal (pos 0))) (Comparison compare.Eq (Element b (Variable i)) (Literal (pos 0))))) Done) });
   answer = None;
 }
 
@@ -210,6 +210,6 @@ three = record {
   name = f;
   params = record { name = a; shape = shape.Array ty.U8 } ∷ record { name = b; shape = shape.Array ty.U8 } ∷ record { name = c; shape = shape.Array ty.U8 } ∷ record { name = n; shape = shape.Scalar ty.U64 } ∷ [];
   vars = [];
-  turns = Some (record { index = i; bound = n; body = (Then (Leave (Either (Either (Comparison compare.Eq (Element a (Variable i)) (Literal (pos 0))) (Comparison compare.Eq (Element b (Variable i)) (Literal (pos 0)))) (Comparison compare.Eq (Element c (Variable i)) (Literal (pos 0))))) Done) });
+  for_loop = Some (record { index = i; bound = n; body = (Then (Leave (Either (Either (Comparison compare.Eq (Element a (Variable i)) (Literal (pos 0))) (Comparison compare.Eq (Element b (Variable i)) (Literal (pos 0)))) (Comparison compare.Eq (Element c (Variable i)) (Literal (pos 0))))) Done) });
   answer = None;
 }

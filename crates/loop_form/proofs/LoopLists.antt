@@ -1,11 +1,11 @@
 -- What the lists of a loop's items want: a statement has an item, and the names at the loop's head.
 use Rattle.std.proofs.Common.{◌≡◌, ℕ, suc, ◌+◌, ◌<◌, ◌≤◌, List, [], ◌∷◌, ◌++◌, length, map, drop, get_or, Option, refl, sym, ap, ap₂, ◌∙◌, subst, arith, true, add-one, drop-cons, append_assoc}
-use Rattle.kernel_tree.specs.Plain.{Action, Define, Put, Update, Choose, Leave, PlainLoop, Program}
+use Rattle.kernel_tree.specs.Plain.{Action, Define, PlainLoop, Program}
 use Rattle.kernel_tree.specs.Items.{loop_index, action_size}
 use Rattle.kernel_tree.specs.Typing.{Local, local, var_scope, in_loop}
 use Rattle.kernel_tree.specs.Scopes.{param_local, var_local}
 use Rattle.kernel_tree.proofs.Scopes.{scope_index, var_visible}
-use Rattle.loop_form.specs.declared.loop_item.Source.TheVariants.{Outer, LoopIndex}
+use Rattle.loop_form.specs.declared.loop_item.Operand.TheVariants.{Outer, LoopIndex}
 use Rattle.loop_form.specs.declared.visible.Visible.{Visible}
 use Rattle.loop_form.specs.LoopItems.{Bound, bound, outer_env, loop_env}
 use Rattle.loop_form.specs.LoopView.{local_of, bound_of, locals, env_of, scope_of, AddsOuter, IsLoopHead}
@@ -14,10 +14,7 @@ use Rattle.kernel_tree.specs.declared.fault.Binding.TheVariants as binding
 -- a statement has an item
 pub some_item : (i : Option (List ℕ)) (s : Action) → 1 ≤ action_size i s
 some_item i (Define x t e) = omega arith
-some_item i (Put a o e) = omega arith
-some_item i (Update x op e) = omega arith
-some_item i (Choose c b d) = omega arith
-some_item i (Leave c) = omega arith
+some_item i other = omega arith
 
 -- what is left of a list at a place
 pub next-entry : {A : Type 0} (xs : List A) (i : ℕ) (x : A) → i < length xs → x ≡ get_or xs i x → drop i xs ≡ x ∷ drop (i + 1) xs

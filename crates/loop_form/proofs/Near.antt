@@ -8,12 +8,12 @@ use Rattle.kernel_tree.specs.declared.fault.Found.{Found}
 use Rattle.kernel_tree.specs.Plain.{Term, Literal, Variable, Element, Unary, Operation, Shift, Conversion, Choice, Comparison, Both, Either, Not, Action, Define, Put, Update, Choose, Leave, Block, Done, Then, Otherwise, Nothing, Else, PlainLoop, Program}
 use Rattle.kernel_tree.specs.Items.{stream_offset, loop_index, index_items, loop_start}
 use Rattle.kernel_tree.specs.Limits.{most_offset}
-use Rattle.kernel_tree.specs.Typing.{Scope, Role, Value, lookup, as_value, read_faults, wanted, first, own, faults, inner_faults, index_faults, stream_faults, offset_faults, action_faults, block_faults, otherwise_faults, after_action, after_block, left, in_loop, var_scope, turns_faults, check_fault}
+use Rattle.kernel_tree.specs.Typing.{Scope, Role, Value, lookup, as_value, read_faults, wanted, first, own, faults, inner_faults, index_faults, stream_faults, offset_faults, action_faults, block_faults, otherwise_faults, after_action, after_block, left, in_loop, var_scope, for_loop_faults, check_fault}
 use Rattle.kernel_tree.proofs.Faultless.{nil-left, nil-right, loop_faultless}
 use Rattle.kernel_tree.proofs.NoFault.{is_empty}
 use Rattle.kernel_tree.proofs.Scopes.{index_after, scope_index}
-use Rattle.loop_form.specs.Entries.{Entry, inner_entries, term_entries, action_entries, block_entries, otherwise_entries, turns_entries, loop_entries}
-use Rattle.loop_form.specs.Near.{IsNear, AreNear, NearInner, NearTerm, NearAction, NearBlock, NearOtherwise, NearTurns}
+use Rattle.loop_form.specs.Entries.{Entry, inner_entries, term_entries, action_entries, block_entries, otherwise_entries, for_loop_entries, loop_entries}
+use Rattle.loop_form.specs.Near.{IsNear, AreNear, NearInner, NearTerm, NearAction, NearBlock, NearOtherwise, NearForLoop}
 
 near-append : (i : Option (List ℕ)) (xs ys : List Entry) → AreNear i xs → AreNear i ys → AreNear i (xs ++ ys)
 near-append i [] ys p q = q
@@ -73,13 +73,13 @@ mutual
   otherwise-near k Nothing s from f end q h = tt
   otherwise-near k (Else b) s from f end q h = (tt, block-near k b s _ _ q h)
 
-turns-near : (k : Program) (s : Scope) (from f : ℕ) (o : Option PlainLoop) → s.index ≡ loop_index k → turns_faults s from o ≡ [] → AreNear (loop_index k) (turns_entries k f o)
-turns-near k s from f None q h = tt
-turns-near k s from f (Some l) q h = (tt, block-near k l.body (in_loop s l) _ _ q (nil-right _ _ (nil-right _ _ h)))
+for_loop-near : (k : Program) (s : Scope) (from f : ℕ) (o : Option PlainLoop) → s.index ≡ loop_index k → for_loop_faults s from o ≡ [] → AreNear (loop_index k) (for_loop_entries k f o)
+for_loop-near k s from f None q h = tt
+for_loop-near k s from f (Some l) q h = (tt, block-near k l.body (in_loop s l) _ _ q (nil-right _ _ (nil-right _ _ h)))
 
 pub loop-near : (k : Program) → check_fault k ≡ None → AreNear (loop_index k) (loop_entries k)
 loop-near k e =
-    turns-near k (var_scope k) _ (loop_start k) k.turns (scope_index k) (loop_faultless k e)
+    for_loop-near k (var_scope k) _ (loop_start k) k.for_loop (scope_index k) (loop_faultless k e)
 
 -- ---- the same, of the tree
 
@@ -140,9 +140,9 @@ mutual
   otherwise-tree k Nothing f end h = tt
   otherwise-tree k (Else b) f end h = block-tree k b _ h.1
 
-turns-tree : (k : Program) (f : ℕ) (o : Option PlainLoop) → AreNear (loop_index k) (turns_entries k f o) → NearTurns (loop_index k) o
-turns-tree k f None h = tt
-turns-tree k f (Some l) h = block-tree k l.body _ h.1
+for_loop-tree : (k : Program) (f : ℕ) (o : Option PlainLoop) → AreNear (loop_index k) (for_loop_entries k f o) → NearForLoop (loop_index k) o
+for_loop-tree k f None h = tt
+for_loop-tree k f (Some l) h = block-tree k l.body _ h.1
 
-pub statements-near : (k : Program) → check_fault k ≡ None → NearTurns (loop_index k) k.turns
-statements-near k e = turns-tree k (loop_start k) k.turns (loop-near k e)
+pub statements-near : (k : Program) → check_fault k ≡ None → NearForLoop (loop_index k) k.for_loop
+statements-near k e = for_loop-tree k (loop_start k) k.for_loop (loop-near k e)

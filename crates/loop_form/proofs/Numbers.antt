@@ -2,8 +2,8 @@
 use Rattle.std.proofs.Common.{◌≡◌, ℕ, zero, suc, ◌+◌, ◌≤◌, ℤ, List, [], ◌∷◌, ◌++◌, length, Option, Some, None, refl, sym, ap, subst, arith, length-append}
 use Rattle.std.specs.Prelude.{option_map, slice_get}
 use Rattle.kernel_tree.specs.Plain.{Term, Literal, Variable, Element, Unary, Operation, Shift, Conversion, Choice, Comparison, Both, Either, Not, Action, Define, Put, Update, Choose, Leave, Block, Done, Then, Otherwise, Nothing, Else, Parameter, Accumulator, PlainLoop, Returned, Program}
-use Rattle.kernel_tree.specs.Items.{stream_offset, index_size, index_items, term_size, action_size, block_size, otherwise_size, vars_size, turns_size, answer_size, loop_index, index_of, size_of, loop_start}
-use Rattle.loop_form.specs.Entries.{Entry, inner_entries, term_entries, action_entries, block_entries, otherwise_entries, params_entries, vars_entries, turns_entries, answer_entries, entries_of, loop_entries}
+use Rattle.kernel_tree.specs.Items.{stream_offset, index_size, index_items, term_size, action_size, block_size, otherwise_size, vars_size, for_loop_size, answer_size, loop_index, index_of, size_of, loop_start}
+use Rattle.loop_form.specs.Entries.{Entry, inner_entries, term_entries, action_entries, block_entries, otherwise_entries, params_entries, vars_entries, for_loop_entries, answer_entries, entries_of, loop_entries}
 use Rattle.loop_form.specs.Numbers.{Numbered}
 
 -- no item is used before it stands
@@ -126,30 +126,30 @@ vars-listed k from (v ∷ vs) =
     let n : ℕ = vars_size (loop_index k) vs in
     sized from (m + (1 + n)) (m + 1 + n) _ (omega arith) (joined from m (1 + n) _ _ (term-listed k from (from + m) v.init (omega arith)) (ahead _ n _ (omega arith) (vars-listed k (from + m + 1) vs)))
 
-turns-listed : (k : Program) (from : ℕ) (o : Option PlainLoop) → loop_index k ≡ option_map index_of o → Listed from (turns_size o) (turns_entries k from o)
-turns-listed k from None q = none from
-turns-listed k from (Some l) q = sized from (1 + block_size (loop_index k) l.body) (1 + block_size (Some l.index) l.body) _ (ap (λ i. 1 + block_size i l.body) q) (ahead _ (block_size (loop_index k) l.body) _ (omega arith) (block-listed k (from + 1) l.body))
+for_loop-listed : (k : Program) (from : ℕ) (o : Option PlainLoop) → loop_index k ≡ option_map index_of o → Listed from (for_loop_size o) (for_loop_entries k from o)
+for_loop-listed k from None q = none from
+for_loop-listed k from (Some l) q = sized from (1 + block_size (loop_index k) l.body) (1 + block_size (Some l.index) l.body) _ (ap (λ i. 1 + block_size i l.body) q) (ahead _ (block_size (loop_index k) l.body) _ (omega arith) (block-listed k (from + 1) l.body))
 
 answer-listed : (k : Program) (from : ℕ) (o : Option Returned) → Listed from (answer_size (loop_index k) o) (answer_entries k from o)
 answer-listed k from None = none from
 answer-listed k from (Some a) = joined from (term_size (loop_index k) a.value) 1 _ _ (term-listed k from _ a.value (omega arith)) (one _ (omega arith))
 
 -- the items of the loop
-pub loop-listed : (k : Program) → Listed (loop_start k) (turns_size k.turns) (loop_entries k)
-loop-listed k = turns-listed k (loop_start k) k.turns refl
+pub loop-listed : (k : Program) → Listed (loop_start k) (for_loop_size k.for_loop) (loop_entries k)
+loop-listed k = for_loop-listed k (loop_start k) k.for_loop refl
 
 -- the items of a kernel
 pub all-listed : (k : Program) → Listed 0 (size_of k) (entries_of k)
 all-listed k =
     let m : ℕ = length k.params in
     let n : ℕ = vars_size (loop_index k) k.vars in
-    let p : ℕ = turns_size k.turns in
+    let p : ℕ = for_loop_size k.for_loop in
     let q : ℕ = answer_size (loop_index k) k.answer in
     sized 0 (m + (n + (p + q))) (m + n + p + q) (entries_of k) (omega arith)
     (joined 0 m (n + (p + q)) _ _ (params-listed k 0 k.params)
     (at m (0 + m) _ _ (omega arith)
     (joined m n (p + q) _ _ (vars-listed k m k.vars)
-    (joined (m + n) p q _ _ (turns-listed k (m + n) k.turns refl) (answer-listed k (m + n + p) k.answer)))))
+    (joined (m + n) p q _ _ (for_loop-listed k (m + n) k.for_loop refl) (answer-listed k (m + n + p) k.answer)))))
   where
     at : (b c n : ℕ) (es : List Entry) → b ≡ c → Listed b n es → Listed c n es
     at b c n es e h = subst (λ d. Listed d n es) e h

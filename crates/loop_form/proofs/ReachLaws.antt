@@ -6,7 +6,7 @@ use Rattle.kernel_tree.specs.declared.ops.Ty.{Ty}
 use Rattle.kernel_tree.specs.Plain.{Term, Program}
 use Rattle.kernel_tree.specs.Items.{stream_offset, loop_index}
 use Rattle.loop_form.specs.declared.reach.Reach.{Reach}
-use Rattle.loop_form.specs.Entries.{Content, IsLiteral, IsName, IsRead, IsLet, IsStore, IsUpdate, IsPlain, Entry}
+use Rattle.loop_form.specs.Entries.{Content, IsRead, Entry}
 use Rattle.loop_form.specs.Streams.{place_of}
 use Rattle.loop_form.specs.Reaches.{source_type, reach_of_type, read_reach, reached, reach_in, reach_at}
 use Rattle.kernel_tree.specs.declared.ops.Ty.TheVariants as ty
@@ -19,12 +19,7 @@ type-given : (t : Option Ty) → IsGiven (reach_of_type t)
 type-given None = tt
 type-given (Some ty.U8) = inl refl
 type-given (Some ty.U16) = inr refl
-type-given (Some ty.U32) = tt
-type-given (Some ty.U64) = tt
-type-given (Some ty.I8) = tt
-type-given (Some ty.I16) = tt
-type-given (Some ty.I32) = tt
-type-given (Some ty.I64) = tt
+type-given other = tt
 
 pub read-given : (k : Program) (i : Term) (item : ℕ) → IsGiven (read_reach k i item)
 read-given k i item = by (is_some (stream_offset (loop_index k) i)) (reach_of_type (source_type k (item - 1) i)) (type-given (source_type k (item - 1) i))
@@ -50,12 +45,7 @@ reached-given (Some p) (Some r) h = h
 
 in-given : (k : Program) (c : Content) (item : ℕ) → IsOneGiven (reach_in k c item)
 in-given k (IsRead a i) item = reached-given (place_of a k.params) (read_reach k i item) (read-given k i item)
-in-given k (IsLiteral n) item = tt
-in-given k (IsName x) item = tt
-in-given k (IsLet x) item = tt
-in-given k (IsStore a i) item = tt
-in-given k (IsUpdate x op) item = tt
-in-given k (IsPlain q) item = tt
+in-given k other item = tt
 
 pub reaches-given : (k : Program) (es : List Entry) → AreReaches (filter_map (reach_at k) es)
 reaches-given k [] = tt

@@ -135,9 +135,9 @@ vars_entries k from (v ∷ vs) =
     let item = from + term_size (loop_index k) v.init in
     term_entries k from item v.init ++ (entry k item (IsPlain kind.Var) item ∷ vars_entries k (item + 1) vs)
 
-abbrev pub turns_entries : Program → (from : ℕ) → Option PlainLoop → List Entry
-turns_entries k from None = []
-turns_entries k from (Some l) = entry k from (IsPlain kind.For) from ∷ block_entries k (from + 1) l.body
+abbrev pub for_loop_entries : Program → (from : ℕ) → Option PlainLoop → List Entry
+for_loop_entries k from None = []
+for_loop_entries k from (Some l) = entry k from (IsPlain kind.For) from ∷ block_entries k (from + 1) l.body
 
 abbrev pub answer_entries : Program → (from : ℕ) → Option Returned → List Entry
 answer_entries k from None = []
@@ -147,7 +147,7 @@ answer_entries k from (Some a) =
 
 -- the items of the loop
 abbrev pub loop_entries : Program → List Entry
-loop_entries k = turns_entries k (loop_start k) k.turns
+loop_entries k = for_loop_entries k (loop_start k) k.for_loop
 
 -- the items of a kernel: its parameters, accumulators, loop and returned value
 abbrev pub entries_of : Program → List Entry

@@ -8,24 +8,25 @@ use Rattle.loop_form.specs.declared.loop_item.LoopOp.{LoopOp}
 use Rattle.loop_form.specs.declared.loop_item.LoopOp.TheVariants as op
 use Rattle.loop_form.specs.declared.loop_item.LoopItem.{LoopItem}
 use Rattle.loop_form.specs.declared.visible.Visible.{Visible}
-use Rattle.loop_form.specs.LoopItems.{Op, Load, Gather, Apply, Combine, Move, Cast, Copy, Pick, Store, Add, Test, Invert, Same, Any, Quit, Item, Bound, bound, outer_env, loop_env, term_items, cond_items, quit_items, action_items, block_items, after_env}
+use Rattle.loop_form.specs.LoopItems.{Op, Item, Bound, bound, outer_env, loop_env, term_items, cond_items, break_items, action_items, block_items, after_env}
+use Rattle.loop_form.specs.LoopItems as ops
 
 abbrev pub op_of : LoopOp → Op
-op_of (op.Load a base t c) = Load a.now base t c
-op_of (op.Gather a base t r u x) = Gather a.now base t r u x
-op_of (op.Apply o t x) = Apply o t x
-op_of (op.Combine o t x y) = Combine o t x y
-op_of (op.Move left n t x) = Move left n t x
-op_of (op.Cast s t x) = Cast s t x
-op_of (op.Copy t x) = Copy t x
-op_of (op.Pick t c x y) = Pick t c x y
-op_of (op.Store a base t c v) = Store a.now base t c v
-op_of (op.Add x o t v) = Add x.now o t v
-op_of (op.Test o t x y) = Test o t x y
-op_of (op.Invert c) = Invert c
-op_of (op.Same c) = Same c
-op_of (op.Any c d) = Any c d
-op_of (op.Quit c) = Quit c
+op_of (op.Load a base t c) = ops.Load a.now base t c
+op_of (op.Gather a base t r u x) = ops.Gather a.now base t r u x
+op_of (op.Unary o t x) = ops.Unary o t x
+op_of (op.Binary o t x y) = ops.Binary o t x y
+op_of (op.Shift left n t x) = ops.Shift left n t x
+op_of (op.Cast s t x) = ops.Cast s t x
+op_of (op.Let t x) = ops.Let t x
+op_of (op.Select t c x y) = ops.Select t c x y
+op_of (op.Store a base t c v) = ops.Store a.now base t c v
+op_of (op.Update x o t v) = ops.Update x.now o t v
+op_of (op.Compare o t x y) = ops.Compare o t x y
+op_of (op.Not c) = ops.Not c
+op_of (op.And c) = ops.And c
+op_of (op.Or c d) = ops.Or c d
+op_of (op.Break c) = ops.Break c
 
 abbrev pub view_of : LoopItem → Item
 view_of i = record { item = i.item; mask = i.mask; op = op_of i.op }
@@ -61,9 +62,9 @@ abbrev pub AppendsCondition : Option (List ℕ) → List Visible → Option ℕ 
 AppendsCondition index names mask from t old new =
     (taken : List (List ℕ)) (rest : List Item) → view new ++ rest ≡ view old ++ cond_items (scope_of index names taken) mask from (env_of names) t rest
 
-abbrev pub AppendsQuit : Option (List ℕ) → List Visible → Option ℕ → ℕ → Term → (old new : List LoopItem) → Type 0
-AppendsQuit index names mask from c old new =
-    (taken : List (List ℕ)) (rest : List Item) → view new ++ rest ≡ view old ++ quit_items (scope_of index names taken) mask from (env_of names) c rest
+abbrev pub AppendsBreak : Option (List ℕ) → List Visible → Option ℕ → ℕ → Term → (old new : List LoopItem) → Type 0
+AppendsBreak index names mask from c old new =
+    (taken : List (List ℕ)) (rest : List Item) → view new ++ rest ≡ view old ++ break_items (scope_of index names taken) mask from (env_of names) c rest
 
 abbrev pub AppendsAction : Option (List ℕ) → List Visible → Option ℕ → ℕ → Action → (old new : List LoopItem) → Type 0
 AppendsAction index names mask from a old new =

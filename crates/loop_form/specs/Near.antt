@@ -58,6 +58,6 @@ abbrev mutual
   NearOtherwise i Nothing = Unit {0}
   NearOtherwise i (Else b) = NearBlock i b
 
-abbrev pub NearTurns : Option (List ℕ) → Option PlainLoop → Type 0
-NearTurns i None = Unit {0}
-NearTurns i (Some l) = NearBlock i l.body
+abbrev pub NearForLoop : Option (List ℕ) → Option PlainLoop → Type 0
+NearForLoop i None = Unit {0}
+NearForLoop i (Some l) = NearBlock i l.body

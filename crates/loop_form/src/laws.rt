@@ -4,7 +4,7 @@ ghost use Rattle.std.specs.Prelude.{◌≡◌, ◌+◌, ◌<◌, ◌≤◌, ◌^
 ghost use Rattle.kernel_tree.specs.Items.{loop_index, size_of, loop_start};
 ghost use Rattle.reg_assign.specs.Intervals.{need_of, Ascend};
 ghost use Rattle.loop_form.specs.Entries.{entries_of, loop_entries};
-ghost use Rattle.loop_form.specs.Near.{AreNear, NearTurns};
+ghost use Rattle.loop_form.specs.Near.{AreNear, NearForLoop};
 ghost use Rattle.loop_form.specs.Needs.{throughout, counted, intervals, need};
 ghost use Rattle.loop_form.specs.Numbers.{Numbered, AreForward};
 ghost use Rattle.loop_form.specs.Places.{value_places, ArePlaced};
@@ -28,7 +28,7 @@ pub fn near_offsets(kernel: &Checked)
 
 /// So have those of the statements of its loop.
 pub fn near_statements(kernel: &Checked)
-    ensures { NearTurns (loop_index (program kernel.now)) (program kernel.now).turns }
+    ensures { NearForLoop (loop_index (program kernel.now)) (program kernel.now).for_loop }
 {}
 
 /// Its items are as many as its size says, and numbered from 0; those of the loop from the number of `for` on.

@@ -25,7 +25,7 @@ pub use held_tests::{is_same_type, is_update_of};
 pub use held_throughout::Held;
 pub use index_type::{type_reach, widens};
 pub use item::{Item, ItemKind};
-pub use loop_item::{LoopItem, LoopOp, Source};
+pub use loop_item::{LoopItem, LoopOp, Operand};
 pub use names::{param_place, var_type};
 pub use reach::Reach;
 pub use registers::counted_registers;

@@ -4,7 +4,7 @@ use kernel_tree::{BinaryOp, CompareOp, Ty, UnaryOp, UpdateOp};
 
 /// Where an operand is held.
 #[derive(Clone, Copy)]
-pub enum Source {
+pub enum Operand {
     /// In a literal of a type, as it is written.
     Constant(Option<Ty>, i128),
     /// In the parameter or the accumulator at a place: the parameters come first, in their order, and then the
@@ -22,84 +22,84 @@ pub enum LoopOp<'a> {
     /// Reads the element at an offset from the loop variable.
     Load {
         array: &'a str,
-        base: Source,
+        base: Operand,
         ty: Option<Ty>,
         offset: i32,
     },
     /// Reads the element at an index, which is below the reach where it has one.
     Gather {
         array: &'a str,
-        base: Source,
+        base: Operand,
         ty: Option<Ty>,
         reach: Option<u32>,
         index_ty: Option<Ty>,
-        index: Source,
+        index: Operand,
     },
-    Apply {
+    Unary {
         op: UnaryOp,
         ty: Option<Ty>,
-        arg: Source,
+        arg: Operand,
     },
-    Combine {
+    Binary {
         op: BinaryOp,
         ty: Option<Ty>,
-        left: Source,
-        right: Source,
+        left: Operand,
+        right: Operand,
     },
     /// Shifts by a count, to the left where `left` is true.
-    Move {
+    Shift {
         left: bool,
         count: i128,
         ty: Option<Ty>,
-        arg: Source,
+        arg: Operand,
     },
     Cast {
         from: Option<Ty>,
         to: Ty,
-        arg: Source,
+        arg: Operand,
     },
     /// The value of a `let`.
-    Copy {
+    Let {
         ty: Option<Ty>,
-        arg: Source,
+        arg: Operand,
     },
     /// The one value where the condition holds, and else the other.
-    Pick {
+    Select {
         ty: Option<Ty>,
         cond: u32,
-        yes: Source,
-        no: Source,
+        yes: Operand,
+        no: Operand,
     },
     /// Writes the element at an offset from the loop variable.
     Store {
         array: &'a str,
-        base: Source,
+        base: Operand,
         ty: Option<Ty>,
         offset: i32,
-        value: Source,
+        value: Operand,
     },
     /// Updates an accumulator.
-    Add {
+    Update {
         name: &'a str,
         op: UpdateOp,
         ty: Option<Ty>,
-        value: Source,
+        value: Operand,
     },
     /// Compares two values of a type.
-    Test {
+    Compare {
         op: CompareOp,
         ty: Option<Ty>,
-        left: Source,
-        right: Source,
+        left: Operand,
+        right: Operand,
     },
     /// Holds where the condition does not: `!`, the mark of `||`, and `else`.
-    Invert(u32),
+    Not(u32),
     /// Holds where the condition does: `&&`, whose right side is made where the left one holds.
-    Same(u32),
+    And(u32),
     /// Holds where one of two conditions does.
-    Any(u32, u32),
+    Or(u32, u32),
     /// Leaves the loop where the condition holds.
-    Quit(u32),
+    Break(u32),
 }
 
 /// An item of a loop that does something: its number in the listing, the item whose condition it is done under, and

@@ -1,7 +1,7 @@
 //! How many items the parts of a kernel make.
 
 ghost use Rattle.std.specs.Prelude.{◌≡◌, ◌<◌, ◌≤◌, ◌^◌, is_some};
-ghost use Rattle.kernel_tree.specs.Plain.{name_of, term_of, action_of, block_of, accumulators_of, turns_of};
+ghost use Rattle.kernel_tree.specs.Plain.{name_of, term_of, action_of, block_of, accumulators_of, for_loop_of};
 ghost use Rattle.kernel_tree.specs.Items.{is_index, is_index_term, stream_offset, loop_index, term_size, index_items, action_size, block_size, vars_size};
 ghost use Rattle.loop_form.specs.View.{program};
 
@@ -14,7 +14,7 @@ pub fn is_loop_variable(kernel: &Checked, name: &Name) -> bool
 {
     match &kernel.kernel().body {
         None => false,
-        Some(turns) => name.text() == turns.index.text(),
+        Some(for_loop) => name.text() == for_loop.index.text(),
     }
 }
 

@@ -1,6 +1,6 @@
 //! Names that are visible in a loop.
 
-use crate::loop_item::Source;
+use crate::loop_item::Operand;
 use kernel_tree::fault::Binding;
 
 /// A name, what it stands for, and where its value is held.
@@ -8,5 +8,5 @@ use kernel_tree::fault::Binding;
 pub struct Visible<'a> {
     pub name: &'a str,
     pub binding: Binding,
-    pub source: Source,
+    pub source: Operand,
 }

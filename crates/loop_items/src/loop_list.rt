@@ -28,16 +28,16 @@ pub fn loop_items(alloc: Global, kernel: &Checked) -> Result<Vec<LoopItem<'_>>, 
         short: false,
     };
     let tree = kernel.kernel();
-    if let Some(turns) = &tree.body {
+    if let Some(for_loop) = &tree.body {
         let start = tree.params.len() as u32 + vars_size_of(kernel, &tree.vars);
-        let mut names = loop_names(alloc, kernel, turns)?;
+        let mut names = loop_names(alloc, kernel, for_loop)?;
         list_block(
             kernel,
             &mut names,
             &mut listed,
             None,
             start + 1,
-            &turns.body,
+            &for_loop.body,
         );
     }
     if listed.short {

@@ -1,14 +1,14 @@
 //! The names that are visible at the head of a loop's body.
 
 ghost use Rattle.std.specs.Prelude.{◌+◌, ◌≤◌, length, map, IfOk, OnOk};
-ghost use Rattle.kernel_tree.specs.Plain.{parameters_of, accumulators_of, turns_of};
+ghost use Rattle.kernel_tree.specs.Plain.{parameters_of, accumulators_of, for_loop_of};
 ghost use Rattle.kernel_tree.specs.Scopes.{param_local, var_local};
 ghost use Rattle.loop_form.specs.LoopView.{AddsOuter, IsLoopHead};
 ghost use Rattle.loop_form.specs.View.{program};
 
 use kernel_tree::fault::Binding;
 use kernel_tree::{Checked, Loop, Param, Var};
-use loop_form::Source;
+use loop_form::Operand;
 use loop_form::laws::few_items;
 use loop_form::visible::Visible;
 use std::alloc::{AllocError, Global};
@@ -23,7 +23,7 @@ fn add_params<'a>(names: &mut Vec<Visible<'a>>, params: &'a [Param]) -> Result<(
         names.push(Visible {
             name: param.name.text(),
             binding: param.shape.binding(),
-            source: Source::Outer(place),
+            source: Operand::Outer(place),
         })?;
     }
     Ok(())
@@ -39,7 +39,7 @@ fn add_vars<'a>(names: &mut Vec<Visible<'a>>, vars: &'a [Var]) -> Result<(), All
         names.push(Visible {
             name: var.name.text(),
             binding: Binding::Accumulator(var.ty),
-            source: Source::Outer(place),
+            source: Operand::Outer(place),
         })?;
     }
     Ok(())
@@ -50,9 +50,9 @@ fn add_vars<'a>(names: &mut Vec<Visible<'a>>, vars: &'a [Var]) -> Result<(), All
 pub fn loop_names<'a>(
     alloc: Global,
     kernel: &'a Checked,
-    turns: &'a Loop,
+    for_loop: &'a Loop,
 ) -> Result<Vec<Visible<'a>>, AllocError>
-    ensures { IfOk result (λ names. IsLoopHead (program kernel.now) (turns_of turns.now) names.items) }
+    ensures { IfOk result (λ names. IsLoopHead (program kernel.now) (for_loop_of for_loop.now) names.items) }
 {
     few_items(kernel);
     let tree = kernel.kernel();
@@ -60,9 +60,9 @@ pub fn loop_names<'a>(
     add_params(&mut names, &tree.params)?;
     add_vars(&mut names, &tree.vars)?;
     names.push(Visible {
-        name: turns.index.text(),
+        name: for_loop.index.text(),
         binding: Binding::Index,
-        source: Source::LoopIndex,
+        source: Operand::LoopIndex,
     })?;
     Ok(names)
 }

@@ -3,20 +3,20 @@
 ghost use Rattle.std.specs.Prelude.{◌≡◌, ◌+◌, ◌≤◌, [], take, length, false};
 ghost use Rattle.kernel_tree.specs.Plain.{Define, Put, Update, Leave, Choose, Nothing, Else, name_of, term_of, action_of, block_of};
 ghost use Rattle.kernel_tree.specs.Items.{loop_index, term_size, action_size, block_size};
-ghost use Rattle.loop_form.specs.LoopView.{AppendsQuit, AppendsAction, AppendsBlock, Declares};
+ghost use Rattle.loop_form.specs.LoopView.{AppendsBreak, AppendsAction, AppendsBlock, Declares};
 ghost use Rattle.loop_form.specs.Near.{NearTerm, NearAction, NearBlock};
 ghost use Rattle.loop_form.specs.View.{program};
 
 use crate::listed::Listed;
 use crate::loop_values::{append, list_operand, list_truth};
-use crate::visible::{accumulator_type_of, array_type_of, first_type, own_type, source_of};
+use crate::visible::{accumulator_type_of, array_type_of, first_type, operand_of, own_type};
 use kernel_tree::fault::Binding;
 use kernel_tree::{Checked, Expr, Name, Part, Stmt, Ty, UpdateOp, parts};
 use loop_form::size::{count_items, expr_size, statements_size};
 use loop_form::visible::Visible;
-use loop_form::{LoopOp, Source, offset};
+use loop_form::{LoopOp, Operand, offset};
 
-// A `let`, whose name plays no part in its items, so that none stands for any: its value, and the copy.
+// A `let`, whose name plays no part in its items, so that none stands for any: its value, and the `let`.
 fn list_let<'a>(
     kernel: &Checked,
     names: &[Visible<'a>],
@@ -33,7 +33,7 @@ fn list_let<'a>(
         mask from (Define [] ty (term_of value.now)) listed.old.items.items listed.new.items.items }
 {
     let want = first_type(ty, own_type(names, value));
-    let op = LoopOp::Copy {
+    let op = LoopOp::Let {
         ty: want,
         arg: list_operand(kernel, names, listed, want, mask, from, value),
     };
@@ -66,7 +66,7 @@ fn list_store<'a>(
     if let Some(offset) = offset(kernel, index) {
         let op = LoopOp::Store {
             array,
-            base: source_of(names, array),
+            base: operand_of(names, array),
             ty: want,
             offset,
             value: stored,
@@ -94,7 +94,7 @@ fn list_update<'a>(
 {
     let name = name.text();
     let want = accumulator_type_of(names, name);
-    let op = LoopOp::Add {
+    let op = LoopOp::Update {
         name,
         op,
         ty: want,
@@ -104,7 +104,7 @@ fn list_update<'a>(
 }
 
 // A break on one condition: the condition, and the break.
-fn list_quit<'a>(
+fn list_one_break<'a>(
     kernel: &Checked,
     names: &[Visible<'a>],
     listed: &mut Listed<'a>,
@@ -115,10 +115,10 @@ fn list_quit<'a>(
     requires fits { from + (term_size (loop_index (program kernel.now)) (term_of cond.now) + 1) ≤ 1000 }
     requires near { NearTerm (loop_index (program kernel.now)) (term_of cond.now) }
     ensures kept { listed.new.short ≡ false → listed.old.short ≡ false }
-    ensures items { listed.new.short ≡ false → AppendsQuit (loop_index (program kernel.now)) names.now
+    ensures items { listed.new.short ≡ false → AppendsBreak (loop_index (program kernel.now)) names.now
         mask from (term_of cond.now) listed.old.items.items listed.new.items.items }
 {
-    let op = LoopOp::Quit(list_truth(kernel, names, listed, mask, from, cond));
+    let op = LoopOp::Break(list_truth(kernel, names, listed, mask, from, cond));
     append(listed, from + expr_size(kernel, cond), mask, op);
 }
 
@@ -141,9 +141,9 @@ fn list_break<'a>(
         Expr::Or { left, right } => {
             let next = from + expr_size(kernel, left) + 1;
             list_break(kernel, names, listed, mask, from, left);
-            list_quit(kernel, names, listed, mask, next, right);
+            list_one_break(kernel, names, listed, mask, next, right);
         }
-        _ => list_quit(kernel, names, listed, mask, from, cond),
+        _ => list_one_break(kernel, names, listed, mask, from, cond),
     }
 }
 
@@ -232,7 +232,7 @@ fn list_if_else<'a>(
     let other_side = inner + statements_size(kernel, block);
     let first = list_truth(kernel, names, listed, mask, from, cond);
     list_inner(kernel, names, listed, Some(first), inner, block);
-    append(listed, other_side, mask, LoopOp::Invert(first));
+    append(listed, other_side, mask, LoopOp::Not(first));
     list_inner(
         kernel,
         names,
@@ -311,7 +311,7 @@ fn declare<'a>(
         let visible = Visible {
             name: name.text(),
             binding: Binding::Value(ty),
-            source: Source::Made(from + expr_size(kernel, value)),
+            source: Operand::Made(from + expr_size(kernel, value)),
         };
         if names.push(visible).is_err() {
             *short = true;

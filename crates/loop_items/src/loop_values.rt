@@ -12,12 +12,12 @@ ghost use Rattle.loop_form.specs.View.{program};
 use crate::listed::Listed;
 use crate::operands::{condition_item, source};
 use crate::visible::{
-    array_type_of, first_type, index_source_of, index_type_of, own_type, source_of,
+    array_type_of, first_type, index_source_of, index_type_of, operand_of, own_type,
 };
 use kernel_tree::{BinaryOp, Checked, CompareOp, Expr, Name, Ty, UnaryOp};
 use loop_form::size::expr_size;
 use loop_form::visible::Visible;
-use loop_form::{LoopItem, LoopOp, Source, offset, type_reach};
+use loop_form::{LoopItem, LoopOp, Operand, offset, type_reach};
 
 /// Appends an item.
 pub fn append<'a>(listed: &mut Listed<'a>, number: u32, mask: Option<u32>, op: LoopOp<'a>)
@@ -95,7 +95,7 @@ fn list_read<'a>(
             let array = array.text();
             let op = LoopOp::Load {
                 array,
-                base: source_of(names, array),
+                base: operand_of(names, array),
                 ty: array_type_of(names, array),
                 offset,
             };
@@ -130,7 +130,7 @@ fn list_gather<'a>(
     let array = array.text();
     let op = LoopOp::Gather {
         array,
-        base: source_of(names, array),
+        base: operand_of(names, array),
         ty: array_type_of(names, array),
         reach: type_reach(index_source_of(names, index)),
         index_ty: want,
@@ -150,7 +150,7 @@ pub fn list_operand<'a>(
     mask: Option<u32>,
     from: u32,
     arg: &'a Expr,
-) -> Source
+) -> Operand
     requires fits { from + term_size (loop_index (program kernel.now)) (term_of arg.now) ≤ 1000 }
     requires near { NearTerm (loop_index (program kernel.now)) (term_of arg.now) }
     ensures source { result ≡ home (loop_index (program kernel.now)) want from (env_of names.now)
@@ -182,7 +182,7 @@ fn list_unary<'a>(
         mask from (Unary op (term_of arg.now)) listed.old.items.items listed.new.items.items }
 {
     let value = list_operand(kernel, names, listed, want, mask, from, arg);
-    let op = LoopOp::Apply {
+    let op = LoopOp::Unary {
         op,
         ty: want,
         arg: value,
@@ -214,7 +214,7 @@ fn list_binary<'a>(
     let next = from + expr_size(kernel, left);
     let first = list_operand(kernel, names, listed, want, mask, from, left);
     let second = list_operand(kernel, names, listed, want, mask, next, right);
-    let op = LoopOp::Combine {
+    let op = LoopOp::Binary {
         op,
         ty: want,
         left: first,
@@ -270,7 +270,7 @@ fn list_shift<'a>(
         mask from (Shift left (term_of arg.now) count.now) listed.old.items.items listed.new.items.items }
 {
     let value = list_operand(kernel, names, listed, want, mask, from, arg);
-    let op = LoopOp::Move {
+    let op = LoopOp::Shift {
         left,
         count: *count,
         ty: want,
@@ -305,7 +305,7 @@ fn list_select<'a>(
     let last = next + expr_size(kernel, no);
     let first = list_operand(kernel, names, listed, want, mask, from, yes);
     let second = list_operand(kernel, names, listed, want, mask, next, no);
-    let op = LoopOp::Pick {
+    let op = LoopOp::Select {
         ty: want,
         cond: list_truth(kernel, names, listed, mask, last, cond),
         yes: first,
@@ -386,7 +386,7 @@ fn list_compared<'a>(
     let next = from + expr_size(kernel, left);
     let first = list_operand(kernel, names, listed, want, mask, from, left);
     let second = list_operand(kernel, names, listed, want, mask, next, right);
-    let op = LoopOp::Test {
+    let op = LoopOp::Compare {
         op,
         ty: want,
         left: first,
@@ -420,7 +420,7 @@ fn list_and<'a>(
         listed,
         next + expr_size(kernel, right),
         mask,
-        LoopOp::Same(second),
+        LoopOp::And(second),
     );
 }
 
@@ -444,13 +444,13 @@ fn list_or<'a>(
 {
     let mark = from + expr_size(kernel, left);
     let first = list_truth(kernel, names, listed, mask, from, left);
-    append(listed, mark, mask, LoopOp::Invert(first));
+    append(listed, mark, mask, LoopOp::Not(first));
     let second = list_truth(kernel, names, listed, Some(mark), mark + 1, right);
     append(
         listed,
         mark + 1 + expr_size(kernel, right),
         mask,
-        LoopOp::Any(first, second),
+        LoopOp::Or(first, second),
     );
 }
 
@@ -475,6 +475,6 @@ fn list_not<'a>(
         listed,
         from + expr_size(kernel, arg),
         mask,
-        LoopOp::Invert(first),
+        LoopOp::Not(first),
     );
 }

@@ -7,9 +7,9 @@ ghost use Rattle.loop_form.specs.LoopItems.{home, truth_home};
 ghost use Rattle.loop_form.specs.LoopView.{env_of};
 ghost use Rattle.loop_form.specs.View.{program};
 
-use crate::visible::source_of;
+use crate::visible::operand_of;
 use kernel_tree::{Checked, Expr, Ty};
-use loop_form::Source;
+use loop_form::Operand;
 use loop_form::size::expr_size;
 use loop_form::visible::Visible;
 
@@ -20,17 +20,17 @@ pub fn source(
     want: Option<Ty>,
     from: u32,
     expr: &Expr,
-) -> Source
+) -> Operand
     requires { from + term_size (loop_index (program kernel.now)) (term_of expr.now) ≤ 1000 }
     ensures { result ≡ home (loop_index (program kernel.now)) want from (env_of names.now) (term_of expr.now) }
 {
     match expr {
-        Expr::Lit(value) => Source::Constant(want, *value),
-        Expr::Var(name) => source_of(names, name.text()),
+        Expr::Lit(value) => Operand::Constant(want, *value),
+        Expr::Var(name) => operand_of(names, name.text()),
         Expr::Compare { .. } | Expr::And { .. } | Expr::Or { .. } | Expr::Not { .. } => {
-            Source::Constant(None, 0)
+            Operand::Constant(None, 0)
         }
-        _ => Source::Made(from + expr_size(kernel, expr) - 1),
+        _ => Operand::Made(from + expr_size(kernel, expr) - 1),
     }
 }
 

@@ -4,13 +4,13 @@ ghost use Rattle.std.specs.Prelude.{◌≡◌, List, ℕ, Option, option_map, op
 ghost use Rattle.std.specs.List.{find};
 ghost use Rattle.kernel_tree.specs.Plain.{term_of};
 ghost use Rattle.kernel_tree.specs.Typing.{has_name, binding_of, value_type, element_type, accumulator_type, first, own, index_type, side_type, array_type};
-ghost use Rattle.loop_form.specs.LoopItems.{source_at, accumulator_of, index_source};
+ghost use Rattle.loop_form.specs.LoopItems.{operand_at, accumulator_of, index_source};
 ghost use Rattle.loop_form.specs.LoopView.{locals, env_of, scope_of};
 
 use kernel_tree::fault::Binding;
 use kernel_tree::{Expr, Ty};
 use loop_form::visible::Visible;
-use loop_form::{Source, widens};
+use loop_form::{Operand, widens};
 
 // What a name stands for, where it is visible.
 fn look_up(names: &[Visible<'_>], name: &str) -> Option<Binding>
@@ -25,15 +25,15 @@ fn look_up(names: &[Visible<'_>], name: &str) -> Option<Binding>
 }
 
 /// Where the value of a name is held.
-pub fn source_of(names: &[Visible<'_>], name: &str) -> Source
-    ensures { result ≡ source_at (env_of names.now) name.now }
+pub fn operand_of(names: &[Visible<'_>], name: &str) -> Operand
+    ensures { result ≡ operand_at (env_of names.now) name.now }
 {
     for visible in names {
         if visible.name == name {
             return visible.source;
         }
     }
-    Source::Constant(None, 0)
+    Operand::Constant(None, 0)
 }
 
 fn value_type(binding: Binding) -> Option<Ty>

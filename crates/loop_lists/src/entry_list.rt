@@ -2,9 +2,9 @@
 
 ghost use Rattle.std.specs.Prelude.{◌≡◌, ◌+◌, ◌≤◌, ◌++◌, length, option_map};
 ghost use Rattle.arrayvec.specs.ArrayVec.{array_vec_len};
-ghost use Rattle.kernel_tree.specs.Plain.{parameters_of, turns_of, returned_of};
-ghost use Rattle.kernel_tree.specs.Items.{loop_index, size_of, turns_size, answer_size, index_of};
-ghost use Rattle.loop_form.specs.Entries.{params_entries, turns_entries, answer_entries, entries_of, loop_entries};
+ghost use Rattle.kernel_tree.specs.Plain.{parameters_of, for_loop_of, returned_of};
+ghost use Rattle.kernel_tree.specs.Items.{loop_index, size_of, for_loop_size, answer_size, index_of};
+ghost use Rattle.loop_form.specs.Entries.{params_entries, for_loop_entries, answer_entries, entries_of, loop_entries};
 ghost use Rattle.loop_form.specs.Near.{AreNear};
 ghost use Rattle.loop_form.specs.View.{program, entries_view};
 
@@ -16,14 +16,14 @@ use loop_form::size::statements_size;
 use loop_form::{Content, ItemKind, vars_size_of};
 
 // The items of a loop.
-fn turns_size_of(kernel: &Checked, turns: &Option<Loop>) -> u32
-    requires fits { turns_size (option_map turns_of turns.now) ≤ 1000 }
-    requires index { loop_index (program kernel.now) ≡ option_map index_of (option_map turns_of turns.now) }
-    ensures { result ≡ turns_size (option_map turns_of turns.now) }
+fn for_loop_size_of(kernel: &Checked, for_loop: &Option<Loop>) -> u32
+    requires fits { for_loop_size (option_map for_loop_of for_loop.now) ≤ 1000 }
+    requires index { loop_index (program kernel.now) ≡ option_map index_of (option_map for_loop_of for_loop.now) }
+    ensures { result ≡ for_loop_size (option_map for_loop_of for_loop.now) }
 {
-    match turns {
+    match for_loop {
         None => 0,
-        Some(turns) => 1 + statements_size(kernel, &turns.body),
+        Some(for_loop) => 1 + statements_size(kernel, &for_loop.body),
     }
 }
 
@@ -40,17 +40,22 @@ fn list_params(kernel: &Checked, entries: &mut Entries<'_>, params: &[Param])
     }
 }
 
-fn list_turns<'a>(kernel: &Checked, entries: &mut Entries<'a>, from: u32, turns: &'a Option<Loop>)
+fn list_for_loop<'a>(
+    kernel: &Checked,
+    entries: &mut Entries<'a>,
+    from: u32,
+    for_loop: &'a Option<Loop>,
+)
     requires following { array_vec_len entries.old ≤ from }
-    requires fits { from + turns_size (option_map turns_of turns.now) ≤ 1000 }
-    requires index { loop_index (program kernel.now) ≡ option_map index_of (option_map turns_of turns.now) }
+    requires fits { from + for_loop_size (option_map for_loop_of for_loop.now) ≤ 1000 }
+    requires index { loop_index (program kernel.now) ≡ option_map index_of (option_map for_loop_of for_loop.now) }
     ensures items { entries_view entries.new.items ≡ entries_view entries.old.items
-        ++ turns_entries (program kernel.now) from (option_map turns_of turns.now) }
-    ensures len { array_vec_len entries.new ≡ array_vec_len entries.old + turns_size (option_map turns_of turns.now) }
+        ++ for_loop_entries (program kernel.now) from (option_map for_loop_of for_loop.now) }
+    ensures len { array_vec_len entries.new ≡ array_vec_len entries.old + for_loop_size (option_map for_loop_of for_loop.now) }
 {
-    if let Some(turns) = turns {
+    if let Some(for_loop) = for_loop {
         put(kernel, entries, from, Content::Plain(ItemKind::For), from);
-        list_block(kernel, entries, from + 1, &turns.body);
+        list_block(kernel, entries, from + 1, &for_loop.body);
     }
 }
 
@@ -89,11 +94,11 @@ pub fn entries(kernel: &Checked) -> Entries<'_>
     let tree = kernel.kernel();
     let vars = tree.params.len() as u32;
     let start = vars + vars_size_of(kernel, &tree.vars);
-    let end = start + turns_size_of(kernel, &tree.body);
+    let end = start + for_loop_size_of(kernel, &tree.body);
     let mut entries = Entries::new();
     list_params(kernel, &mut entries, &tree.params);
     list_vars(kernel, &mut entries, vars, &tree.vars);
-    list_turns(kernel, &mut entries, start, &tree.body);
+    list_for_loop(kernel, &mut entries, start, &tree.body);
     list_answer(kernel, &mut entries, end, &tree.answer);
     entries
 }
@@ -110,7 +115,7 @@ pub fn loop_entries(kernel: &Checked) -> Entries<'_>
     let tree = kernel.kernel();
     let start = tree.params.len() as u32 + vars_size_of(kernel, &tree.vars);
     let mut entries = Entries::new();
-    list_turns(kernel, &mut entries, start, &tree.body);
+    list_for_loop(kernel, &mut entries, start, &tree.body);
     entries
 }
 

@@ -143,7 +143,7 @@ fn push_index(
         (loop_index (program kernel.now))) }
 {
     match &kernel.kernel().body {
-        Some(turns) => push_where(held, is_named(entries, turns.index.text()), Held::Index),
+        Some(for_loop) => push_where(held, is_named(entries, for_loop.index.text()), Held::Index),
         None => Ok(()),
     }
 }

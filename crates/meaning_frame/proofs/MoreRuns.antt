@@ -8,12 +8,12 @@ use Rattle.kernel_tree.specs.declared.ops.UpdateOp.{UpdateOp}
 use Rattle.kernel_tree.specs.declared.fault.Binding.TheVariants as binding
 use Rattle.kernel_tree.specs.Plain.{Accumulator, Action, Define, Put, Update, Choose, Leave, Block, Done, Then, Otherwise, Nothing, Else, PlainLoop, Returned, Program}
 use Rattle.kernel_tree.specs.Items.{stream_offset}
-use Rattle.kernel_tree.specs.Typing.{Scope, lookup, own, first, element_type, accumulator_type, index_type, after_action, after_block, after_turns, left, in_loop, declared, param_scope, var_scope}
+use Rattle.kernel_tree.specs.Typing.{Scope, lookup, own, first, element_type, accumulator_type, index_type, after_action, after_block, after_for_loop, left, in_loop, declared, param_scope, var_scope}
 use Rattle.kernel_meaning.specs.Ends.{BlockEnd, Next, Broke, Faulted, LoopState, Going, Left, Failed, go_on}
 use Rattle.kernel_meaning.specs.Operators.{word}
 use Rattle.kernel_meaning.specs.Eval.{Names, value_at, byte_count, address, iteration, value}
 use Rattle.kernel_meaning.specs.Iterate.{with_name, cut, define, update, write, put, choose, leave, then_do, act, do_block, do_otherwise, iterate}
-use Rattle.kernel_meaning.specs.ScalarRun.{initial, iterations, bound_of, Run, End, Fault, returned, ended, closed, finish, run_turns, run_named, started, scalar_run, argument_names}
+use Rattle.kernel_meaning.specs.ScalarRun.{initial, iterations, bound_of, Run, End, Fault, returned, ended, closed, finish, run_for_loop, run_named, started, scalar_run, argument_names}
 use Rattle.meaning_frame.proofs.MorePages.{stored-merged, apart-stored}
 use Rattle.meaning_frame.proofs.MoreValues.{Gives, map_gives, number_gives, value_gives, holds_gives}
 
@@ -130,7 +130,7 @@ module _ (others : Memory) where
 
   closed_ends : (s : Scope) (l : PlainLoop) (answer : Option Returned) (memory : Memory) (names : Names) (done n : ℕ) → DoNotMeet others memory → Ends (closed s l answer memory names done n) (closed s l answer (merged others memory) names done n)
   closed_ends s l answer memory names done n apart =
-      ended_ends memory n _ _ apart (returned_gives (after_turns s (Some l)) answer memory (with_name l.index names (pos done)) apart)
+      ended_ends memory n _ _ apart (returned_gives (after_for_loop s (Some l)) answer memory (with_name l.index names (pos done)) apart)
 
   finish_ends : (s : Scope) (l : PlainLoop) (answer : Option Returned) (n : ℕ) (a b : LoopState Names) → Stands a b → Ends (finish s l answer n a) (finish s l answer n b)
   finish_ends s l answer n (Going memory names) b h =
@@ -139,9 +139,9 @@ module _ (others : Memory) where
       subst (λ t. Ends (closed s l answer memory names i (i + 1)) (finish s l answer n t)) (sym h.0) (closed_ends s l answer memory names i (i + 1) h.1)
   finish_ends s l answer n (Failed memory i) b h = tt
 
-  turns_end : (s : Scope) (turns : Option PlainLoop) (answer : Option Returned) (memory : Memory) (names : Names) → DoNotMeet others memory → Ends (run_turns s turns answer memory names) (run_turns s turns answer (merged others memory) names)
-  turns_end s None answer memory names apart = ended_ends memory 0 _ _ apart (returned_gives s answer memory names apart)
-  turns_end s (Some l) answer memory names apart = finish_ends s l answer (bound_of l names) _ _ (iterations_stand (bound_of l names) s l 0 memory names apart)
+  for_loop_ends : (s : Scope) (for_loop : Option PlainLoop) (answer : Option Returned) (memory : Memory) (names : Names) → DoNotMeet others memory → Ends (run_for_loop s for_loop answer memory names) (run_for_loop s for_loop answer (merged others memory) names)
+  for_loop_ends s None answer memory names apart = ended_ends memory 0 _ _ apart (returned_gives s answer memory names apart)
+  for_loop_ends s (Some l) answer memory names apart = finish_ends s l answer (bound_of l names) _ _ (iterations_stand (bound_of l names) s l 0 memory names apart)
 
   initial_gives : (vs : List Accumulator) (s : Scope) (memory : Memory) (names : Names) → DoNotMeet others memory → Gives (initial s vs memory names) (initial s vs (merged others memory) names)
   initial_gives [] s memory names apart = refl
@@ -160,7 +160,7 @@ module _ (others : Memory) where
   named_ends : (k : Program) (memory : Memory) (a b : Option Names) → DoNotMeet others memory → Gives a b → Ends (run_named k memory a) (run_named k (merged others memory) b)
   named_ends k memory None b apart h = tt
   named_ends k memory (Some names) b apart h =
-      subst (λ o. Ends (run_turns (var_scope k) k.turns k.answer memory names) (run_named k (merged others memory) o)) (sym h) (turns_end (var_scope k) k.turns k.answer memory names apart)
+      subst (λ o. Ends (run_for_loop (var_scope k) k.for_loop k.answer memory names) (run_named k (merged others memory) o)) (sym h) (for_loop_ends (var_scope k) k.for_loop k.answer memory names apart)
 
   run_ends : (k : Program) (args : List ℕ) (memory : Memory) → DoNotMeet others memory → Ends (scalar_run k args memory) (scalar_run k args (merged others memory))
   run_ends k args memory apart = named_ends k memory (started k args memory) (started k args (merged others memory)) apart (initial_gives k.vars (param_scope k) memory (argument_names k.params args) apart)

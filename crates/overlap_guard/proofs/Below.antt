@@ -8,7 +8,7 @@ use Rattle.guest_types.specs.Length.{width_bytes}
 use Rattle.machine_model.specs.Machine.{State, x_at, next, jump}
 use Rattle.machine_model.specs.Arithmetic.{shifted_word, holds}
 use Rattle.a64_code.specs.Table.{subs}
-use Rattle.label_fix.specs.DraftRun.{Entry, Branch, If, Laid, following, address_of, ins}
+use Rattle.label_fix.specs.DraftRun.{DraftEntry, Branch, If, Laid, following, address_of, ins}
 use Rattle.label_fix.proofs.StretchSteps.{Goes, put_goes, taken_goes, passed_goes, chain}
 use Rattle.dependence.specs.declared.used.Extent.{Extent}
 use Rattle.dependence.specs.declared.used.Extent.TheVariants.{Streams, Computed, Both}
@@ -26,7 +26,7 @@ near_over w least (Computed r) fit = (omega (arith, ints), omega (arith, ints))
 near_over w least (Both g r) fit = (omega (arith, ints), omega (arith, ints))
 
 -- a comparison of an integer with another one
-pub record Compares (D : Laid) (c e : List Entry) (s : State) (z y : ℤ) (most : ℕ) : Type 0 where
+pub record Compares (D : Laid) (c e : List DraftEntry) (s : State) (z y : ℤ) (most : ℕ) : Type 0 where
   pub end : State
   pub goes : Goes D c s e end most
   pub same : Same s end
@@ -37,7 +37,7 @@ pub record Compares (D : Laid) (c e : List Entry) (s : State) (z y : ℤ) (most 
 
 module _ (D : Laid) where
   -- a branch where it is not above
-  pub branch_low : {c rest : List Entry} {s : State} {z y : ℤ} {m : ℕ} (ok : ℕ) → Compares D c (Branch (If 2) ok ∷ rest) s z y m → Tests D c s (following D ok) rest (z ≤ℤ y) (y <ℤ z) (m + 1)
+  pub branch_low : {c rest : List DraftEntry} {s : State} {z y : ℤ} {m : ℕ} (ok : ℕ) → Compares D c (Branch (If 2) ok ∷ rest) s z y m → Tests D c s (following D ok) rest (z ≤ℤ y) (y <ℤ z) (m + 1)
   branch_low {c = c} {rest = rest} {s = s} {z = z} {y = y} {m = m} ok k = by k.yes k.end k.goes k.same k.flag k.if_yes k.if_no
     where
       by : (b : Bool) (t : State) → Goes D c s (Branch (If 2) ok ∷ rest) t m → Same s t → holds 2 t.flags ≡ b → (b ≡ true → z ≤ℤ y) → (b ≡ false → y <ℤ z) → Tests D c s (following D ok) rest (z ≤ℤ y) (y <ℤ z) (m + 1)
@@ -45,7 +45,7 @@ module _ (D : Laid) where
       by false t g k q low high = goes_off (high refl) (next t) (chain (m + 1) (omega arith) g (passed_goes q)) (same_on k (same_jump t _))
 
   -- and one where it is
-  pub branch_above : {c rest : List Entry} {s : State} {z y : ℤ} {m : ℕ} (fail : ℕ) → Compares D c (Branch (If 3) fail ∷ rest) s z y m → Tests D c s rest (following D fail) (z ≤ℤ y) (y <ℤ z) (m + 1)
+  pub branch_above : {c rest : List DraftEntry} {s : State} {z y : ℤ} {m : ℕ} (fail : ℕ) → Compares D c (Branch (If 3) fail ∷ rest) s z y m → Tests D c s rest (following D fail) (z ≤ℤ y) (y <ℤ z) (m + 1)
   branch_above {c = c} {rest = rest} {s = s} {z = z} {y = y} {m = m} fail k = by k.yes k.end k.goes k.same k.flag k.if_yes k.if_no
     where
       by : (b : Bool) (t : State) → Goes D c s (Branch (If 3) fail ∷ rest) t m → Same s t → holds 2 t.flags ≡ b → (b ≡ true → z ≤ℤ y) → (b ≡ false → y <ℤ z) → Tests D c s rest (following D fail) (z ≤ℤ y) (y <ℤ z) (m + 1)
@@ -53,7 +53,7 @@ module _ (D : Laid) where
       by false t g k q low high = goes_off (high refl) (jump t (address_of D fail)) (chain (m + 1) (omega arith) g (taken_goes (ap not q))) (same_on k (same_jump t _))
 
   module _ (args : List ℕ) (r n : ℕ) (reg : r ≤ 7) (few : n < 2 ^ 40) where
-    pub compares : (s : State) (rest : List Entry) (u v : Used) → Entered r n s → IsFit u → IsFit v → IsBased (base_in args u) → IsBased (base_in args v) → x_at s u.place ≡ base_in args u → x_at s v.place ≡ base_in args v → Compares D (below_code r u v rest) rest s (end_in args n u) (begin_in args v) (words_end u.extent + 3)
+    pub compares : (s : State) (rest : List DraftEntry) (u v : Used) → Entered r n s → IsFit u → IsFit v → IsBased (base_in args u) → IsBased (base_in args v) → x_at s u.place ≡ base_in args u → x_at s v.place ≡ base_in args v → Compares D (below_code r u v rest) rest s (end_in args n u) (begin_in args v) (words_end u.extent + 3)
     compares s rest u v ent fu fv bu bv hu hv =
         let back = pos (width_bytes v.width) *ℤ v.least in
         let over = left_over u.width u.extent in

@@ -10,13 +10,13 @@ use Rattle.guest_types.specs.Length.{width_bytes}
 use Rattle.machine_model.specs.Machine.{State, Went, x_at}
 use Rattle.machine_model.specs.Arithmetic.{sum, shifted_word, holds}
 use Rattle.a64_code.specs.Table.{add, csel}
-use Rattle.label_fix.specs.DraftRun.{Entry, Laid, effect, word_of}
+use Rattle.label_fix.specs.DraftRun.{DraftEntry, Laid, effect, word_of}
 use Rattle.label_fix.proofs.StretchSteps.{Goes, put_goes, chain}
 use Rattle.dependence.specs.declared.used.Extent.{Extent}
 use Rattle.dependence.specs.declared.used.Extent.TheVariants.{Streams, Computed, Both}
 use Rattle.dependence.specs.Apart.{highest, IsBased}
 use Rattle.overlap_guard.specs.Guard.{IsReach, IsFitExtent, log_bytes, bytes_at, reach_code, greater_code, extent_code, left_over, is_point}
-use Rattle.overlap_guard.proofs.Ends.{IsWithin, element_word, element-is, near-bytes, wider, spread}
+use Rattle.overlap_guard.proofs.Ends.{IsWithin, element_word, element-is, near-bytes, wider, distributed}
 use Rattle.overlap_guard.proofs.Tests.{wrote, wrote_same, wrote_other, wrote_sized, tested, not_sp, Same, same_on, same_wrote, same_tested}
 use Rattle.overlap_guard.proofs.Shifts.{shifts}
 
@@ -66,9 +66,7 @@ reach_65536 true D s p b lp e = ap (λ b. Went (wrote s 27 (sum b 524288))) (not
 
 few_bytes : (w : Width) (r : ℕ) → r ≤ 65536 → width_bytes w * r < 2 ^ 20
 few_bytes B r h = omega arith
-few_bytes H r h = omega arith
-few_bytes S r h = omega arith
-few_bytes D r h = omega arith
+few_bytes other r h = omega arith
 
 pub few_reach : (r : ℕ) → IsReach r → r ≤ 65536
 few_reach r (inl e) = omega (arith, e)
@@ -93,17 +91,11 @@ reach-is w b r = refl
 -- of two numbers, the greater has the greater end
 hull_by : (w : Width) (t : Bool) (b a c : ℕ) (x y : ℤ) → int_lt y x ≡ t → pos b +ℤ pos (width_bytes w) *ℤ x ≡ pos a → pos b +ℤ pos (width_bytes w) *ℤ y ≡ pos c → c ≤ a → pos b +ℤ pos (width_bytes w) *ℤ cond t x y ≡ pos a
 hull_by w true b a c x y q e f h = e
-hull_by B false b a c x y q e f h = grind (arith, ints)
-hull_by H false b a c x y q e f h = grind (arith, ints)
-hull_by S false b a c x y q e f h = grind (arith, ints)
-hull_by D false b a c x y q e f h = grind (arith, ints)
+hull_by other false b a c x y q e f h = grind (arith, ints)
 
 hull_other : (w : Width) (t : Bool) (b a c : ℕ) (x y : ℤ) → int_lt y x ≡ t → pos b +ℤ pos (width_bytes w) *ℤ x ≡ pos a → pos b +ℤ pos (width_bytes w) *ℤ y ≡ pos c → a < c → pos b +ℤ pos (width_bytes w) *ℤ cond t x y ≡ pos c
 hull_other w false b a c x y q e f h = f
-hull_other B true b a c x y q e f h = grind (arith, ints)
-hull_other H true b a c x y q e f h = grind (arith, ints)
-hull_other S true b a c x y q e f h = grind (arith, ints)
-hull_other D true b a c x y q e f h = grind (arith, ints)
+hull_other other true b a c x y q e f h = grind (arith, ints)
 
 greater_is : (w : Width) (t : Bool) (b a c : ℕ) (x y : ℤ) → nat_le c a ≡ t → pos b +ℤ pos (width_bytes w) *ℤ x ≡ pos a → pos b +ℤ pos (width_bytes w) *ℤ y ≡ pos c → pos b +ℤ pos (width_bytes w) *ℤ int_max x y ≡ pos (if t then a else c)
 greater_is w true b a c x y q e f = hull_by w (int_lt y x) b a c x y refl e f (leb-true c a q)
@@ -118,7 +110,7 @@ chosen_high true a c k q h = let le = leb-true c a q in omega (arith, le, h)
 chosen_high false a c k q h = h
 
 -- X26 = the greater of X26 and X27
-greater_goes : (L : Laid) (s : State) (rest : List Entry) (a c : ℕ) → length s.x ≡ 31 → x_at s 26 ≡ a → x_at s 27 ≡ c → c < 2 ^ 64 → Goes L (greater_code rest) s rest (wrote (tested s 26 27) 26 (if nat_le c a then a else c)) 2
+greater_goes : (L : Laid) (s : State) (rest : List DraftEntry) (a c : ℕ) → length s.x ≡ 31 → x_at s 26 ≡ a → x_at s 27 ≡ c → c < 2 ^ 64 → Goes L (greater_code rest) s rest (wrote (tested s 26 27) 26 (if nat_le c a then a else c)) 2
 greater_goes L s rest a c z e f h =
     let t = tested s 26 27 in
     let e2 : x_at t 26 ≡ a = get_or-set_other s.x 31 26 _ 0 (λ q. absurd (omega (arith, q))) ∙ e in
@@ -136,7 +128,7 @@ words_end (Computed r) = 1
 words_end (Both g r) = 6
 
 -- the address at which elements end, but for what is left over, in X26
-pub record EndsAt (L : Laid) (c e : List Entry) (s : State) (z over : ℤ) (most : ℕ) : Type 0 where
+pub record EndsAt (L : Laid) (c e : List DraftEntry) (s : State) (z over : ℤ) (most : ℕ) : Type 0 where
   pub end : State
   pub goes : Goes L c s e end most
   pub same : Same s end
@@ -150,7 +142,7 @@ plain : (x : ℕ) → pos x ≡ pos x +ℤ pos 0
 plain x = omega (arith, ints)
 
 module _ (L : Laid) (r n : ℕ) (reg : r ≤ 7) (few : n < 2 ^ 40) where
-  pub ends : (s : State) (rest : List Entry) (p b : ℕ) (w : Width) (least : ℤ) (e : Extent) → Entered r n s → p ≤ 7 → IsBased b → x_at s p ≡ b → IsFitExtent least e → EndsAt L (extent_code r p w e rest) rest s (pos b +ℤ pos (width_bytes w) *ℤ highest n e) (left_over w e) (words_end e)
+  pub ends : (s : State) (rest : List DraftEntry) (p b : ℕ) (w : Width) (least : ℤ) (e : Extent) → Entered r n s → p ≤ 7 → IsBased b → x_at s p ≡ b → IsFitExtent least e → EndsAt L (extent_code r p w e rest) rest s (pos b +ℤ pos (width_bytes w) *ℤ highest n e) (left_over w e) (words_end e)
   ends s rest p b w least (Streams g) ent lp based hp fit =
       let v = element_word w b n in
       let a = element-is w b n few based.0 based.1 in
@@ -162,7 +154,7 @@ module _ (L : Laid) (r n : ℕ) (reg : r ≤ 7) (few : n < 2 ^ 40) where
         held = wrote_same s 26 v (let z = ent.sized in omega (arith, z));
         high = a.high;
         low = (let l = a.low in omega (arith, l));
-        is = spread w b n g ∙ ap (λ z. z +ℤ pos (width_bytes w) *ℤ g) a.is;
+        is = distributed w b n g ∙ ap (λ z. z +ℤ pos (width_bytes w) *ℤ g) a.is;
       }
   ends s rest p b w least (Computed q) ent lp based hp fit =
       let v = b + width_bytes w * q in
@@ -199,7 +191,7 @@ module _ (L : Laid) (r n : ℕ) (reg : r ≤ 7) (few : n < 2 ^ 40) where
       let s5 = tested s3 26 27 in
       let z5 : length s5.x ≡ 31 = (same_tested s3 26 27).sized ∙ z3 in
       let v = if nat_le c a then a else c in
-      let one : pos b +ℤ pos (width_bytes w) *ℤ (pos n +ℤ g) ≡ pos a = spread w b n g ∙ ap (λ z. z +ℤ pos (width_bytes w) *ℤ g) addr.is ∙ moved.is in
+      let one : pos b +ℤ pos (width_bytes w) *ℤ (pos n +ℤ g) ≡ pos a = distributed w b n g ∙ ap (λ z. z +ℤ pos (width_bytes w) *ℤ g) addr.is ∙ moved.is in
       let small : a < 2 ^ 53 = upper v1 a (pos (width_bytes w) *ℤ g) moved.is addr.low near in
       record {
         end = wrote s5 26 v;

@@ -322,12 +322,12 @@ fn emit_pairs(draft: &mut Draft, bound: Reg, fail: Label, used: &[Used]) -> Resu
     Ok(())
 }
 
-fn emit_spread(draft: &mut Draft, bound: Reg, fail: Label, used: &[Used]) -> Result<(), AllocError>
+fn emit_checks(draft: &mut Draft, bound: Reg, fail: Label, used: &[Used]) -> Result<(), AllocError>
     requires register { bound.number < 32 }
     requires fit { AreFit used.now }
     requires failed { fail < draft.old.labels }
     ensures { OnOk result (Emits draft.old draft.new (guard.label_pairs draft.old.labels used.now)
-        (guard.spread_code bound.number fail draft.old.labels used.now)) }
+        (guard.checks_code bound.number fail draft.old.labels used.now)) }
 {
     draft.put(with_top(zero(), bound, 40))?;
     emit_bases(draft, fail, used)?;
@@ -367,7 +367,7 @@ pub fn emit_used(
         (guard.code_by (guard.is_free used.now) bound.number fail draft.old.labels used.now)) }
 {
     if !is_free(used) {
-        emit_spread(draft, bound, fail, used)?;
+        emit_checks(draft, bound, fail, used)?;
     }
     Ok(())
 }
@@ -375,7 +375,8 @@ pub fn emit_used(
 /// The guard: code that goes on exactly where Apart holds, and else to a label.
 pub fn guard(kernel: &Checked, fail: Label, draft: &mut Draft) -> Result<(), AllocError>
     requires failed { fail < draft.old.labels }
-    ensures { OnOk result (Emits draft.old draft.new (guard.label_by (guard.is_free (used_of (program kernel.now))) draft.old.labels (used_of (program kernel.now)))
+    ensures { let used = used_of (program kernel.now) in
+        OnOk result (Emits draft.old draft.new (guard.label_by (guard.is_free used) draft.old.labels used)
         (guard.guard_code (program kernel.now) fail draft.old.labels)) }
 {
     fit_arrays(kernel);

@@ -19,7 +19,7 @@ use Rattle.pipe_run.specs.PipeRun.{misfit}
 use Rattle.refusals.specs.declared.refusal.Refusal.{Refusal}
 use Rattle.refusals.specs.declared.refusal.Refusal.TheVariants.{Usage, TooManyLive, Kernel, Elf, Asm, Memory, File, Output}
 use Rattle.refusals.specs.Statuses.{of_elf, of_map, of_pipe}
-use Rattle.command_answers.specs.Answer.{Held, Answer, IsFileAnswer}
+use Rattle.command_answers.specs.Answer.{HeldFiles, Answer, IsFileAnswer}
 use Rattle.command_answers.specs.Reads.{and_then}
 use Rattle.command_answers.specs.Works.{loaded, mapped}
 use Rattle.pipe_command.specs.Pipes.{read_as, entries_of, fitted, image_in, map_alone, IsOfPipe}
@@ -115,10 +115,10 @@ by_error wanted fault (Ok x) is h = absurd is
 by_error wanted fault (Err r) is h = subst (Refuses wanted) (sym is) h
 
 -- what holds whatever the files hold
-pub whatever_held : (held : Option Held) (P : Held → Type 0) → ((h : Held) → P h) → IfSome held P
+pub whatever_held : (held : Option HeldFiles) (P : HeldFiles → Type 0) → ((h : HeldFiles) → P h) → IfSome held P
 whatever_held None P all = tt
 whatever_held (Some h) P all = all h
 
 -- a call that is refused so answers as is wanted
-pub refused_answer : {U : Type 0} (x : ℕ) (held : Option Held) (wanted : Held → Result U Refusal) (refusal : Refusal) (result : Result U Refusal) → result ≡ Err refusal → ((h : Held) → Refuses (wanted h) refusal) → IfSome held (λ h. IsFileAnswer x x (wanted h) result)
+pub refused_answer : {U : Type 0} (x : ℕ) (held : Option HeldFiles) (wanted : HeldFiles → Result U Refusal) (refusal : Refusal) (result : Result U Refusal) → result ≡ Err refusal → ((h : HeldFiles) → Refuses (wanted h) refusal) → IfSome held (λ h. IsFileAnswer x x (wanted h) result)
 refused_answer x held wanted refusal result is h = whatever_held held (λ k. IsFileAnswer x x (wanted k) result) (λ k. refusal_answers x x (wanted k) result refusal is (h k))

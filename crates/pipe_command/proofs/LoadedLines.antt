@@ -7,10 +7,10 @@ use Rattle.io_edges.proofs.Puts.{later_rose}
 use Rattle.guest_types.specs.Memory.{Memory as Pages}
 use Rattle.machine_model.specs.Load.{Image}
 use Rattle.elf_image.specs.Loaded.{plain}
-use Rattle.pipe_script.specs.Script.{Entry}
+use Rattle.pipe_script.specs.Script.{ScriptEntry}
 use Rattle.pipe_run.specs.PipeRun.{Line}
 use Rattle.refusals.specs.declared.refusal.Refusal.{Refusal}
-use Rattle.command_answers.specs.Answer.{Held, IsFileAnswer}
+use Rattle.command_answers.specs.Answer.{HeldFiles, IsFileAnswer}
 use Rattle.command_answers.specs.Reads.{and_then}
 use Rattle.command_answers.proofs.Reading.{read_is, refused_first}
 use Rattle.pipe_command.specs.Pipes.{image_of, with_line, lines_of, AreHeld}
@@ -22,7 +22,7 @@ abbrev pub with_before : List Line → Result (List Line) Refusal → Result (Li
 with_before before rest = and_then rest (λ lines. Ok (before ++ lines))
 
 -- one line more, and those after it
-step_is : (held : Held) (pages : Pages) (before : List Line) (entry : Entry) (entries : List Entry) → with_before before (lines_of held pages (entry ∷ entries)) ≡ and_then (with_line held pages before entry) (λ lines. with_before lines (lines_of held pages entries))
+step_is : (held : HeldFiles) (pages : Pages) (before : List Line) (entry : ScriptEntry) (entries : List ScriptEntry) → with_before before (lines_of held pages (entry ∷ entries)) ≡ and_then (with_line held pages before entry) (λ lines. with_before lines (lines_of held pages entries))
 unfolding lines_of
 step_is held pages before entry entries = by (image_of held pages entry) (lines_of held pages entries)
   where
@@ -38,7 +38,7 @@ lines_more [] line = refl
 lines_more (first ∷ lines) line = ap (λ l. line_view first ∷ l) (lines_more lines line)
 
 -- a line is added where the image of its file is the one that is wanted
-pub line_added : (x y : ℕ) (held : Option Held) (pages : Pages) (before after : List LoadedLine) (line : LoadedLine) (entry : Entry) (found : Result Image Refusal) → found ≡ Ok (plain line.image) → line.args.items ≡ entry.args → IfSome held (λ h. IsFileAnswer x y (image_of h pages entry) found) → after ≡ before ++ line ∷ []
+pub line_added : (x y : ℕ) (held : Option HeldFiles) (pages : Pages) (before after : List LoadedLine) (line : LoadedLine) (entry : ScriptEntry) (found : Result Image Refusal) → found ≡ Ok (plain line.image) → line.args.items ≡ entry.args → IfSome held (λ h. IsFileAnswer x y (image_of h pages entry) found) → after ≡ before ++ line ∷ []
     → IfSome held (λ h. IsFileAnswer x y (with_line h pages (lines_view before) entry) (Ok (lines_view after)))
 line_added x y None pages before after line entry found is same answer more = tt
 line_added x y (Some h) pages before after line entry found is same answer more =
@@ -47,10 +47,10 @@ line_added x y (Some h) pages before after line entry found is same answer more 
     ∙ ap (λ r. and_then r (λ image. Ok (lines_view before ++ record { image = image; args = entry.args } ∷ []))) image)
 
 -- what is loaded, and the lines that are left, are the lines that are wanted
-abbrev pub SoFar : Option Held → Pages → List Line → (left all : List Entry) → Type 0
+abbrev pub SoFar : Option HeldFiles → Pages → List Line → (left all : List ScriptEntry) → Type 0
 SoFar held pages before left all = IfSome held (λ h. with_before before (lines_of h pages left) ≡ lines_of h pages all)
 
-pub before_first : (held : Option Held) (pages : Pages) (before : List Line) (all : List Entry) → before ≡ [] → SoFar held pages before all all
+pub before_first : (held : Option HeldFiles) (pages : Pages) (before : List Line) (all : List ScriptEntry) → before ≡ [] → SoFar held pages before all all
 before_first None pages before all e = tt
 before_first (Some h) pages before all e = ap (λ b. with_before b (lines_of h pages all)) e ∙ by (lines_of h pages all)
   where
@@ -58,20 +58,20 @@ before_first (Some h) pages before all e = ap (λ b. with_before b (lines_of h p
     by (Ok lines) = refl
     by (Err refusal) = refl
 
-pub one_more : (x y : ℕ) (held : Option Held) (pages : Pages) (before after : List Line) (entry : Entry) (left all : List Entry) (found : Result (List Line) Refusal) → SoFar held pages before (entry ∷ left) all → found ≡ Ok after → IfSome held (λ h. IsFileAnswer x y (with_line h pages before entry) found) → SoFar held pages after left all
+pub one_more : (x y : ℕ) (held : Option HeldFiles) (pages : Pages) (before after : List Line) (entry : ScriptEntry) (left all : List ScriptEntry) (found : Result (List Line) Refusal) → SoFar held pages before (entry ∷ left) all → found ≡ Ok after → IfSome held (λ h. IsFileAnswer x y (with_line h pages before entry) found) → SoFar held pages after left all
 one_more x y None pages before after entry left all found so is answer = tt
 one_more x y (Some h) pages before after entry left all found so is answer =
     ap (λ r. and_then r (λ lines. with_before lines (lines_of h pages left))) (read_is x y (with_line h pages before entry) after (subst (IsFileAnswer x y (with_line h pages before entry)) is answer))
     ∙ sym (step_is h pages before entry left) ∙ so
 
-pub all_loaded : (x y : ℕ) (held : Option Held) (pages : Pages) (before : List Line) (left all : List Entry) (result : Result (List Line) Refusal) → SoFar held pages before left all → left ≡ [] → result ≡ Ok before → IfSome held (λ h. IsFileAnswer x y (lines_of h pages all) result)
+pub all_loaded : (x y : ℕ) (held : Option HeldFiles) (pages : Pages) (before : List Line) (left all : List ScriptEntry) (result : Result (List Line) Refusal) → SoFar held pages before left all → left ≡ [] → result ≡ Ok before → IfSome held (λ h. IsFileAnswer x y (lines_of h pages all) result)
 unfolding lines_of
 all_loaded x y None pages before left all result so none is = tt
 all_loaded x y (Some h) pages before left all result so none is =
     let last : with_before before (lines_of h pages []) ≡ lines_of h pages all = subst (λ l. with_before before (lines_of h pages l) ≡ lines_of h pages all) none so in
     inl (is ∙ ap (λ l. Ok l) (sym (append-nil before)) ∙ last)
 
-pub stops : (x y z : ℕ) (held : Option Held) (pages : Pages) (before : List Line) (entry : Entry) (left all : List Entry) (found : Result (List Line) Refusal) (refusal : Refusal) (result : Result (List Line) Refusal) → x ≤ y → SoFar held pages before (entry ∷ left) all → found ≡ Err refusal → result ≡ Err refusal → IfSome held (λ h. IsFileAnswer y z (with_line h pages before entry) found) → IfSome held (λ h. IsFileAnswer x z (lines_of h pages all) result)
+pub stops : (x y z : ℕ) (held : Option HeldFiles) (pages : Pages) (before : List Line) (entry : ScriptEntry) (left all : List ScriptEntry) (found : Result (List Line) Refusal) (refusal : Refusal) (result : Result (List Line) Refusal) → x ≤ y → SoFar held pages before (entry ∷ left) all → found ≡ Err refusal → result ≡ Err refusal → IfSome held (λ h. IsFileAnswer y z (with_line h pages before entry) found) → IfSome held (λ h. IsFileAnswer x z (lines_of h pages all) result)
 stops x y z None pages before entry left all found refusal result more so is e answer = tt
 stops x y z (Some h) pages before entry left all found refusal result more so is e answer =
     subst (IsFileAnswer x z (lines_of h pages all)) (sym e)
@@ -80,25 +80,25 @@ stops x y z (Some h) pages before entry left all found refusal result more so is
 
 -- ---- the files that are held
 
-abbrev pub StillHeld : Option Held → (left all : List Entry) → Type 0
+abbrev pub StillHeld : Option HeldFiles → (left all : List ScriptEntry) → Type 0
 StillHeld held left all = IfSome held (λ h. AreHeld h all → AreHeld h left)
 
-pub still_held : (held : Option Held) (entry : Entry) (left all : List Entry) → StillHeld held (entry ∷ left) all → StillHeld held left all
+pub still_held : (held : Option HeldFiles) (entry : ScriptEntry) (left all : List ScriptEntry) → StillHeld held (entry ∷ left) all → StillHeld held left all
 still_held None entry left all h = tt
 still_held (Some held) entry left all h = λ a. (h a).1
 
 -- the file of the next line is held
-pub next_held : (held : Option Held) (entry : Entry) (left all : List Entry) (P : Type 0) → StillHeld held (entry ∷ left) all → IfSome held (λ h. IsSome (content h entry.file) → P) → IfSome held (λ h. AreHeld h all → P)
+pub next_held : (held : Option HeldFiles) (entry : ScriptEntry) (left all : List ScriptEntry) (P : Type 0) → StillHeld held (entry ∷ left) all → IfSome held (λ h. IsSome (content h entry.file) → P) → IfSome held (λ h. AreHeld h all → P)
 next_held None entry left all P h p = tt
 next_held (Some held) entry left all P h p = λ a. p (h a).0
 
-pub all_held : (held : Option Held) (all : List Entry) → StillHeld held all all
+pub all_held : (held : Option HeldFiles) (all : List ScriptEntry) → StillHeld held all all
 all_held None all = tt
 all_held (Some held) all = λ a. a
 
 -- ---- the map fits beside each line
 
-pub held_map : (held : Option Held) (A : Held → Type 0) (P Q : Type 0) → (P → Q) → IfSome held (λ h. A h → P) → IfSome held (λ h. A h → Q)
+pub held_map : (held : Option HeldFiles) (A : HeldFiles → Type 0) (P Q : Type 0) → (P → Q) → IfSome held (λ h. A h → P) → IfSome held (λ h. A h → Q)
 held_map None A P Q f h = tt
 held_map (Some held) A P Q f h = λ a. f (h a)
 

@@ -9,24 +9,24 @@ use Rattle.machine_model.specs.Run.{Outcome, image_run}
 use Rattle.map_text.specs.Mapping.{map_of as pages_of}
 use Rattle.command_line.specs.Line.{Task, Extent}
 use Rattle.pipe_script.specs.declared.fault.PipeFault.{PipeFault}
-use Rattle.pipe_script.specs.Script.{Entry, script_of}
+use Rattle.pipe_script.specs.Script.{ScriptEntry, script_of}
 use Rattle.pipe_run.specs.PipeRun.{Line, Runs, runs_of, misfit}
 use Rattle.refusals.specs.declared.refusal.Refusal.{Refusal}
 use Rattle.refusals.specs.declared.refusal.Refusal.TheVariants.{Usage, TooManyLive, Kernel, Asm, Pipe}
 use Rattle.refusals.specs.declared.refusal.Done.{Done}
 use Rattle.refusals.specs.declared.refusal.Done.TheVariants as done
-use Rattle.command_answers.specs.Answer.{Held, Expected, Answer}
+use Rattle.command_answers.specs.Answer.{HeldFiles, Expected, Answer}
 use Rattle.command_answers.specs.Reads.{and_then, file_of, task_files, IsTaskHeld}
 use Rattle.command_answers.specs.Works.{program_of, mapped, done_by, dump_of}
 
 -- ---- the lines
 
-abbrev pub read_as : Result (List Entry) PipeFault → Result (List Entry) Refusal
+abbrev pub read_as : Result (List ScriptEntry) PipeFault → Result (List ScriptEntry) Refusal
 read_as (Ok entries) = Ok entries
 read_as (Err fault) = Err (Pipe fault)
 
 -- the `run` lines of a script
-abbrev pub entries_of : List ℕ → Result (List Entry) Refusal
+abbrev pub entries_of : List ℕ → Result (List ScriptEntry) Refusal
 entries_of script = read_as (script_of script)
 
 abbrev pub fitted : Image → Option PipeFault → Result Image Refusal
@@ -38,15 +38,15 @@ abbrev pub image_in : (pages : Memory) → (line : ℕ) → (bytes : List ℕ) �
 image_in pages line bytes = and_then (program_of bytes) (λ image. fitted image (misfit line image.pages pages))
 
 -- the same of a line's file
-abbrev pub image_of : Held → (pages : Memory) → Entry → Result Image Refusal
+abbrev pub image_of : HeldFiles → (pages : Memory) → ScriptEntry → Result Image Refusal
 image_of held pages entry = and_then (file_of held entry.file) (image_in pages entry.line)
 
 -- the lines with one more, by the image of its file
-abbrev pub with_line : Held → (pages : Memory) → List Line → Entry → Result (List Line) Refusal
+abbrev pub with_line : HeldFiles → (pages : Memory) → List Line → ScriptEntry → Result (List Line) Refusal
 with_line held pages before entry = and_then (image_of held pages entry) (λ image. Ok (before ++ record { image = image; args = entry.args } ∷ []))
 
 -- the images and the arguments of the lines; the first line that is refused tells why
-unfoldable pub lines_of : Held → (pages : Memory) → List Entry → Result (List Line) Refusal
+unfoldable pub lines_of : HeldFiles → (pages : Memory) → List ScriptEntry → Result (List Line) Refusal
 lines_of held pages [] = Ok []
 lines_of held pages (entry ∷ entries) =
     and_then (image_of held pages entry) (λ image.
@@ -58,7 +58,7 @@ abbrev pub map_alone : List ℕ → Result Memory Refusal
 map_alone text = mapped (pages_of text [])
 
 -- the lines of a script, and the pages of a map
-abbrev pub script_loaded : Held → (script map : List ℕ) → Result (List Line × Memory) Refusal
+abbrev pub script_loaded : HeldFiles → (script map : List ℕ) → Result (List Line × Memory) Refusal
 script_loaded held script map =
     and_then (entries_of script) (λ entries.
     and_then (map_alone map) (λ pages.
@@ -93,10 +93,10 @@ piped dump runs = Ok (record { how = last_done runs.outcomes; text = runs_text 1
 -- ---- the command
 
 -- a script over the pages of a map
-abbrev pub pipe_files : Held → (vl : ℕ) → Task → (script map : List ℕ) → Expected
+abbrev pub pipe_files : HeldFiles → (vl : ℕ) → Task → (script map : List ℕ) → Expected
 pipe_files held vl task script map = and_then (script_loaded held script map) (λ loaded. piped task.dump (runs_of loaded.0 loaded.1 vl task.steps))
 
-abbrev pub expected_of_pipe : Held → (vl : ℕ) → Task → Expected
+abbrev pub expected_of_pipe : HeldFiles → (vl : ℕ) → Task → Expected
 expected_of_pipe held vl task = and_then (task_files held task) (λ files. pipe_files held vl task files.0 files.1)
 
 -- no answer of other commands: no kernel is read and no text of words
@@ -108,9 +108,9 @@ IsOfPipe (Err (Asm fault)) = ⊥
 IsOfPipe answer = Unit {0}
 
 -- the files of the lines are held
-abbrev pub AreHeld : Held → List Entry → Type 0
+abbrev pub AreHeld : HeldFiles → List ScriptEntry → Type 0
 AreHeld held entries = AllByRecursion (λ entry. IsSome (content held entry.file)) entries
 
 -- the script and the map are held, and the files that the script names
-abbrev pub IsPipeHeld : Held → Task → Type 0
+abbrev pub IsPipeHeld : HeldFiles → Task → Type 0
 IsPipeHeld held task = IsTaskHeld held task × IfOk (task_files held task) (λ files. IfOk (script_of files.0) (AreHeld held))

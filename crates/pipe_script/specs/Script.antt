@@ -8,7 +8,7 @@ use Rattle.pipe_script.specs.declared.fault.PipeFault.{PipeFault}
 use Rattle.pipe_script.specs.declared.fault.PipeFault.TheVariants.{TooLong, BadLine}
 
 -- a `run` line: its number, the name of its file, and its arguments
-pub record Entry : Type 0 where
+pub record ScriptEntry : Type 0 where
   pub line : ℕ
   pub file : List ℕ
   pub args : List ℕ
@@ -35,21 +35,21 @@ script_line_of [] = Some Blank
 script_line_of (b ∷ line) = if nat_eq b 35 then Some Blank else line_of_words (words_of (b ∷ line))
 
 -- the entries after a line; there are at most 16
-abbrev pub after_line : (line : ℕ) → Option ScriptLine → List Entry → Result (List Entry) PipeFault
+abbrev pub after_line : (line : ℕ) → Option ScriptLine → List ScriptEntry → Result (List ScriptEntry) PipeFault
 after_line line None entries = Err (BadLine line)
 after_line line (Some Blank) entries = Ok entries
 after_line line (Some (Runs file args)) entries =
     if nat_lt (length entries) 16 then Ok (entries ++ record { line = line; file = file; args = args } ∷ []) else Err (BadLine line)
 
-abbrev pub go_on : Result (List Entry) PipeFault → (List Entry → Result (List Entry) PipeFault) → Result (List Entry) PipeFault
+abbrev pub go_on : Result (List ScriptEntry) PipeFault → (List ScriptEntry → Result (List ScriptEntry) PipeFault) → Result (List ScriptEntry) PipeFault
 go_on (Err fault) go = Err fault
 go_on (Ok entries) go = go entries
 
 -- the entries after lines, the first of which has this number
-unfoldable pub after_lines : (line : ℕ) → List (List ℕ) → List Entry → Result (List Entry) PipeFault
+unfoldable pub after_lines : (line : ℕ) → List (List ℕ) → List ScriptEntry → Result (List ScriptEntry) PipeFault
 after_lines line [] entries = Ok entries
 after_lines line (text ∷ texts) entries = go_on (after_line line (script_line_of text) entries) (after_lines (line + 1) texts)
 
 -- the entries of a script
-unfoldable pub script_of : List ℕ → Result (List Entry) PipeFault
+unfoldable pub script_of : List ℕ → Result (List ScriptEntry) PipeFault
 script_of text = if nat_lt 65536 (length text) then Err TooLong else after_lines 1 (lines_of text) []

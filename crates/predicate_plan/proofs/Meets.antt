@@ -2,10 +2,10 @@
 use Rattle.std.proofs.Common.{◌≡◌, ℕ, zero, suc, ◌+◌, ◌-◌, ◌<◌, ◌≤◌, ℤ, List, [], ◌∷◌, ◌++◌, length, replicate, map, Option, Some, None, Bool, true, false, not, ◌&&◌, refl, sym, ap, ap₂, ◌∙◌, arith, length-append, get_or}
 use Rattle.std.proofs.lemmas.List.{get_or-append_right, get_or_append_left, get_or-map, length-map, length-replicate}
 use Rattle.kernel_tree.specs.Plain.{Term, Literal, Variable, Element, Unary, Operation, Shift, Conversion, Choice, Comparison, Both, Either, Not, Action, Define, Put, Update, Choose, Leave, Block, Done, Then, Otherwise, Nothing, Else, PlainLoop, Program}
-use Rattle.kernel_tree.specs.Items.{stream_offset, term_size, action_size, block_size, otherwise_size, turns_size, index_size, answer_size, loop_index, loop_start}
-use Rattle.kernel_meaning.specs.Reaches.{at_item, inner_reached, term_reached, action_reached, block_reached, otherwise_reached, turns_reached}
+use Rattle.kernel_tree.specs.Items.{stream_offset, term_size, action_size, block_size, otherwise_size, for_loop_size, index_size, answer_size, loop_index, loop_start}
+use Rattle.kernel_meaning.specs.Reaches.{at_item, inner_reached, term_reached, action_reached, block_reached, otherwise_reached, for_loop_reached}
 use Rattle.predicate_plan.specs.declared.part.MaskPart.{MaskPart}
-use Rattle.predicate_plan.specs.Masks.{agrees, meets, mask_at, MeetsMasks, and_part, inner_masks, term_masks, action_masks, block_masks, otherwise_masks, turns_masks, loop_masks, masks_of}
+use Rattle.predicate_plan.specs.Masks.{agrees, meets, mask_at, MeetsMasks, and_part, inner_masks, term_masks, action_masks, block_masks, otherwise_masks, for_loop_masks, loop_masks, masks_of}
 
 and_true : (b : Bool) → (b && true) ≡ b
 and_true true = refl
@@ -84,8 +84,8 @@ module _ (index : Option (List ℕ)) (truths : List Bool) where
     otherwise_met Nothing from on in_on mask in_mask h i = refl
     otherwise_met (Else b) from on in_on mask in_mask h i = joined (mask ∷ []) _ (one mask h) (block_met b (from + 1) in_on in_mask i)
 
-pub turns_met : (l : PlainLoop) (truths : List Bool) (from : ℕ) → turns_reached truths from (Some l) ≡ map (meets (at_item truths)) (turns_masks from l)
-turns_met l truths from = ap (λ bs. true ∷ bs) (block_met (Some l.index) truths l.body (from + 1) true [] refl)
+pub for_loop_met : (l : PlainLoop) (truths : List Bool) (from : ℕ) → for_loop_reached truths from (Some l) ≡ map (meets (at_item truths)) (for_loop_masks from l)
+for_loop_met l truths from = ap (λ bs. true ∷ bs) (block_met (Some l.index) truths l.body (from + 1) true [] refl)
 
 -- ---- how many masks there are
 
@@ -136,8 +136,8 @@ module _ (index : Option (List ℕ)) where
     otherwise_count Nothing from mask in_mask = refl
     otherwise_count (Else b) from mask in_mask = both (mask ∷ []) _ 1 _ refl (block_count b (from + 1) in_mask)
 
-turns_count : (l : PlainLoop) (from : ℕ) → length (turns_masks from l) ≡ turns_size (Some l)
-turns_count l from = both (Some l.index) ([] ∷ []) _ 1 _ refl (block_count (Some l.index) l.body (from + 1) [])
+for_loop_count : (l : PlainLoop) (from : ℕ) → length (for_loop_masks from l) ≡ for_loop_size (Some l)
+for_loop_count l from = both (Some l.index) ([] ∷ []) _ 1 _ refl (block_count (Some l.index) l.body (from + 1) [])
 
 -- ---- the masks of the loop
 
@@ -147,15 +147,15 @@ at_item-is (b ∷ bs) zero = refl
 at_item-is (b ∷ bs) (suc i) = at_item-is bs i
 
 -- the items of a loop stand after some items and before others
-in_loop : (o : Option PlainLoop) (truths : List Bool) (from after item : ℕ) → from ≤ item → item < from + turns_size o → at_item (replicate from false ++ (turns_reached truths from o ++ replicate after false)) item ≡ meets (at_item truths) (mask_at (loop_masks from o) item)
+in_loop : (o : Option PlainLoop) (truths : List Bool) (from after item : ℕ) → from ≤ item → item < from + for_loop_size o → at_item (replicate from false ++ (for_loop_reached truths from o ++ replicate after false)) item ≡ meets (at_item truths) (mask_at (loop_masks from o) item)
 in_loop None truths from after item le lt = absurd (omega (arith, le, lt))
 in_loop (Some l) truths from after item le lt =
     let i = item - from in
-    let ms = turns_masks from l in
-    let count : length ms ≡ turns_size (Some l) = turns_count l from in
+    let ms = for_loop_masks from l in
+    let count : length ms ≡ for_loop_size (Some l) = for_loop_count l from in
     let inside : i < length ms = omega (arith, count, le, lt) in
-    let met = turns_met l truths from in
-    let reach = turns_reached truths from (Some l) in
+    let met = for_loop_met l truths from in
+    let reach = for_loop_reached truths from (Some l) in
     let rest = replicate after false in
     let same_length : length reach ≡ length ms = ap (λ (bs : List Bool). length bs) met ∙ length-map ms (meets (at_item truths)) in
     at_item-is (replicate from false ++ (reach ++ rest)) item
@@ -166,4 +166,4 @@ in_loop (Some l) truths from after item le lt =
     ∙ ap (meets (at_item truths)) (sym (get_or-append_right (replicate from []) ms from item [] (length-replicate from []) le))
 
 pub masks_met : (k : Program) → MeetsMasks k (masks_of k)
-masks_met k truths item le lt = in_loop k.turns truths (loop_start k) (answer_size (loop_index k) k.answer) item le lt
+masks_met k truths item le lt = in_loop k.for_loop truths (loop_start k) (answer_size (loop_index k) k.answer) item le lt

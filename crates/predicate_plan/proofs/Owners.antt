@@ -9,7 +9,7 @@ use Rattle.kernel_tree.specs.Items.{index_of, stream_offset, term_size, index_si
 use Rattle.kernel_tree.specs.Typing.{Scope, own, index_type, first, side_type, after_action, after_block, left, in_loop, var_scope, array_type}
 use Rattle.kernel_tree.proofs.Scopes.{index_after, scope_index}
 use Rattle.kernel_tree.specs.Kinds.{IsValue, IsTruth, ActionKinds, BlockKinds, OtherwiseKinds}
-use Rattle.loop_form.specs.LoopItems.{Item, Bound, accumulator_of, truth_home, gather_item, load_item, store_item, term_items, cond_items, after_env, quit_items, leave_items, action_items, block_items, otherwise_items, loop_env, loop_items}
+use Rattle.loop_form.specs.LoopItems.{Item, Bound, accumulator_of, truth_home, gather_item, load_item, store_item, term_items, cond_items, after_env, break_items, leave_items, action_items, block_items, otherwise_items, loop_env, loop_items}
 use Rattle.predicate_plan.specs.declared.part.MaskPart.{MaskPart}
 use Rattle.predicate_plan.specs.Masks.{meets, and_part, inner_masks, term_masks, action_masks, block_masks, otherwise_masks, mask_at, loop_masks, masks_of}
 use Rattle.predicate_plan.specs.Owners.{is_on, AreSettled, AreOwned}
@@ -42,14 +42,7 @@ home-is index from (Comparison op a b) f = omega arith
 home-is index from (Both a b) f = omega arith
 home-is index from (Either a b) f = omega arith
 home-is index from (Not e) f = omega arith
-home-is index from (Literal n) f = absurd f
-home-is index from (Variable x) f = absurd f
-home-is index from (Element a i) f = absurd f
-home-is index from (Unary op e) f = absurd f
-home-is index from (Operation op a b) f = absurd f
-home-is index from (Shift left e n) f = absurd f
-home-is index from (Conversion e t) f = absurd f
-home-is index from (Choice c a b) f = absurd f
+home-is index from other f = absurd f
 
 module _ (masks : ℕ → List MaskPart) (truth : ℕ → Bool) where
   abbrev Owned : List Item → Type 0
@@ -187,9 +180,9 @@ module _ (masks : ℕ → List MaskPart) (truth : ℕ → Bool) where
       by true e f = ap₂ (λ a t. a && not t) e (sym (f refl))
       by false e f = ap (λ a. a && not (truth c)) e
 
-  quit_owned : (c : Term) → IsTruth c → (scope : Scope) (mask : Option ℕ) (from : ℕ) (env : List Bound) (ms : List MaskPart) (rest : List Item) → is_on truth mask ≡ meets truth ms → Agree masks from (term_masks scope.index from ms c) → masks (from + term_size scope.index c) ≡ ms
-      → AreSettled truth (quit_items scope mask from env c rest) → (AreSettled truth rest → (is_on truth mask ≡ true → truth (from + term_size scope.index c - 1) ≡ false) → Owned rest) → Owned (quit_items scope mask from env c rest)
-  quit_owned c f scope mask from env ms rest h g last st k =
+  break_owned : (c : Term) → IsTruth c → (scope : Scope) (mask : Option ℕ) (from : ℕ) (env : List Bound) (ms : List MaskPart) (rest : List Item) → is_on truth mask ≡ meets truth ms → Agree masks from (term_masks scope.index from ms c) → masks (from + term_size scope.index c) ≡ ms
+      → AreSettled truth (break_items scope mask from env c rest) → (AreSettled truth rest → (is_on truth mask ≡ true → truth (from + term_size scope.index c - 1) ≡ false) → Owned rest) → Owned (break_items scope mask from env c rest)
+  break_owned c f scope mask from env ms rest h g last st k =
       (owns c).cond f scope mask from env ms _ h g st (λ s _. (h ∙ ap (meets truth) (sym last), k s.1 (λ on. ap truth (sym (home-is scope.index from c f)) ∙ s.0.1 on)))
 
   -- the last condition of a break is the one before it, or the break in the place of a `||`, which makes no truth
@@ -205,9 +198,9 @@ module _ (masks : ℕ → List MaskPart) (truth : ℕ → Bool) where
     where
       -- b, and the break on it, whose mask is the outer one
       two_owned : (c : Term) → IsTruth c → (scope : Scope) (mask : Option ℕ) (from : ℕ) (env : List Bound) (inner ms : List MaskPart) (rest : List Item) → is_on truth mask ≡ meets truth inner → is_on truth mask ≡ meets truth ms → Agree masks from (term_masks scope.index from inner c) → masks (from + term_size scope.index c) ≡ ms
-          → AreSettled truth (quit_items scope mask from env c rest) → (AreSettled truth rest → truth (from + term_size scope.index c) ≡ false → Owned rest) → Owned (quit_items scope mask from env c rest)
+          → AreSettled truth (break_items scope mask from env c rest) → (AreSettled truth rest → truth (from + term_size scope.index c) ≡ false → Owned rest) → Owned (break_items scope mask from env c rest)
       two_owned c f scope mask from env inner ms rest h e g last st k = (owns c).cond f scope mask from env inner _ h g st (λ s _. (e ∙ ap (meets truth) (sym last), k s.1 s.0.0))
-  leave_owned c f scope mask from env ms rest h g last st k = quit_owned c f scope mask from env ms rest h g last.0 st k
+  leave_owned c f scope mask from env ms rest h g last st k = break_owned c f scope mask from env ms rest h g last.0 st k
 
   mutual
     action_owned : (s : Action) → ActionKinds s → (scope : Scope) (mask : Option ℕ) (from : ℕ) (env : List Bound) (ms : List MaskPart) (rest : List Item) → is_on truth mask ≡ meets truth ms → Agree masks from (action_masks scope.index from ms s)
@@ -263,15 +256,15 @@ agree_list xs (y ∷ ys) zs n e f = (
   agree_list (xs ++ y ∷ []) ys zs (n + 1) (e ∙ sym (append_assoc xs (y ∷ []) ys)) (length-append xs (y ∷ []) ∙ omega (arith, f)),
 )
 
-turns_agree : (from : ℕ) (l : PlainLoop) → Agree (mask_at (loop_masks from (Some l))) (from + 1) (block_masks (Some l.index) (from + 1) [] l.body)
-turns_agree from l =
+for_loop_agrees : (from : ℕ) (l : PlainLoop) → Agree (mask_at (loop_masks from (Some l))) (from + 1) (block_masks (Some l.index) (from + 1) [] l.body)
+for_loop_agrees from l =
     agree_list (replicate from [] ++ [] ∷ []) (block_masks (Some l.index) (from + 1) [] l.body) (loop_masks from (Some l)) (from + 1)
     (sym (append_assoc (replicate from []) ([] ∷ []) (block_masks (Some l.index) (from + 1) [] l.body)))
     (length-append (replicate from []) ([] ∷ []) ∙ ap (λ n. n + 1) (length-replicate {A = List MaskPart} from []))
 
 -- In a lane whose truths are those that the items of the loop leave, each item is done exactly where all parts of its mask
 -- are met.
-pub owners_met : (k : Program) (l : PlainLoop) (truth : ℕ → Bool) → k.turns ≡ Some l → BlockKinds l.body → AreSettled truth (loop_items k l) → AreOwned (mask_at (masks_of k)) truth (loop_items k l)
+pub owners_met : (k : Program) (l : PlainLoop) (truth : ℕ → Bool) → k.for_loop ≡ Some l → BlockKinds l.body → AreSettled truth (loop_items k l) → AreOwned (mask_at (masks_of k)) truth (loop_items k l)
 owners_met k l truth loop form settled =
     let from = loop_start k in
     let scope = in_loop (var_scope k) l in
@@ -279,5 +272,5 @@ owners_met k l truth loop form settled =
     let masks : loop_masks from (Some l) ≡ masks_of k = ap (loop_masks from) (sym loop) in
     let agree : Agree (mask_at (masks_of k)) (from + 1) (block_masks scope.index (from + 1) [] l.body) =
     subst (λ i. Agree (mask_at (masks_of k)) (from + 1) (block_masks i (from + 1) [] l.body)) (sym index)
-    (subst (λ ms. Agree (mask_at ms) (from + 1) (block_masks (Some l.index) (from + 1) [] l.body)) masks (turns_agree from l)) in
+    (subst (λ ms. Agree (mask_at ms) (from + 1) (block_masks (Some l.index) (from + 1) [] l.body)) masks (for_loop_agrees from l)) in
     block_owned (mask_at (masks_of k)) truth l.body form scope None (from + 1) (loop_env (var_scope k) l.index) [] [] refl agree settled (λ s. tt)

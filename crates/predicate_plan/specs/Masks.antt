@@ -84,13 +84,13 @@ abbrev mutual
   otherwise_masks index from mask inner (Else b) = mask ∷ block_masks index (from + 1) inner b
 
 -- `for` and the body
-abbrev pub turns_masks : ℕ → PlainLoop → List (List MaskPart)
-turns_masks from l = [] ∷ block_masks (Some l.index) (from + 1) [] l.body
+abbrev pub for_loop_masks : ℕ → PlainLoop → List (List MaskPart)
+for_loop_masks from l = [] ∷ block_masks (Some l.index) (from + 1) [] l.body
 
 -- of all items up to the last one of the loop; those before the loop have none
 abbrev pub loop_masks : ℕ → Option PlainLoop → List (List MaskPart)
 loop_masks from None = []
-loop_masks from (Some l) = replicate from [] ++ turns_masks from l
+loop_masks from (Some l) = replicate from [] ++ for_loop_masks from l
 
 abbrev pub masks_of : Program → List (List MaskPart)
-masks_of k = loop_masks (loop_start k) k.turns
+masks_of k = loop_masks (loop_start k) k.for_loop

@@ -1,6 +1,7 @@
 -- The owner of an item's mask: the condition item whose truth in a lane is the mask.
 use Rattle.std.specs.Prelude.{◌≡◌, ℕ, List, [], ◌∷◌, Option, Some, None, Bool, true, false, not, ◌&&◌}
-use Rattle.loop_form.specs.LoopItems.{Op, Test, Invert, Same, Any, Quit, Item}
+use Rattle.loop_form.specs.LoopItems.{Op, Item}
+use Rattle.loop_form.specs.LoopItems as ops
 use Rattle.predicate_plan.specs.declared.part.MaskPart.{MaskPart}
 use Rattle.predicate_plan.specs.Masks.{meets}
 
@@ -12,11 +13,11 @@ is_on truth (Some q) = truth q
 -- What an item leaves of its own truth: a condition is false outside its mask, and a contrary is true where its mask is and
 -- the condition is not. A break makes no truth, and where it was not taken its condition is false.
 abbrev pub SettledOp : (ℕ → Bool) → ℕ → Option ℕ → Op → Type 0
-SettledOp truth q mask (Test op t x y) = truth q ≡ true → is_on truth mask ≡ true
-SettledOp truth q mask (Invert c) = truth q ≡ (is_on truth mask && not (truth c))
-SettledOp truth q mask (Same c) = truth q ≡ true → is_on truth mask ≡ true
-SettledOp truth q mask (Any c d) = truth q ≡ true → is_on truth mask ≡ true
-SettledOp truth q mask (Quit c) = (truth q ≡ false) × (is_on truth mask ≡ true → truth c ≡ false)
+SettledOp truth q mask (ops.Compare op t x y) = truth q ≡ true → is_on truth mask ≡ true
+SettledOp truth q mask (ops.Not c) = truth q ≡ (is_on truth mask && not (truth c))
+SettledOp truth q mask (ops.And c) = truth q ≡ true → is_on truth mask ≡ true
+SettledOp truth q mask (ops.Or c d) = truth q ≡ true → is_on truth mask ≡ true
+SettledOp truth q mask (ops.Break c) = (truth q ≡ false) × (is_on truth mask ≡ true → truth c ≡ false)
 SettledOp truth q mask _ = Unit {0}
 
 abbrev pub AreSettled : (ℕ → Bool) → List Item → Type 0

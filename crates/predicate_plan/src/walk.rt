@@ -1,8 +1,8 @@
 //! Masks by a walk over the statements of a loop.
 
 ghost use Rattle.std.specs.Prelude.{◌≡◌, ◌+◌, ◌<◌, ◌≤◌, ◌^◌, [], ◌∷◌, ◌++◌, length, replicate, is_some, true, Some, IfOk, OnOk};
-ghost use Rattle.kernel_tree.specs.Plain.{Element, Not, Choice, Both, Either, Choose, Nothing, Else, term_of, action_of, block_of, turns_of};
-ghost use Rattle.kernel_tree.specs.Items.{loop_index, index_of, term_size, index_items, action_size, block_size, turns_size, loop_start};
+ghost use Rattle.kernel_tree.specs.Plain.{Element, Not, Choice, Both, Either, Choose, Nothing, Else, term_of, action_of, block_of, for_loop_of};
+ghost use Rattle.kernel_tree.specs.Items.{loop_index, index_of, term_size, index_items, action_size, block_size, for_loop_size, loop_start};
 ghost use Rattle.loop_form.specs.View.{program};
 ghost use Rattle.predicate_plan.specs.View.{FitsTerm, FitsAction, FitsBlock, GrowsTerm, GrowsAction, GrowsBlock, PlansTerm, PlansOne, PlansTwo, PlansAction, PlansBlock};
 ghost use Rattle.predicate_plan.specs.Masks.{MeetsMasks, part, term_masks, action_masks, block_masks, loop_masks, masks_of};
@@ -296,7 +296,7 @@ fn plan_block(
 // The number of `for`.
 #[tactic(auto, unfolding(loop_form::specs::View::program))]
 fn loop_start_of(kernel: &Checked) -> u32
-    requires { is_some (program kernel.now).turns ≡ true }
+    requires { is_some (program kernel.now).for_loop ≡ true }
     ensures { result ≡ loop_start (program kernel.now) }
 {
     let entries = loop_entries(kernel);
@@ -318,15 +318,20 @@ fn skip(alloc: Global, plan: &mut Plan, count: u32) -> Result<(), AllocError>
 }
 
 // Masks of the items of a loop, and of those before it.
-fn plan_turns(alloc: Global, kernel: &Checked, from: u32, turns: &Loop) -> Result<Plan, AllocError>
-    requires fits { from + turns_size (Some (turns_of turns.now)) ≤ 1000 }
-    requires index { loop_index (program kernel.now) ≡ Some (index_of (turns_of turns.now)) }
-    ensures { IfOk result (λ plan. plan ≡ loop_masks from (Some (turns_of turns.now))) }
+fn plan_for_loop(
+    alloc: Global,
+    kernel: &Checked,
+    from: u32,
+    for_loop: &Loop,
+) -> Result<Plan, AllocError>
+    requires fits { from + for_loop_size (Some (for_loop_of for_loop.now)) ≤ 1000 }
+    requires index { loop_index (program kernel.now) ≡ Some (index_of (for_loop_of for_loop.now)) }
+    ensures { IfOk result (λ plan. plan ≡ loop_masks from (Some (for_loop_of for_loop.now))) }
 {
     let mut plan = Plan::new(alloc);
     skip(alloc, &mut plan, from)?;
     plan.put(alloc, &[])?;
-    plan_block(alloc, kernel, &mut plan, &[], &turns.body)?;
+    plan_block(alloc, kernel, &mut plan, &[], &for_loop.body)?;
     Ok(plan)
 }
 
@@ -338,8 +343,8 @@ fn loop_plan(alloc: Global, kernel: &Checked) -> Result<Plan, AllocError>
     few_items(kernel);
     match &kernel.kernel().body {
         None => Ok(Plan::new(alloc)),
-        Some(turns) => {
-            let plan = plan_turns(alloc, kernel, loop_start_of(kernel), turns)?;
+        Some(for_loop) => {
+            let plan = plan_for_loop(alloc, kernel, loop_start_of(kernel), for_loop)?;
             Ok(plan)
         }
     }

@@ -8,7 +8,7 @@ use Rattle.sve_asm.specs.View.{Refuses}
 use Rattle.refusals.specs.declared.refusal.Refusal.{Refusal}
 use Rattle.refusals.specs.declared.refusal.Refusal.TheVariants.{Asm, Memory}
 use Rattle.refusals.specs.Statuses.{of_asm}
-use Rattle.command_answers.specs.Answer.{Held, Expected, Answer, answer_of, expected_text, IsFileAnswer}
+use Rattle.command_answers.specs.Answer.{HeldFiles, Expected, Answer, answer_of, expected_text, IsFileAnswer}
 use Rattle.command_answers.specs.Outputs.{Prints}
 use Rattle.command_answers.specs.Reads.{and_then, file_of}
 use Rattle.command_answers.proofs.Prints.{prints_none}
@@ -40,6 +40,6 @@ unfolding assemble_text
 no_text (Ok text) = no_text_by (words_of text)
 no_text (Err refusal) = refl
 
-pub asm_prints : (held : Option Held) (from : List ℕ) (old : Option (List ℕ)) (result : Answer) → IfSome held (λ h. Prints old old (expected_text (expected_of_asm h from)) result)
+pub asm_prints : (held : Option HeldFiles) (from : List ℕ) (old : Option (List ℕ)) (result : Answer) → IfSome held (λ h. Prints old old (expected_text (expected_of_asm h from)) result)
 asm_prints None from old result = tt
 asm_prints (Some h) from old result = subst (λ t. Prints old old t result) (sym (no_text (file_of h from))) (prints_none old result)

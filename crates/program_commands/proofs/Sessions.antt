@@ -1,5 +1,4 @@
 -- What a debugging session comes to, by the files that were read, the program that was loaded, and what was answered.
-use mathlib.Core.Logic.{⊎_elim}
 use Rattle.std.proofs.Common.{◌≡◌, ◌≢◌, ◌⊎◌, ℕ, List, Option, Some, None, Result, Ok, Err, inl, inr, refl, sym, ap, ◌∙◌, subst}
 use Rattle.std.specs.Prelude.{IfSome, IfOk, IsErrAnd}
 use Rattle.guest_types.specs.EarlyLoads.{StopList}
@@ -16,7 +15,7 @@ use Rattle.sve_debug.specs.Sessions.{Tells, AsItCame}
 use Rattle.refusals.specs.declared.refusal.Refusal.{Refusal}
 use Rattle.refusals.specs.declared.refusal.Refusal.TheVariants.{Elf, Map, Memory, File, Output}
 use Rattle.refusals.specs.declared.refusal.Done.TheVariants as done
-use Rattle.command_answers.specs.Answer.{Held, Expected, Answer, answer_of, expected_text, IsFileAnswer, IsAnswer}
+use Rattle.command_answers.specs.Answer.{HeldFiles, Expected, Answer, answer_of, expected_text, IsFileAnswer, IsAnswer}
 use Rattle.refusals.specs.Statuses.{of_session}
 use Rattle.command_answers.specs.Reads.{and_then, task_files, IsOfRead}
 use Rattle.program_commands.specs.Commands.{expected_of_debug, expected_of_run, IsOfDebug}
@@ -27,20 +26,20 @@ use Rattle.command_answers.proofs.Reading.{read_is, of_what_follows, is_err, not
 use Rattle.command_answers.proofs.Prints.{prints_nothing}
 
 -- what holds of all inputs and files
-pub whatever : (left : Option (List ℕ)) (held : Option Held) (P : List ℕ → Held → Type 0) → ((input : List ℕ) (h : Held) → P input h) → IfSome left (λ input. IfSome held (λ h. P input h))
+pub whatever : (left : Option (List ℕ)) (held : Option HeldFiles) (P : List ℕ → HeldFiles → Type 0) → ((input : List ℕ) (h : HeldFiles) → P input h) → IfSome left (λ input. IfSome held (λ h. P input h))
 whatever None held P all = tt
 whatever (Some input) None P all = tt
 whatever (Some input) (Some h) P all = all input h
 
 -- ---- the files of a session
 
-pub not_begun : {T : Type 0} (x y : ℕ) (rose : Type 0) (left : Option (List ℕ)) (held : Option Held) (wanted : Held → Result T Refusal) (found : Result T Refusal) (next : List ℕ → T → Expected) (refusal : Refusal) (result : Answer) → found ≡ Err refusal → result ≡ Err refusal → IfSome held (λ h. IsFileAnswer x y (wanted h) found)
+pub not_begun : {T : Type 0} (x y : ℕ) (rose : Type 0) (left : Option (List ℕ)) (held : Option HeldFiles) (wanted : HeldFiles → Result T Refusal) (found : Result T Refusal) (next : List ℕ → T → Expected) (refusal : Refusal) (result : Answer) → found ≡ Err refusal → result ≡ Err refusal → IfSome held (λ h. IsFileAnswer x y (wanted h) found)
     → IfSome left (λ input. IfSome held (λ h. IsAnswer x y rose (answer_of (and_then (wanted h) (next input))) result))
 not_begun x y rose None held wanted found next refusal result is e answer = tt
 not_begun x y rose (Some input) held wanted found next refusal result is e answer = not_read x y rose held wanted found (next input) refusal result is e answer
 
 -- what holds of what comes of the program holds of what is wanted
-pub debugged_is : {T : Type 0} (x y : ℕ) (left : Option (List ℕ)) (held : Option Held) (wanted : Held → Result T Refusal) (read : T) (found : Result T Refusal) (next : List ℕ → T → Expected) (P : Expected → Type 0) → found ≡ Ok read → IfSome held (λ h. IsFileAnswer x y (wanted h) found) → IfSome left (λ input. P (next input read))
+pub debugged_is : {T : Type 0} (x y : ℕ) (left : Option (List ℕ)) (held : Option HeldFiles) (wanted : HeldFiles → Result T Refusal) (read : T) (found : Result T Refusal) (next : List ℕ → T → Expected) (P : Expected → Type 0) → found ≡ Ok read → IfSome held (λ h. IsFileAnswer x y (wanted h) found) → IfSome left (λ input. P (next input read))
     → IfSome left (λ input. IfSome held (λ h. P (and_then (wanted h) (next input))))
 debugged_is x y None held wanted read found next P is answer p = tt
 debugged_is x y (Some input) held wanted read found next P is answer p = of_what_follows x y held wanted read found (next input) P is answer p
@@ -84,7 +83,7 @@ program_not_file wanted refusal result is h e = no_failed_file wanted refusal h 
 pub program_not_output : (wanted : Expected) (refusal : Refusal) (result : Answer) → IsErrAnd result (λ r. r ≡ refusal) → RefusesProgram wanted refusal → result ≢ Err Output
 program_not_output wanted refusal result is h e = no_failed_output wanted refusal h (sym (is_err refusal result is) ∙ e)
 
-pub steady_anyway : (held : Option Held) (Q : Held → Type 0) (result : Answer) → result ≢ Err File → IfSome held (λ h. Q h → result ≢ Err File)
+pub steady_anyway : (held : Option HeldFiles) (Q : HeldFiles → Type 0) (result : Answer) → result ≢ Err File → IfSome held (λ h. Q h → result ≢ Err File)
 steady_anyway None Q result h = tt
 steady_anyway (Some held) Q result h = λ q. h
 
@@ -97,7 +96,7 @@ failed_session x y a b i j wanted sessions.Input result is input output = inr (i
 failed_session x y a b i j wanted sessions.Output result is input output = inr (is_err Output result is, inl (output refl))
 
 -- Where no output failed, the input did, and the lines that were ended are answered.
-pub came_session : (x y a b : ℕ) (left rest : Option (List ℕ)) (held : Option Held) (vl : ℕ) (task : Task) (read : List ℕ × List ℕ) (found : Result (List ℕ × List ℕ) Refusal) (old new : Option (List ℕ)) (image : Image) (pages : Pages) (fault : SessionFault) (result : Answer) → found ≡ Ok read → IfSome held (λ h. IsFileAnswer x y (task_files h task) found)
+pub came_session : (x y a b : ℕ) (left rest : Option (List ℕ)) (held : Option HeldFiles) (vl : ℕ) (task : Task) (read : List ℕ × List ℕ) (found : Result (List ℕ × List ℕ) Refusal) (old new : Option (List ℕ)) (image : Image) (pages : Pages) (fault : SessionFault) (result : Answer) → found ≡ Ok read → IfSome held (λ h. IsFileAnswer x y (task_files h task) found)
     → load read.0 ≡ Ok image → pages_of_map read.1 image.pages ≡ Ok pages → IsErrAnd result (λ r. r ≡ of_session fault) → (fault ≡ sessions.Output → Rose a b) → (fault ≡ sessions.Input → IfSome left (λ bytes. AsItCame (started (start image task.args pages vl)) bytes rest old new))
     → result ≡ Err Output → (Rose a b → ⊥) → IfSome left (λ bytes. IfSome held (λ h. DebugsAsItCame h vl task bytes rest old new))
 came_session x y a b None rest held vl task read found old new image pages fault result is answer loads maps err output input failed none = tt
@@ -124,13 +123,13 @@ answered_session None P all = tt
 answered_session (Some input) P all = all input
 
 -- nothing was put on the output before the session
-pub untold_session : (left : Option (List ℕ)) (held : Option Held) (vl : ℕ) (task : Task) (printed : Option (List ℕ)) (refusal : Refusal) (result : Answer) → IsErrAnd result (λ r. r ≡ refusal) → IfSome left (λ input. IfSome held (λ h. Prints printed printed (expected_text (expected_of_debug h input vl task)) result))
+pub untold_session : (left : Option (List ℕ)) (held : Option HeldFiles) (vl : ℕ) (task : Task) (printed : Option (List ℕ)) (refusal : Refusal) (result : Answer) → IsErrAnd result (λ r. r ≡ refusal) → IfSome left (λ input. IfSome held (λ h. Prints printed printed (expected_text (expected_of_debug h input vl task)) result))
 untold_session left held vl task printed refusal result is =
     whatever left held (λ input h. Prints printed printed (expected_text (expected_of_debug h input vl task)) result)
     (λ input h. subst (Prints printed printed (expected_text (expected_of_debug h input vl task))) (sym (is_err refusal result is)) (prints_nothing printed (expected_text (expected_of_debug h input vl task)) refusal))
 
 -- nothing was put on the output of a run that was refused
-pub untold_run : (held : Option Held) (vl : ℕ) (stops : StopList) (task : Task) (printed : Option (List ℕ)) (refusal : Refusal) (result : Answer) → IsErrAnd result (λ r. r ≡ refusal) → IfSome held (λ h. Prints printed printed (expected_text (expected_of_run h vl stops task)) result)
+pub untold_run : (held : Option HeldFiles) (vl : ℕ) (stops : StopList) (task : Task) (printed : Option (List ℕ)) (refusal : Refusal) (result : Answer) → IsErrAnd result (λ r. r ≡ refusal) → IfSome held (λ h. Prints printed printed (expected_text (expected_of_run h vl stops task)) result)
 untold_run None vl stops task printed refusal result is = tt
 untold_run (Some h) vl stops task printed refusal result is = subst (Prints printed printed (expected_text (expected_of_run h vl stops task))) (sym (is_err refusal result is)) (prints_nothing printed (expected_text (expected_of_run h vl stops task)) refusal)
 

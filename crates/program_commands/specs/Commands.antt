@@ -15,7 +15,7 @@ use Rattle.sve_debug.specs.Sessions.{session_text}
 use Rattle.refusals.specs.declared.refusal.Refusal.{Refusal}
 use Rattle.refusals.specs.declared.refusal.Refusal.TheVariants.{Usage, TooManyLive, Kernel, Elf, Map, Asm, Pipe, Memory as NoMemory, Output}
 use Rattle.refusals.specs.declared.refusal.Done.TheVariants as done
-use Rattle.command_answers.specs.Answer.{Held, Expected, Answer}
+use Rattle.command_answers.specs.Answer.{HeldFiles, Expected, Answer}
 use Rattle.command_answers.specs.Reads.{and_then, file_of, task_files}
 use Rattle.command_answers.specs.Works.{ended, program_of, mapped, success_of}
 use Rattle.program_commands.specs.Listing.{listing_of}
@@ -35,7 +35,7 @@ with_program bytes map next = and_then (program_of bytes) (λ image. and_then (b
 unfoldable pub list_program : List ℕ → Expected
 list_program bytes = and_then (program_of bytes) (λ image. ended (listing_of image))
 
-abbrev pub expected_of_list : Held → List ℕ → Expected
+abbrev pub expected_of_list : HeldFiles → List ℕ → Expected
 expected_of_list held from = and_then (file_of held from) list_program
 
 -- ---- run
@@ -52,7 +52,7 @@ ran vl stops task image pages = success_of task.dump (run task.steps 0 (free_sta
 unfoldable pub run_program : ℕ → StopList → Task → (bytes map : List ℕ) → Expected
 run_program vl stops task bytes map = with_program bytes map (ran vl stops task)
 
-abbrev pub expected_of_run : Held → ℕ → StopList → Task → Expected
+abbrev pub expected_of_run : HeldFiles → ℕ → StopList → Task → Expected
 expected_of_run held vl stops task = and_then (task_files held task) (λ files. run_program vl stops task files.0 files.1)
 
 -- ---- debug
@@ -64,7 +64,7 @@ debugged vl task input image pages = ended (session_text (started (start image t
 unfoldable pub debug_program : ℕ → Task → (bytes map input : List ℕ) → Expected
 debug_program vl task bytes map input = with_program bytes map (debugged vl task input)
 
-abbrev pub expected_of_debug : Held → (input : List ℕ) → ℕ → Task → Expected
+abbrev pub expected_of_debug : HeldFiles → (input : List ℕ) → ℕ → Task → Expected
 expected_of_debug held input vl task = and_then (task_files held task) (λ files. debug_program vl task files.0 files.1 input)
 
 -- ---- asm
@@ -77,7 +77,7 @@ assembled_by (Err fault) = Err (Asm fault)
 unfoldable pub assemble_text : List ℕ → Expected
 assemble_text text = assembled_by (words_of text)
 
-abbrev pub expected_of_asm : Held → List ℕ → Expected
+abbrev pub expected_of_asm : HeldFiles → List ℕ → Expected
 expected_of_asm held from = and_then (file_of held from) assemble_text
 
 -- a refusal of a text of words is the wanted one, or want of memory
@@ -93,7 +93,7 @@ pub record AssemblesTo (text file : List ℕ) : Type 0 where
   pub is_file : file ≡ file_of_words words
 
 -- the one name has the file of the words of the text that the other had
-abbrev pub IsAssembled : (old new : Held) (from to : List ℕ) → Type 0
+abbrev pub IsAssembled : (old new : HeldFiles) (from to : List ℕ) → Type 0
 IsAssembled old new from to = IfSome (content old from) (λ text. (file : List ℕ) × (content new to ≡ Some file) × AssemblesTo text file)
 
 -- ---- the answers of each command

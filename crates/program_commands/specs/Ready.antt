@@ -8,11 +8,11 @@ use Rattle.machine_model.specs.Machine.{State}
 use Rattle.machine_model.specs.Run.{start, free_start}
 use Rattle.map_text.specs.Mapping.{map_of as pages_of}
 use Rattle.command_line.specs.Line.{Task}
-use Rattle.sve_debug.specs.Held.{Held as Debugging, Stands}
+use Rattle.sve_debug.specs.DebuggerState.{DebuggerState, Stands}
 use Rattle.sve_debug.specs.Replies.{started}
 use Rattle.sve_debug.specs.Sessions.{session_text, AsItCame}
 use Rattle.program_commands.specs.Commands.{debug_program}
-use Rattle.command_answers.specs.Answer.{Held}
+use Rattle.command_answers.specs.Answer.{HeldFiles}
 use Rattle.command_answers.specs.Reads.{task_files}
 use Rattle.command_answers.specs.Works.{ended}
 
@@ -28,7 +28,7 @@ pub record BeginsProgram (vl : ℕ) (stops : StopList) (task : Task) (bytes map 
   pub quiet : machine.quiet ≡ is_never stops
 
 -- The debugger stands for a session that has begun, and what that answers to an input is what is wanted.
-pub record BeginsSession (vl : ℕ) (task : Task) (bytes map : List ℕ) (debugger : Debugging) : Type 0 where
+pub record BeginsSession (vl : ℕ) (task : Task) (bytes map : List ℕ) (debugger : DebuggerState) : Type 0 where
   pub begin : State
   pub image : Image
   pub pages : Memory
@@ -48,5 +48,5 @@ pub record AnswersAsItCame (vl : ℕ) (task : Task) (bytes map input : List ℕ)
   pub came : AsItCame (started (start image task.args pages vl)) input left old new
 
 -- the same of the files of a task
-abbrev pub DebugsAsItCame : Held → ℕ → Task → (input : List ℕ) → (left old new : Option (List ℕ)) → Type 0
+abbrev pub DebugsAsItCame : HeldFiles → ℕ → Task → (input : List ℕ) → (left old new : Option (List ℕ)) → Type 0
 DebugsAsItCame held vl task input left old new = IfOk (task_files held task) (λ files. AnswersAsItCame vl task files.0 files.1 input left old new)

@@ -89,7 +89,7 @@ bound_steps k args vl m q = bound k args vl m
 abbrev pub slow_steps : Program → (args : List ℕ) (vl m q : ℕ) → ℕ
 slow_steps k args vl m q = slow_bound k m
 
--- whatever free elements are suppressed: each iteration may take a chunk that no lane comes through, and a turn by itself
+-- whatever free elements are suppressed: each iteration may take a chunk that no lane comes through, and a pass by itself
 abbrev pub end_steps : Program → (args : List ℕ) (vl m q : ℕ) → ℕ
 end_steps k args vl m q = steps_for k (2 * m + 2)
 

@@ -1,2 +1,3 @@
 pub mod Faithful
 pub mod Refusals
+pub mod Reserved

@@ -26,24 +26,12 @@ use Rattle.reductions.specs.Joins.{joined, Joins}
 -- a lane as wide as the type
 pub own : (t : Ty) → bits_of t ≡ width_bits (width_of t)
 own ty.I8 = refl
-own ty.I16 = refl
-own ty.I32 = refl
-own ty.I64 = refl
-own ty.U8 = refl
-own ty.U16 = refl
-own ty.U32 = refl
-own ty.U64 = refl
+own other = refl
 
 -- what that lane holds of a value tells it
 wrap_by_residue : (t : Ty) (x y : ℤ) → residue (bits_of t) x ≡ residue (bits_of t) y → wrap t x ≡ wrap t y
 wrap_by_residue ty.I8 x y e = cc
-wrap_by_residue ty.I16 x y e = cc
-wrap_by_residue ty.I32 x y e = cc
-wrap_by_residue ty.I64 x y e = cc
-wrap_by_residue ty.U8 x y e = cc
-wrap_by_residue ty.U16 x y e = cc
-wrap_by_residue ty.U32 x y e = cc
-wrap_by_residue ty.U64 x y e = cc
+wrap_by_residue other x y e = cc
 
 pub wrap_by_held : (t : Ty) (x y : ℤ) → held (width_of t) x ≡ held (width_of t) y → wrap t x ≡ wrap t y
 wrap_by_held t x y e = wrap_by_residue t x y (subst (λ k. residue k x ≡ residue k y) (sym (own t)) e)
@@ -56,39 +44,19 @@ lane-wrap t x = held-wrap (width_of t) t x (own t)
 
 add_assoc : (w : Width) (a b c : ℕ) → ((a + b) % modulus w + c) % modulus w ≡ (a + (b + c) % modulus w) % modulus w
 add_assoc B a b c = omega arith
-add_assoc H a b c = omega arith
-add_assoc S a b c = omega arith
-add_assoc D a b c = omega arith
+add_assoc other a b c = omega arith
 
 zero_of : (t : Ty) → IsOf t (pos 0)
 zero_of ty.I8 = (omega (arith, ints), omega (arith, ints))
-zero_of ty.I16 = (omega (arith, ints), omega (arith, ints))
-zero_of ty.I32 = (omega (arith, ints), omega (arith, ints))
-zero_of ty.I64 = (omega (arith, ints), omega (arith, ints))
-zero_of ty.U8 = (omega (arith, ints), omega (arith, ints))
-zero_of ty.U16 = (omega (arith, ints), omega (arith, ints))
-zero_of ty.U32 = (omega (arith, ints), omega (arith, ints))
-zero_of ty.U64 = (omega (arith, ints), omega (arith, ints))
+zero_of other = (omega (arith, ints), omega (arith, ints))
 
 least_is : (t : Ty) → IsOf t (least t)
 least_is ty.I8 = (omega (arith, ints), omega (arith, ints))
-least_is ty.I16 = (omega (arith, ints), omega (arith, ints))
-least_is ty.I32 = (omega (arith, ints), omega (arith, ints))
-least_is ty.I64 = (omega (arith, ints), omega (arith, ints))
-least_is ty.U8 = (omega (arith, ints), omega (arith, ints))
-least_is ty.U16 = (omega (arith, ints), omega (arith, ints))
-least_is ty.U32 = (omega (arith, ints), omega (arith, ints))
-least_is ty.U64 = (omega (arith, ints), omega (arith, ints))
+least_is other = (omega (arith, ints), omega (arith, ints))
 
 greatest_is : (t : Ty) → IsOf t (greatest t)
 greatest_is ty.I8 = (omega (arith, ints), omega (arith, ints))
-greatest_is ty.I16 = (omega (arith, ints), omega (arith, ints))
-greatest_is ty.I32 = (omega (arith, ints), omega (arith, ints))
-greatest_is ty.I64 = (omega (arith, ints), omega (arith, ints))
-greatest_is ty.U8 = (omega (arith, ints), omega (arith, ints))
-greatest_is ty.U16 = (omega (arith, ints), omega (arith, ints))
-greatest_is ty.U32 = (omega (arith, ints), omega (arith, ints))
-greatest_is ty.U64 = (omega (arith, ints), omega (arith, ints))
+greatest_is other = (omega (arith, ints), omega (arith, ints))
 
 -- ---- operators that a lane computes
 
@@ -111,15 +79,11 @@ module _ (t : Ty) (f : ℤ → ℤ → ℤ) (g : ℕ → ℕ → ℕ) (law : (x 
 
 zero_lane : (w : Width) → held w (pos 0) ≡ 0
 zero_lane B = refl
-zero_lane H = refl
-zero_lane S = refl
-zero_lane D = refl
+zero_lane other = refl
 
 ones_lane : (w : Width) → held w (negsuc 0) ≡ 2 ^ width_bits w - 1
 ones_lane B = refl
-ones_lane H = refl
-ones_lane S = refl
-ones_lane D = refl
+ones_lane other = refl
 
 small : (w : Width) (x : ℤ) → held w x % 2 ^ width_bits w ≡ held w x
 small B x = let h = held-below B x in omega (arith, h)

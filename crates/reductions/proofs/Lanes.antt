@@ -77,13 +77,7 @@ low_sum ty.U64 D a b le = omega arith
 
 last : (t : Ty) (n : ℕ) → (n % 2 ^ bits_of t + 0 % 2 ^ bits_of t) % 2 ^ bits_of t ≡ n % 2 ^ bits_of t
 last ty.I8 n = omega arith
-last ty.U8 n = omega arith
-last ty.I16 n = omega arith
-last ty.U16 n = omega arith
-last ty.I32 n = omega arith
-last ty.U32 n = omega arith
-last ty.I64 n = omega arith
-last ty.U64 n = omega arith
+last other n = omega arith
 
 -- an element keeps them
 pub through : (t : Ty) (w : Width) (n : ℕ) → bits_of t ≤ width_bits w → n % modulus w % 2 ^ bits_of t ≡ n % 2 ^ bits_of t
@@ -91,13 +85,7 @@ through t w n le = ap (λ m. m % modulus w % 2 ^ bits_of t) (let e : n ≡ n + 0
 
 pub at_most_64 : (t : Ty) → bits_of t ≤ width_bits D
 at_most_64 ty.I8 = omega arith
-at_most_64 ty.U8 = omega arith
-at_most_64 ty.I16 = omega arith
-at_most_64 ty.U16 = omega arith
-at_most_64 ty.I32 = omega arith
-at_most_64 ty.U32 = omega arith
-at_most_64 ty.I64 = omega arith
-at_most_64 ty.U64 = omega arith
+at_most_64 other = omega arith
 
 own_word : (t : Ty) (v : ℤ) → residue (bits_of t) v ≡ word v % 2 ^ bits_of t
 own_word ty.I8 v = held-word B v
@@ -208,11 +196,7 @@ update_taken op t w s z m a on taken value h lt wide mask holds given =
 
 held_start : (op : UpdateOp) (t : Ty) (w : Width) (a : ℕ) → bits_of t ≤ width_bits w → a ≡ held w (joins.identity op t) → Holds op t w a (joins.identity op t)
 held_start update.Add t w a wide e = ap (λ n. n % 2 ^ bits_of t) e ∙ low_held t w (joins.identity update.Add t) wide
-held_start update.And t w a wide e = e
-held_start update.Or t w a wide e = e
-held_start update.Xor t w a wide e = e
-held_start update.Min t w a wide e = e
-held_start update.Max t w a wide e = e
+held_start other t w a wide e = e
 
 pub start_identity : StartIsIdentity
 start_identity op t w s z x h lz lx wide e =

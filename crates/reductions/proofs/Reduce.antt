@@ -53,11 +53,7 @@ reduce_op update.Max t = if is_signed t then reduce_ops.SMax else reduce_ops.UMa
 -- the width of its result
 abbrev result_width : UpdateOp → Width → Width
 result_width update.Add w = D
-result_width update.And w = w
-result_width update.Or w = w
-result_width update.Xor w = w
-result_width update.Min w = w
-result_width update.Max w = w
+result_width other w = w
 
 ones_is : (w : Width) (x : ℤ) → bit_and (modulus w - 1) (held w x) ≡ held w x
 ones_is w x =
@@ -66,21 +62,15 @@ ones_is w x =
 
 top_is : (w : Width) → held w (pos (2 ^ (width_bits w - 1) - 1)) ≡ modulus w / 2 - 1
 top_is B = refl
-top_is H = refl
-top_is S = refl
-top_is D = refl
+top_is other = refl
 
 bottom_is : (w : Width) → held w (negsuc (2 ^ (width_bits w - 1) - 1)) ≡ modulus w / 2
 bottom_is B = refl
-bottom_is H = refl
-bottom_is S = refl
-bottom_is D = refl
+bottom_is other = refl
 
 some_half : (w : Width) → 0 < 2 ^ (width_bits w - 1)
 some_half B = omega arith
-some_half H = omega arith
-some_half S = omega arith
-some_half D = omega arith
+some_half other = omega arith
 
 below_top : (w : Width) (x : ℤ) → InBits true (width_bits w) x → int_min (pos (2 ^ (width_bits w - 1) - 1)) x ≡ x
 below_top w (pos n) h = omega (arith, ints, clamps, h)
@@ -171,9 +161,7 @@ first_part D z h = at-part D 0 z h ∙ ap (λ n. n % 2 ^ 64) (div-one (at D z 0)
 
 one_fits : (vl : ℕ) (w : Width) → IsLength vl → width_bytes w * 1 ≤ vl / 8
 one_fits vl B h = omega arith
-one_fits vl H h = omega arith
-one_fits vl S h = omega arith
-one_fits vl D h = omega arith
+one_fits vl other h = omega arith
 
 -- a result in the lowest element
 low_result : (t : Ty) (vl : ℕ) (w : Width) (r : ℕ) → IsLength vl → bits_of t ≤ width_bits w → at D (register (width_bytes w) (dup_at r) 1) 0 % 2 ^ bits_of t ≡ r % 2 ^ bits_of t

@@ -12,7 +12,7 @@ use Rattle.machine_model.specs.Machine.{State, Went, x_at, z_at, p_at}
 use Rattle.machine_model.specs.States.{IsState}
 use Rattle.sve_code.specs.Table.{Name, m_add, m_and, m_orr, m_eor, m_smin, m_umin, m_smax, m_umax, uaddv, andv, orv, eorv, sminv, uminv, smaxv, umaxv}
 use Rattle.lane_emit.specs.Right.{IsOf, PRight}
-use Rattle.lane_emit.specs.Stretch.{Word, word, do_all, OnlyZ, Ready}
+use Rattle.lane_emit.specs.Stretch.{VectorInstruction, word, do_all, OnlyZ, Ready}
 use Rattle.lane_emit.specs.LaneCode.{size_of, dup_code}
 use Rattle.reductions.specs.Joins.{joined, identity}
 use Rattle.reductions.specs.Folds.{together}
@@ -42,7 +42,7 @@ update_name update.Min t = if is_signed t then m_smin else m_umin
 update_name update.Max t = if is_signed t then m_smax else m_umax
 
 -- the accumulator in z is updated by the value in a where the mask m is true; its other lanes stay
-abbrev pub update_code : Width → UpdateOp → Ty → (z m a : ℕ) → List Word
+abbrev pub update_code : Width → UpdateOp → Ty → (z m a : ℕ) → List VectorInstruction
 update_code w op t z m a = word (update_name op t) (z ∷ a ∷ m ∷ size_of w ∷ []) ∷ []
 
 abbrev pub reduce_name : UpdateOp → Ty → Name
@@ -54,13 +54,13 @@ reduce_name update.Min t = if is_signed t then sminv else uminv
 reduce_name update.Max t = if is_signed t then smaxv else umaxv
 
 -- all lanes of z, joined together in the lowest element of d
-abbrev pub reduce_code : Width → UpdateOp → Ty → (d z : ℕ) → List Word
+abbrev pub reduce_code : Width → UpdateOp → Ty → (d z : ℕ) → List VectorInstruction
 reduce_code w op t d z = word (reduce_name op t) (d ∷ z ∷ 1 ∷ size_of w ∷ []) ∷ []
 
 -- ---- what they leave
 
 -- an accumulator in vector register z after some code, and nothing else changed
-pub record Updated (c : List Word) (s : State) (op : UpdateOp) (t : Ty) (w : Width) (n z : ℕ) (taken : ℕ → ℤ) : Type 0 where
+pub record Updated (c : List VectorInstruction) (s : State) (op : UpdateOp) (t : Ty) (w : Width) (n z : ℕ) (taken : ℕ → ℤ) : Type 0 where
   pub end : State
   pub runs : do_all c s ≡ Went end
   pub is : IsState end
@@ -82,7 +82,7 @@ UpdateIsTaken =
     → Updated (update_code w op t z m a) s op t w (lanes s.vl w) z (λ e. cond (on e) (joined op t (taken e) (value e)) (taken e))
 
 -- the lowest doubleword of register d holds, in the bits of the type, what so many lanes took in together
-pub record Reduced (c : List Word) (s : State) (op : UpdateOp) (t : Ty) (n d : ℕ) (taken : ℕ → ℤ) : Type 0 where
+pub record Reduced (c : List VectorInstruction) (s : State) (op : UpdateOp) (t : Ty) (n d : ℕ) (taken : ℕ → ℤ) : Type 0 where
   pub end : State
   pub runs : do_all c s ≡ Went end
   pub is : IsState end

@@ -1,5 +1,5 @@
 -- The lines of refusals. Each ends with a line feed; numbers are decimal.
-use Rattle.std.specs.Prelude.{ℕ, List, [], ◌++◌, codes, decimal}
+use Rattle.std.specs.Prelude.{ℕ, List, ◌++◌, codes, decimal}
 use Rattle.kernel_tree.specs.declared.ops.Ty.{Ty}
 use Rattle.kernel_tree.specs.Printing.{type_text}
 use Rattle.kernel_syntax.specs.declared.fault.ReadFault.{ReadFault}

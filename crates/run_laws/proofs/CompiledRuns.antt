@@ -23,7 +23,7 @@ use Rattle.promises.proofs.Promises as promises
 use Rattle.command_line.specs.Line.{Task}
 use Rattle.refusals.specs.declared.refusal.Refusal.{Refusal}
 use Rattle.refusals.specs.declared.refusal.Refusal.TheVariants.{TooLong}
-use Rattle.command_answers.specs.Answer.{Held, Expected}
+use Rattle.command_answers.specs.Answer.{HeldFiles, Expected}
 use Rattle.command_answers.specs.Reads.{and_then, file_of, bytes_of, map_of}
 use Rattle.command_answers.specs.Works.{success_of, done_by, dump_of}
 use Rattle.program_commands.specs.Commands.{stops_of, run_program, expected_of_run}
@@ -47,7 +47,7 @@ pub same_kernel : (a b : Program) → Sound a ≡ Sound b → a ≡ b
 same_kernel a b e = cc
 
 -- the run that is wanted, where its file and map are read
-pub work_is : (held : Held) (vl : ℕ) (suppress : Option ℕ) (task : Task) (file : List ℕ) (image : Image) (pages : Memory) (needed : ℕ) → file_of held task.file ≡ Ok file → IsRun held vl suppress task file image pages needed
+pub work_is : (held : HeldFiles) (vl : ℕ) (suppress : Option ℕ) (task : Task) (file : List ℕ) (image : Image) (pages : Memory) (needed : ℕ) → file_of held task.file ≡ Ok file → IsRun held vl suppress task file image pages needed
     → expected_of_run held vl (stops_of suppress) task ≡ success_of task.dump (run task.steps 0 (free_start image task.args pages vl (stops_of suppress)))
 work_is held vl suppress task file image pages needed read x =
     let next : List ℕ × List ℕ → Expected = λ files. run_program vl (stops_of suppress) task files.0 files.1 in
@@ -57,7 +57,7 @@ work_is held vl suppress task file image pages needed read x =
     ∙ run_is vl (stops_of suppress) task file x.map image pages x.loads x.maps
 
 -- beside the pages of its map, the run may start
-pub begins_at : (held : Held) (vl : ℕ) (suppress : Option ℕ) (task : Task) (file : List ℕ) (image : Image) (pages : Memory) (needed : ℕ) → IsRun held vl suppress task file image pages needed → IsStart image task.args pages vl
+pub begins_at : (held : HeldFiles) (vl : ℕ) (suppress : Option ℕ) (task : Task) (file : List ℕ) (image : Image) (pages : Memory) (needed : ℕ) → IsRun held vl suppress task file image pages needed → IsStart image task.args pages vl
 begins_at held vl suppress task file image pages needed x =
     let beside = map_beside x.map image.pages pages (few_pages file image x.loads) x.maps in
     let line = can_run x.words vl suppress task x.spelled in
@@ -113,13 +113,13 @@ faithful_runs = record {
 }
 
 -- the file that stands under a name is that which was compiled
-pub compiled_from : (old new : Held) (from to text file : List ℕ) → content old from ≡ Some text → content new to ≡ Some file → IsCompiled old new from to → CompilesTo text file
+pub compiled_from : (old new : HeldFiles) (from to text file : List ℕ) → content old from ≡ Some text → content new to ≡ Some file → IsCompiled old new from to → CompilesTo text file
 compiled_from old new from to text file e h compiled =
     let c = subst (λ o. IfSome o (λ text. (file : List ℕ) × (content new to ≡ Some file) × CompilesTo text file)) e compiled in
     subst (CompilesTo text) (same_file c.0 file (content new to) c.1 h) c.2
 
 -- it is not too long to be read
-pub read_whole : (text file : List ℕ) (held : Held) (name : List ℕ) → CompilesTo text file → content held name ≡ Some file → file_of held name ≡ Ok file
+pub read_whole : (text file : List ℕ) (held : HeldFiles) (name : List ℕ) → CompilesTo text file → content held name ≡ Some file → file_of held name ≡ Ok file
 read_whole text file held name c stands =
     let size = ap length c.code.file_is ∙ length-file_of c.code.words in
     ap bytes_of stands ∙ cond-false (nat_lt MAX_FILE (length file)) (Err TooLong) (Ok file) (le-ltb MAX_FILE (length file) (omega (arith, size, c.code.few, c.small)))

@@ -25,14 +25,14 @@ use Rattle.scalar_text.specs.ScalarText.{scalar_text}
 use Rattle.kernel_front.specs.Verdict.{Sound}
 use Rattle.kernel_front.proofs.OneVerdict.{one_verdict}
 use Rattle.dependence.specs.Bound.{free_bound, at_once, runs_in_chunks}
-use Rattle.close_bound.specs.CloseBound.{close_bound, loop_steps, pass_steps, passes, last_steps, has_break, spare, outside_steps}
+use Rattle.close_bound.specs.CloseBound.{close_bound, loop_steps, pass_steps, last_steps, has_break, spare, outside_steps}
 use Rattle.promises.specs.Faithful.{IsStart, Follows, IsFaithful, IsEmpty, IsAny, FreeFaithful, FreeEnds, CloseFaithful, bound_steps, end_steps}
 use Rattle.promises.proofs.Promises as promises
 use Rattle.command_line.specs.Line.{Task}
 use Rattle.refusals.specs.declared.refusal.Refusal.{Refusal}
 use Rattle.refusals.specs.declared.refusal.Refusal.TheVariants.{TooLong}
 use Rattle.refusals.specs.declared.refusal.Done.TheVariants as done
-use Rattle.command_answers.specs.Answer.{Held, Expected}
+use Rattle.command_answers.specs.Answer.{HeldFiles, Expected}
 use Rattle.command_answers.specs.Reads.{and_then, file_of, bytes_of, map_of, task_files, AfterRead}
 use Rattle.command_answers.specs.Works.{mapped, success_of, dump_of}
 use Rattle.program_commands.specs.Commands.{stops_of}
@@ -45,7 +45,7 @@ use Rattle.run_laws.proofs.CompiledRuns.{work_is, begins_at, runs_at, same_kerne
 -- ---- what `eval` came to
 
 -- the file that was read, since something ended
-read_is : (held : Held) (task : Task) (text : List ℕ) (work : Expected) (next : List ℕ × List ℕ → Expected → Type 0) → content held task.file ≡ Some text → HasEnded work → AfterRead (task_files held task) next work → file_of held task.file ≡ Ok text
+read_is : (held : HeldFiles) (task : Task) (text : List ℕ) (work : Expected) (next : List ℕ × List ℕ → Expected → Type 0) → content held task.file ≡ Some text → HasEnded work → AfterRead (task_files held task) next work → file_of held task.file ≡ Ok text
 read_is held task text work next stands ended wanted = go (nat_lt MAX_FILE (length text)) (ap bytes_of stands)
   where
     go : (long : Bool) → file_of held task.file ≡ (if long then Err TooLong else Ok text) → file_of held task.file ≡ Ok text
@@ -56,7 +56,7 @@ read_is held task text work next stands ended wanted = go (nat_lt MAX_FILE (leng
     go false e = e
 
 -- the work that is wanted of a sound kernel over the pages of a map
-eval_is : (k : Program) (held : Held) (task : Task) (running : Held) (run : Task) (work : Expected) (map : List ℕ) (pages : Memory) → IsEval k held task running run work → map_of running run.map ≡ Ok map → pages_of map [] ≡ Ok pages → work ≡ eval_over task k pages
+eval_is : (k : Program) (held : HeldFiles) (task : Task) (running : HeldFiles) (run : Task) (work : Expected) (map : List ℕ) (pages : Memory) → IsEval k held task running run work → map_of running run.map ≡ Ok map → pages_of map [] ≡ Ok pages → work ≡ eval_over task k pages
 unfolding eval_kernel
 eval_is k held task running run work map pages x read maps =
     let expects : List ℕ × List ℕ → Expected → Type 0 = λ files. EvalExpects task files.0 files.1 in
@@ -104,13 +104,13 @@ end_rises : IsRising end_steps
 unfolding IsRising
 end_rises k args vl m q r le = same_le _ _ refl
 
-more_turns : (a b turns q r : ℕ) → q ≤ r → a + b * (turns + 2 + 4 * q) ≤ a + b * (turns + 2 + 4 * r)
-more_turns a b turns q r le =
-    let more = mul-le-mul_left b (let h : turns + 2 + 4 * q ≤ turns + 2 + 4 * r = omega (arith, le) in h) in omega (arith, more)
+more_rounds : (a b rounds q r : ℕ) → q ≤ r → a + b * (rounds + 2 + 4 * q) ≤ a + b * (rounds + 2 + 4 * r)
+more_rounds a b rounds q r le =
+    let more = mul-le-mul_left b (let h : rounds + 2 + 4 * q ≤ rounds + 2 + 4 * r = omega (arith, le) in h) in omega (arith, more)
 
 free_rises : IsRising free_bound
 unfolding IsRising
-free_rises k args vl m q r le = more_turns (1000 + 100 * size_of k) (32 + 8 * size_of k) (div_ceil m (at_once k args vl)) q r le
+free_rises k args vl m q r le = more_rounds (1000 + 100 * size_of k) (32 + 8 * size_of k) (div_ceil m (at_once k args vl)) q r le
 
 more_spare : (s q r : ℕ) → q ≤ r → s * (1 + q) ≤ s * (1 + r)
 more_spare s q r le = mul-le-mul_left s (let h : 1 + q ≤ 1 + r = omega (arith, le) in h)

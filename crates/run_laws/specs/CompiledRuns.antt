@@ -16,7 +16,7 @@ use Rattle.close_bound.specs.CloseBound.{close_bound}
 use Rattle.promises.specs.Faithful.{Stops, IsFaithful, IsEmpty, IsAny, bound_steps, end_steps}
 use Rattle.command_line.specs.Line.{Words, Task, RunLine, line_of}
 use Rattle.refusals.specs.declared.refusal.Done.TheVariants as done
-use Rattle.command_answers.specs.Answer.{Held, Expected}
+use Rattle.command_answers.specs.Answer.{HeldFiles, Expected}
 use Rattle.command_answers.specs.Reads.{file_of, map_of}
 use Rattle.command_answers.specs.Works.{dump_of}
 use Rattle.program_commands.specs.Commands.{stops_of, expected_of_run}
@@ -41,7 +41,7 @@ enough_for within k vl suppress task image pages m = within k task.args vl m (su
 
 -- The length, the number of a stop list and the task are those of a call of `run`. Its file is loaded; the map's text
 -- gives these pages beside the image; and the most steps are at least so many.
-pub record IsRun (held : Held) (vl : ℕ) (suppress : Option ℕ) (task : Task) (file : List ℕ) (image : Image) (pages : Memory) (needed : ℕ) : Type 0 where
+pub record IsRun (held : HeldFiles) (vl : ℕ) (suppress : Option ℕ) (task : Task) (file : List ℕ) (image : Image) (pages : Memory) (needed : ℕ) : Type 0 where
   pub words : Words
   pub spelled : line_of words ≡ Some (RunLine vl suppress task)
   pub loads : load file ≡ Ok image
@@ -54,7 +54,7 @@ pub record IsRun (held : Held) (vl : ℕ) (suppress : Option ℕ) (task : Task) 
 -- within the bound of which the promise speaks. The most steps are enough for the kernel's run and what the stop list suppresses.
 abbrev pub FaithfulWithin : Steps → (StopList → Type 0) → Type 0
 FaithfulWithin within IsAllowed =
-    (k : Program) (held : Held) (vl : ℕ) (suppress : Option ℕ) (task : Task) (file : List ℕ) (image : Image)
+    (k : Program) (held : HeldFiles) (vl : ℕ) (suppress : Option ℕ) (task : Task) (file : List ℕ) (image : Image)
     (pages : Memory) (work : Expected)
     → IsFaithful within IsAllowed k file → IsAllowed (stops_of suppress) → file_of held task.file ≡ Ok file
     → let run = scalar_run k task.args (merged image.pages pages) in
@@ -64,7 +64,7 @@ FaithfulWithin within IsAllowed =
 -- The same of the file that `compile` left at status 0 under one name, where the text of a kernel stood under the other.
 abbrev pub CompiledWithin : Steps → (StopList → Type 0) → Type 0
 CompiledWithin within IsAllowed =
-    (old new held : Held) (from to text : List ℕ) (k : Program) (vl : ℕ) (suppress : Option ℕ) (task : Task)
+    (old new held : HeldFiles) (from to text : List ℕ) (k : Program) (vl : ℕ) (suppress : Option ℕ) (task : Task)
     (file : List ℕ) (image : Image) (pages : Memory) (work : Expected)
     → content old from ≡ Some text → IsVerdict text (Sound k)
     → IsCompiled old new from to → content new to ≡ Some file → IsAllowed (stops_of suppress) → content held task.file ≡ Some file

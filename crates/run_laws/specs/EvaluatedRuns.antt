@@ -14,7 +14,7 @@ use Rattle.kernel_front.specs.Verdict.{Sound, IsVerdict}
 use Rattle.promises.specs.Faithful.{IsFaithful}
 use Rattle.command_line.specs.Line.{Task}
 use Rattle.refusals.specs.declared.refusal.Done.TheVariants as done
-use Rattle.command_answers.specs.Answer.{Held, Expected}
+use Rattle.command_answers.specs.Answer.{HeldFiles, Expected}
 use Rattle.command_answers.specs.Reads.{file_of, map_of}
 use Rattle.command_answers.specs.Works.{dump_of}
 use Rattle.program_commands.specs.Commands.{stops_of, expected_of_run}
@@ -27,7 +27,7 @@ abbrev pub HasEnded : Expected → Type 0
 HasEnded work = IsOkAnd work (λ success. success.how ≡ done.Ended)
 
 -- A call of `eval` that ended. It has the text of the kernel, and the arguments and the map's text of a call of `run`.
-pub record IsEval (k : Program) (held : Held) (task : Task) (running : Held) (run : Task) (work : Expected) : Type 0 where
+pub record IsEval (k : Program) (held : HeldFiles) (task : Task) (running : HeldFiles) (run : Task) (work : Expected) : Type 0 where
   pub text : List ℕ
   pub stands : content held task.file ≡ Some text
   pub sound : IsVerdict text (Sound k)
@@ -52,7 +52,7 @@ pub record BothEnd (image : Image) (enough : ℕ) (eval run : Task) (evaluated r
 -- of `run` are enough for the iterations that `eval` began and what the stop list suppresses.
 abbrev pub FaithfulAgrees : Steps → (StopList → Type 0) → Type 0
 FaithfulAgrees within IsAllowed =
-    (k : Program) (evals held : Held) (vl : ℕ) (suppress : Option ℕ) (eval task : Task) (file : List ℕ)
+    (k : Program) (evals held : HeldFiles) (vl : ℕ) (suppress : Option ℕ) (eval task : Task) (file : List ℕ)
     (image : Image) (pages : Memory) (evaluated ran : Expected)
     → IsFaithful within IsAllowed k file → IsAllowed (stops_of suppress) → file_of held task.file ≡ Ok file
     → let needed = enough_for within k vl suppress task image pages (begun (scalar_run k task.args pages)) in
@@ -63,7 +63,7 @@ FaithfulAgrees within IsAllowed =
 -- The same of the file that `compile` left at status 0 under one name, where the text of the kernel stood under the other.
 abbrev pub CompiledAgrees : Steps → (StopList → Type 0) → Type 0
 CompiledAgrees within IsAllowed =
-    (old new evals held : Held) (from to text : List ℕ) (k : Program) (vl : ℕ) (suppress : Option ℕ)
+    (old new evals held : HeldFiles) (from to text : List ℕ) (k : Program) (vl : ℕ) (suppress : Option ℕ)
     (eval task : Task) (file : List ℕ) (image : Image) (pages : Memory) (evaluated ran : Expected)
     → content old from ≡ Some text → IsVerdict text (Sound k)
     → IsCompiled old new from to → content new to ≡ Some file → IsAllowed (stops_of suppress) → content held task.file ≡ Some file

@@ -17,7 +17,7 @@ use Rattle.kernel_meaning.specs.Operators.{word}
 use Rattle.kernel_meaning.specs.Eval.{Names, value}
 use Rattle.kernel_meaning.specs.Iterate.{with_name}
 use Rattle.kernel_meaning.specs.ScalarRun.{argument, argument_names, initial, started}
-use Rattle.label_fix.specs.DraftRun.{Entry, Laid, word_of}
+use Rattle.label_fix.specs.DraftRun.{DraftEntry, Laid, word_of}
 use Rattle.label_fix.proofs.StretchSteps.{Goes, Resolves, stay, chain, put_goes, go_more}
 use Rattle.scalar_words.specs.Layout.{loose_in, Layout, Homes, Lasts}
 use Rattle.scalar_values.specs.ValueRegisters.{home}
@@ -32,7 +32,7 @@ use Rattle.scalar_emit.specs.KernelFits.{AreSafeVars, KernelFits}
 use Rattle.scalar_words.specs.Iterations.{AreHeld}
 use Rattle.scalar_emit.specs.Runs.{Begins, begin_steps, BeginRuns}
 use Rattle.scalar_words.proofs.AssignedOf.{counted-low}
-use Rattle.scalar_words.proofs.LayoutStates.{Assigned, Changes, AreSafe, Held, Fixed, Told, At, frame_of, wrote, wrote_same, wrote_other, wrote_sized, kept_none, at_kept, safe_later}
+use Rattle.scalar_words.proofs.LayoutStates.{Assigned, Changes, AreSafe, AreInRegisters, Fixed, Told, At, frame_of, wrote, wrote_same, wrote_other, wrote_sized, kept_none, at_kept, safe_later}
 use Rattle.scalar_values.proofs.Loads.{Gives, a_value}
 use Rattle.scalar_words.proofs.WordsRuns.{extension_is, wide_wrap, copied_sets}
 use Rattle.kernel_meaning.specs.TypeValues.{IsOf}
@@ -69,7 +69,7 @@ given_on m n [] args s t le f h = tt
 given_on m n (p ∷ ps) args s t le f h = (f n le ∙ h.0, h.1, given_on m (n + 1) ps (drop 1 args) s t (omega arith) f h.2)
 
 -- the words of the arguments, of which those from n on change
-pub record Arguments (D : Laid) (c : List Entry) (s : State) (rest : List Entry) (n : ℕ) (ps : List Parameter) (args : List ℕ) : Type 0 where
+pub record Arguments (D : Laid) (c : List DraftEntry) (s : State) (rest : List DraftEntry) (n : ℕ) (ps : List Parameter) (args : List ℕ) : Type 0 where
   pub end : State
   pub goes : Goes D c s rest end (length ps)
   pub memory : end.memory ≡ s.memory
@@ -83,7 +83,7 @@ small_word : (a : ℕ) → a < 2 ^ 64 → word (pos a) ≡ a
 small_word a h = mod-eq_of_lt h
 
 module _ (D : Laid) where
-  arguments_step : (x : Shape) (p : Parameter) (ps : List Parameter) (n a : ℕ) (args : List ℕ) (s : State) (rest : List Entry) → p.shape ≡ x → n < length s.x → x_at s n ≡ a → slice_index args 0 ≡ a → a < 2 ^ 64 → AreGiven (n + 1) ps (drop 1 args) s
+  arguments_step : (x : Shape) (p : Parameter) (ps : List Parameter) (n a : ℕ) (args : List ℕ) (s : State) (rest : List DraftEntry) → p.shape ≡ x → n < length s.x → x_at s n ≡ a → slice_index args 0 ≡ a → a < 2 ^ 64 → AreGiven (n + 1) ps (drop 1 args) s
       → ((t : State) → length t.x ≡ length s.x → AreGiven (n + 1) ps (drop 1 args) t → Arguments D (arguments_code (n + 1) ps rest) t rest (n + 1) ps (drop 1 args)) → Arguments D (argument_code x n (arguments_code (n + 1) ps rest)) s rest n (p ∷ ps) args
   arguments_step (shape.Array t) p ps n a args s rest e lt at is small more on =
       let k = on s refl more in
@@ -128,7 +128,7 @@ module _ (D : Laid) where
             wrapped = (k.low n (omega arith) ∙ at ∙ sym (small_word a small) ∙ sym (wide_wrap t (pos a) q) ∙ sym (ap₂ (λ y b. word (argument y b)) e is), k.wrapped);
           }
 
-  pub arguments_runs : (ps : List Parameter) (n : ℕ) (args : List ℕ) (s : State) (rest : List Entry) → n + length ps ≤ length s.x → AreGiven n ps args s → Arguments D (arguments_code n ps rest) s rest n ps args
+  pub arguments_runs : (ps : List Parameter) (n : ℕ) (args : List ℕ) (s : State) (rest : List DraftEntry) → n + length ps ≤ length s.x → AreGiven n ps args s → Arguments D (arguments_code n ps rest) s rest n ps args
   arguments_runs [] n args s rest lt h = record { end = s; goes = stay 0; memory = refl; sized = refl; frame = refl; low = λ r h. refl; high = λ r h. refl; wrapped = tt }
   arguments_runs (p ∷ ps) n args s rest lt h =
       arguments_step p.shape p ps n (slice_index args 0) args s rest refl (omega arith) h.0 refl h.1 h.2
@@ -136,7 +136,7 @@ module _ (D : Laid) where
 
 -- ---- names of parameters
 
-held_given : (n : ℕ) (ps : List Parameter) (args : List ℕ) (p : ℕ) (s : State) → AreWrapped n ps args s → Held (param_homes n ps) (argument_names ps args) p s
+held_given : (n : ℕ) (ps : List Parameter) (args : List ℕ) (p : ℕ) (s : State) → AreWrapped n ps args s → AreInRegisters (param_homes n ps) (argument_names ps args) p s
 held_given n [] args p s h = tt
 held_given n (x ∷ ps) args p s h = (refl, (λ l. h.0), held_given (n + 1) ps (drop 1 args) p s h.1)
 
@@ -148,15 +148,15 @@ HighVars R j [] = Unit {0}
 HighVars R j (v ∷ vs) = (counted_x (R j) ≤ 25) × HighVars R (j + 1) vs
 
 -- the initial values: with the names of the accumulators, or stopped by a fault
-pub data Starts (D : Laid) {M : Layout} (w : Fixed M) (c : List Entry) (s : State) (rest : List Entry) (hs : Homes) (ls : List Local) (p : ℕ) (m : Memory) (most : ℕ) : Option Names → Type 0 where
+pub data Starts (D : Laid) {M : Layout} (w : Fixed M) (c : List DraftEntry) (s : State) (rest : List DraftEntry) (hs : Homes) (ls : List Local) (p : ℕ) (m : Memory) (most : ℕ) : Option Names → Type 0 where
   cannot : Starts D w c s rest hs ls p m most None
   starts : {names : Names} (end : State) → Goes D c s rest end most → At w hs ls names m p end → frame_of end ≡ frame_of s → Starts D w c s rest hs ls p m most (Some names)
 
-starts_after : {D : Laid} {M : Layout} {w : Fixed M} {c e rest : List Entry} {s t : State} {hs : Homes} {ls : List Local} {p a b : ℕ} {m : Memory} {o : Option Names} (most : ℕ) → a + b ≤ most → Goes D c s e t a → frame_of t ≡ frame_of s → Starts D w e t rest hs ls p m b o → Starts D w c s rest hs ls p m most o
+starts_after : {D : Laid} {M : Layout} {w : Fixed M} {c e rest : List DraftEntry} {s t : State} {hs : Homes} {ls : List Local} {p a b : ℕ} {m : Memory} {o : Option Names} (most : ℕ) → a + b ≤ most → Goes D c s e t a → frame_of t ≡ frame_of s → Starts D w e t rest hs ls p m b o → Starts D w c s rest hs ls p m most o
 starts_after most le g f cannot = cannot
 starts_after most le g f (starts end k at h) = starts end (chain most le g k) at (h ∙ f)
 
-starts_at : {D : Laid} {M : Layout} {w : Fixed M} {c rest : List Entry} {s : State} {hs : Homes} {ls : List Local} {p most : ℕ} {m : Memory} {o : Option Names} (q : ℕ) → p ≡ q → Starts D w c s rest hs ls p m most o → Starts D w c s rest hs ls q m most o
+starts_at : {D : Laid} {M : Layout} {w : Fixed M} {c rest : List DraftEntry} {s : State} {hs : Homes} {ls : List Local} {p most : ℕ} {m : Memory} {o : Option Names} (q : ℕ) → p ≡ q → Starts D w c s rest hs ls p m most o → Starts D w c s rest hs ls q m most o
 starts_at q e cannot = cannot
 starts_at {w = w} {hs = hs} {ls = ls} {m = m} q e (starts {names = names} end k at h) = starts end k (subst (λ p. At w hs ls names m p end) e at) h
 
@@ -181,7 +181,7 @@ module _ (D : Laid) (L : Layout) (fit : Assigned L) (R : ℕ → ℕ) where
       }
 
   -- an initial value into its register, and then the other accumulators
-  vars_step : (o : Option ℤ) (v : Accumulator) (vs : List Accumulator) {w : Fixed L} {hs : Homes} (s : Scope) {names : Names} {m : Memory} {st : State} (j b n : ℕ) (rest : List Entry) → L.loose ≡ [] → AreSafeVars L R hs s j b (v ∷ vs) → counted_x (R j) ≤ 25 → FitsVars L R hs s j b (v ∷ vs) → At w hs s.visible names m b st
+  vars_step : (o : Option ℤ) (v : Accumulator) (vs : List Accumulator) {w : Fixed L} {hs : Homes} (s : Scope) {names : Names} {m : Memory} {st : State} (j b n : ℕ) (rest : List DraftEntry) → L.loose ≡ [] → AreSafeVars L R hs s j b (v ∷ vs) → counted_x (R j) ≤ 25 → FitsVars L R hs s j b (v ∷ vs) → At w hs s.visible names m b st
       → value s (Some v.type) v.init m names ≡ o
       → Gives D L (vars_code L R hs s j b n (v ∷ vs) rest) st (word_code (copy_word (counted_x (R j)) (home L hs s.index b v.init)) (vars_code L R (hs ++ var_home R j v ∷ []) (after_var s v) (j + 1) (b + term_size s.index v.init + 1) (n + labels s.index v.init) vs rest)) b (b + term_size s.index v.init) (home L hs s.index b v.init) m (4 * term_size s.index v.init) o
       → ((x : ℤ) (st : State) → At w (hs ++ var_home R j v ∷ []) (after_var s v).visible (with_name v.name names x) m (b + term_size s.index v.init + 1) st
@@ -199,7 +199,7 @@ module _ (D : Laid) (L : Layout) (fit : Assigned L) (R : ℕ → ℕ) where
       starts_after (4 * (term_size s.index v.init + 1 + vars_size s.index vs)) (omega arith) (chain (4 * term_size s.index v.init + 1) (omega arith) g.goes k.goes) (k.changes.frame ∙ g.kept.frame)
       (starts_at (b + (term_size s.index v.init + 1 + vars_size s.index vs)) (omega arith) (subst (λ hs. Starts D w following k.end rest hs (after_vars (after_var s v) vs).visible (q + 1 + vars_size s.index vs) m (4 * vars_size s.index vs) (initial (after_var s v) vs m (with_name v.name names x))) (append_assoc hs (var_home R j v ∷ []) (var_homes R (j + 1) vs)) r))
 
-  pub vars_runs : (vs : List Accumulator) {w : Fixed L} {hs : Homes} (s : Scope) {names : Names} {m : Memory} {st : State} (j b n : ℕ) (rest : List Entry) → L.loose ≡ [] → AreSafeVars L R hs s j b vs → HighVars R j vs → FitsVars L R hs s j b vs → At w hs s.visible names m b st → Resolves D (vars_code L R hs s j b n vs rest)
+  pub vars_runs : (vs : List Accumulator) {w : Fixed L} {hs : Homes} (s : Scope) {names : Names} {m : Memory} {st : State} (j b n : ℕ) (rest : List DraftEntry) → L.loose ≡ [] → AreSafeVars L R hs s j b vs → HighVars R j vs → FitsVars L R hs s j b vs → At w hs s.visible names m b st → Resolves D (vars_code L R hs s j b n vs rest)
       → Starts D w (vars_code L R hs s j b n vs rest) st rest (hs ++ var_homes R j vs) (after_vars s vs).visible (b + vars_size s.index vs) m (4 * vars_size s.index vs) (initial s vs m names)
   vars_runs [] {w = w} {hs = hs} s {names = names} {m = m} {st = st} j b n rest none safe high fits at res =
       starts_at (b + 0) (omega arith) (starts st (stay 0) (subst (λ hs. At w hs s.visible names m b st) (sym (append-nil hs)) at) refl)
@@ -221,7 +221,7 @@ same_zero s lt z r =
     (cases_lt 9 r))
     (cases_lt r 9)
 
-held_like : (hs : Homes) (ns : Names) (p : ℕ) (s t : State) → ((r : ℕ) → x_at t r ≡ x_at s r) → Held hs ns p s → Held hs ns p t
+held_like : (hs : Homes) (ns : Names) (p : ℕ) (s t : State) → ((r : ℕ) → x_at t r ≡ x_at s r) → AreInRegisters hs ns p s → AreInRegisters hs ns p t
 held_like [] [] p s t f h = tt
 held_like [] (n ∷ ns) p s t f h = absurd h
 held_like (x ∷ hs) [] p s t f h = absurd h
@@ -243,7 +243,7 @@ at_zero {hs = hs} {names = names} {p = p} {s = s} e at =
       held = held_like hs at.stand p s (wrote s 9 0) f at.held;
     }
 
-starts_zero : {D : Laid} {M : Layout} {w : Fixed M} {c rest : List Entry} {s : State} {hs : Homes} {ls : List Local} {p most : ℕ} {m : Memory} {o : Option Names} → w.index ≡ 0 → Starts D w c s (zero_index rest) hs ls p m most o → Starts D w c s rest hs ls p m (most + 1) o
+starts_zero : {D : Laid} {M : Layout} {w : Fixed M} {c rest : List DraftEntry} {s : State} {hs : Homes} {ls : List Local} {p most : ℕ} {m : Memory} {o : Option Names} → w.index ≡ 0 → Starts D w c s (zero_index rest) hs ls p m most o → Starts D w c s rest hs ls p m (most + 1) o
 starts_zero e cannot = cannot
 starts_zero {most = most} e (starts end k at f) = starts (wrote end 9 0) (chain (most + 1) (omega arith) k (put_goes {i = word_of movz (9 ∷ 0 ∷ 0 ∷ [])} refl)) (at_zero e at) f
 
@@ -257,16 +257,16 @@ high_vars : (L : Layout) (R : ℕ → ℕ) (p j : ℕ) (vs : List Accumulator) �
 high_vars L R p j [] h = tt
 high_vars L R p j (v ∷ vs) h = (h.0.high tt, high_vars L R p (j + 1) vs h.1)
 
-argument_back : (D : Laid) (x : Shape) (n : ℕ) (rest : List Entry) → Resolves D (argument_code x n rest) → Resolves D rest
+argument_back : (D : Laid) (x : Shape) (n : ℕ) (rest : List DraftEntry) → Resolves D (argument_code x n rest) → Resolves D rest
 argument_back D (shape.Scalar t) n rest h = word_back D (settle_word true t n) rest h
 argument_back D (shape.Array t) n rest h = h
 
-arguments_back : (D : Laid) (n : ℕ) (ps : List Parameter) (rest : List Entry) → Resolves D (arguments_code n ps rest) → Resolves D rest
+arguments_back : (D : Laid) (n : ℕ) (ps : List Parameter) (rest : List DraftEntry) → Resolves D (arguments_code n ps rest) → Resolves D rest
 arguments_back D n [] rest h = h
 arguments_back D n (p ∷ ps) rest h = arguments_back D (n + 1) ps rest (argument_back D p.shape n (arguments_code (n + 1) ps rest) h)
 
 -- each name has its register
-pub all_held : (hs : Homes) (ns : Names) (p : ℕ) (s : State) → AreSteady hs → Held hs ns p s → AreHeld hs ns s
+pub all_held : (hs : Homes) (ns : Names) (p : ℕ) (s : State) → AreSteady hs → AreInRegisters hs ns p s → AreHeld hs ns s
 all_held [] [] p s steady h = tt
 all_held [] (n ∷ ns) p s steady h = absurd h
 all_held (x ∷ hs) [] p s steady h = absurd h
@@ -305,14 +305,14 @@ past_arguments : (args : List ℕ) (n : ℕ) → length args ≤ n → slice_ind
 past_arguments args n le = get_or_past args n 0 le
 
 -- the names with which the loop starts
-begun : {D : Laid} {R : ℕ → ℕ} {k : Program} {M : Layout} {w : Fixed M} {c rest : List Entry} {s : State} {args : List ℕ} {m : Memory} {most : ℕ} {o : Option Names} (names : Names) → M.loose ≡ [] → AreSteady (kernel_homes R k) → w.index ≡ 0 → started k args m ≡ o → o ≡ Some names → Starts D w c s rest (kernel_homes R k) (var_scope k).visible (loop_start k) m most o → Begins R k D c s rest args m most
+begun : {D : Laid} {R : ℕ → ℕ} {k : Program} {M : Layout} {w : Fixed M} {c rest : List DraftEntry} {s : State} {args : List ℕ} {m : Memory} {most : ℕ} {o : Option Names} (names : Names) → M.loose ≡ [] → AreSteady (kernel_homes R k) → w.index ≡ 0 → started k args m ≡ o → o ≡ Some names → Starts D w c s rest (kernel_homes R k) (var_scope k).visible (loop_start k) m most o → Begins R k D c s rest args m most
 begun names bare steady none e f cannot = absurd cc
 begun {R = R} {k = k} {M = M} {w = w} {m = m} names bare steady none e f (starts {names = found} end g at h) = record {
   names = found;
   starts = e;
   end = end;
   goes = g;
-  at = record { sized = at.sized; index = at.nine ∙ none; ranged = at.ranged; held = all_held (kernel_homes R k) found (loop_start k) end steady (subst (λ ns. Held (kernel_homes R k) ns (loop_start k) end) (told_none w.count at.stand found (subst (λ ls. Told ls w.count at.stand found) bare at.told)) at.held); memory = at.memory; good = at.good };
+  at = record { sized = at.sized; index = at.nine ∙ none; ranged = at.ranged; held = all_held (kernel_homes R k) found (loop_start k) end steady (subst (λ ns. AreInRegisters (kernel_homes R k) ns (loop_start k) end) (told_none w.count at.stand found (subst (λ ls. Told ls w.count at.stand found) bare at.told)) at.held); memory = at.memory; good = at.good };
   frame = h;
 }
 

@@ -1,7 +1,7 @@
 -- What emission keeps of names.
-use Rattle.std.proofs.Common.{◌≡◌, Bool, true, ℕ, zero, suc, ◌+◌, ◌<◌, List, [], ◌∷◌, ◌++◌, length, take, drop, get_or, drop-cons, add-one, Option, Some, None, refl, sym, ap, ◌∙◌, arith, append_assoc}
+use Rattle.std.proofs.Common.{◌≡◌, Bool, ℕ, zero, suc, ◌+◌, ◌<◌, List, [], ◌∷◌, ◌++◌, length, take, drop, get_or, drop-cons, add-one, Option, Some, None, refl, sym, ap, ◌∙◌, arith}
 use Rattle.kernel_tree.specs.Plain.{Term, Block, Parameter, Accumulator, PlainLoop, Program}
-use Rattle.kernel_tree.specs.Items.{turns_size, loop_index, loop_start, loop_end}
+use Rattle.kernel_tree.specs.Items.{for_loop_size, loop_index, loop_start, loop_end}
 use Rattle.kernel_tree.specs.Typing.{Scope, first, param_scope, var_scope}
 use Rattle.kernel_tree.proofs.Scopes.{scope_index}
 use Rattle.kernel_tree.specs.declared.ops.Ty.{Ty}
@@ -10,17 +10,17 @@ use Rattle.scalar_words.specs.Words.{word_code, at_type}
 use Rattle.scalar_values.specs.declared.extent.Extent.{Extent}
 use Rattle.scalar_values.specs.ItemWords.{Side, operator_code}
 use Rattle.scalar_values.specs.Code.{added_number, is_fused, right_side, side_code, parts_code, loose_code}
-use Rattle.label_fix.specs.DraftRun.{Entry}
+use Rattle.label_fix.specs.DraftRun.{DraftEntry}
 use Rattle.scalar_words.specs.declared.home.Home.{Home as Kept}
 use Rattle.scalar_words.specs.declared.constant.Constant.{Constant as Number}
-use Rattle.scalar_words.specs.declared.loose.Loose.{Loose as Held}
+use Rattle.scalar_words.specs.declared.loose.Loose.{Loose as LooseName}
 use Rattle.scalar_words.specs.Layout.{Constant, Loose, Layout, Homes, with_constants, with_loose, register_at}
 use Rattle.scalar_emit.specs.Statements.{block_homes, block_labels, update_extent, update_settles, update_code}
-use Rattle.scalar_emit.specs.Loosening.{turns_loose, after_loop, held_loosely}
+use Rattle.scalar_emit.specs.Loosening.{for_loop_loose, after_loop, held_loosely}
 use Rattle.scalar_emit.specs.LoopNumbers.{held_numbers, loop_layout}
-use Rattle.scalar_emit.specs.Loop.{bare, key_code, numbers_code, enter_word, enter_code, settle_form, settle_code, turn_code, leave_code}
+use Rattle.scalar_emit.specs.Loop.{bare, key_code, numbers_code, enter_word, enter_code, settle_form, settle_code, iterations_code, leave_code}
 use Rattle.scalar_words.specs.KernelRegisters.{layout_of_kernel, param_homes, kernel_homes}
-use Rattle.scalar_emit.specs.Kernel.{arguments_code, vars_code, zero_index, begin_code, straight_code, turns_code, scalar_code}
+use Rattle.scalar_emit.specs.Kernel.{arguments_code, vars_code, zero_index, begin_code, straight_code, for_loop_code, scalar_code}
 use Rattle.kernel_scope.specs.Scopes.{lent_text}
 use Rattle.scalar_words.specs.View.{form_of, key_of, constants_of, looses_of, home_of, homes_of}
 use Rattle.scalar_emit.proofs.StmtRuns.{homes_block}
@@ -48,36 +48,36 @@ homes_back L old new s n b blk e is =
 
 -- ---- the code before the loop
 
-pub begin_is : (R : ℕ → ℕ) (k : Program) (L : Layout) (hs : Homes) (s : Scope) (first n m : ℕ) (ps : List Parameter) (vs : List Accumulator) (rest : List Entry) → L ≡ layout_of_kernel R k → hs ≡ param_homes 0 ps → s ≡ param_scope k → first ≡ length k.params → n ≡ m → ps ≡ k.params → vs ≡ k.vars → arguments_code 0 ps (vars_code L R hs s 0 first n vs (zero_index rest)) ≡ begin_code R k m rest
+pub begin_is : (R : ℕ → ℕ) (k : Program) (L : Layout) (hs : Homes) (s : Scope) (first n m : ℕ) (ps : List Parameter) (vs : List Accumulator) (rest : List DraftEntry) → L ≡ layout_of_kernel R k → hs ≡ param_homes 0 ps → s ≡ param_scope k → first ≡ length k.params → n ≡ m → ps ≡ k.params → vs ≡ k.vars → arguments_code 0 ps (vars_code L R hs s 0 first n vs (zero_index rest)) ≡ begin_code R k m rest
 begin_is R k L hs s first n m ps vs rest d e f g h i j = rw (d, e, f, g, h, i, j) refl
 
 -- ---- the loop and what follows it
 
-pub scalar_is : (R : ℕ → ℕ) (k : Program) (N L : Layout) (l : PlainLoop) (b n b2 n2 : ℕ) (rest : List Entry) → N ≡ loop_layout R k → L ≡ bare (loop_layout R k) → k.turns ≡ Some l → b ≡ loop_start k → b2 ≡ loop_end k → n2 ≡ n + 4 + block_labels (loop_index k) l.body → turn_code N (kernel_homes R k) (var_scope k) l b n (leave_code L (kernel_homes R k) (var_scope k) l b2 n2 k.answer rest) ≡ scalar_code R k n rest
+pub scalar_is : (R : ℕ → ℕ) (k : Program) (N L : Layout) (l : PlainLoop) (b n b2 n2 : ℕ) (rest : List DraftEntry) → N ≡ loop_layout R k → L ≡ bare (loop_layout R k) → k.for_loop ≡ Some l → b ≡ loop_start k → b2 ≡ loop_end k → n2 ≡ n + 4 + block_labels (loop_index k) l.body → iterations_code N (kernel_homes R k) (var_scope k) l b n (leave_code L (kernel_homes R k) (var_scope k) l b2 n2 k.answer rest) ≡ scalar_code R k n rest
 scalar_is R k N L l b n b2 n2 rest c d e f g h =
     let i : n2 ≡ n + 4 + block_labels (var_scope k).index l.body = h ∙ ap (λ j. n + 4 + block_labels j l.body) (sym (scope_index k)) in
-    rw (c, d, f, g, i) (ap (λ t. turns_code (loop_layout R k) (kernel_homes R k) (var_scope k) t (loop_start k) n (loop_end k) k.answer rest) (sym e))
+    rw (c, d, f, g, i) (ap (λ t. for_loop_code (loop_layout R k) (kernel_homes R k) (var_scope k) t (loop_start k) n (loop_end k) k.answer rest) (sym e))
 
 -- a kernel without a loop holds nothing
-none_left : (R : ℕ → ℕ) (k : Program) → k.turns ≡ None → layout_of_kernel R k ≡ bare (loop_layout R k)
-none_left R k e = ap (λ t. with_loose (layout_of_kernel R k) (after_loop (turns_loose (var_scope k) t k.answer))) (sym e)
+none_left : (R : ℕ → ℕ) (k : Program) → k.for_loop ≡ None → layout_of_kernel R k ≡ bare (loop_layout R k)
+none_left R k e = ap (λ t. with_loose (layout_of_kernel R k) (after_loop (for_loop_loose (var_scope k) t k.answer))) (sym e)
 
-pub straight_is : (R : ℕ → ℕ) (k : Program) (L : Layout) (b n : ℕ) (rest : List Entry) → L ≡ layout_of_kernel R k → k.turns ≡ None → b ≡ loop_start k → straight_code L (kernel_homes R k) (var_scope k) n b k.answer rest ≡ scalar_code R k n rest
+pub straight_is : (R : ℕ → ℕ) (k : Program) (L : Layout) (b n : ℕ) (rest : List DraftEntry) → L ≡ layout_of_kernel R k → k.for_loop ≡ None → b ≡ loop_start k → straight_code L (kernel_homes R k) (var_scope k) n b k.answer rest ≡ scalar_code R k n rest
 straight_is R k L b n rest d e f =
-    let z = ap turns_size e in
+    let z = ap for_loop_size e in
     let g : b ≡ loop_end k = omega (arith, f, z) in
     let h = d ∙ none_left R k e in
-    rw (h, g) (ap (λ t. turns_code (loop_layout R k) (kernel_homes R k) (var_scope k) t (loop_start k) n (loop_end k) k.answer rest) (sym e))
+    rw (h, g) (ap (λ t. for_loop_code (loop_layout R k) (kernel_homes R k) (var_scope k) t (loop_start k) n (loop_end k) k.answer rest) (sym e))
 
 -- ---- updates
 
-pub update_is : (L : Layout) (hs : Homes) (s : Scope) (b n : ℕ) (x : List ℕ) (op : BinaryOp) (want : Option Ty) (asked : Extent) (e : Term) (side : Side) (leaves : Bool) (d : ℕ) (rest : List Entry) → asked ≡ update_extent L.loose x op want → side ≡ right_side L hs s op asked want b e → leaves ≡ update_settles L.loose x op want → d ≡ register_at hs x
+pub update_is : (L : Layout) (hs : Homes) (s : Scope) (b n : ℕ) (x : List ℕ) (op : BinaryOp) (want : Option Ty) (asked : Extent) (e : Term) (side : Side) (leaves : Bool) (d : ℕ) (rest : List DraftEntry) → asked ≡ update_extent L.loose x op want → side ≡ right_side L hs s op asked want b e → leaves ≡ update_settles L.loose x op want → d ≡ register_at hs x
     → side_code (added_number op want e) (is_fused s op asked want e) (loose_code L hs s asked want b n e) (parts_code L hs s asked want b n e) (at_type want (λ t. operator_code side leaves op t d d rest) rest) ≡ update_code L hs s b n x op want e rest
 update_is L hs s b n x op want asked e side leaves d rest e1 e2 e3 e4 = rw (e2, e3, e4, e1) refl
 
 -- ---- numbers that are held
 
-pub number_step : (cs ds : List Number) (c : Number) (rest : List Entry) → cs ≡ c ∷ ds → key_code (key_of c.key) c.register.number (numbers_code (constants_of ds) rest) ≡ numbers_code (constants_of cs) rest
+pub number_step : (cs ds : List Number) (c : Number) (rest : List DraftEntry) → cs ≡ c ∷ ds → key_code (key_of c.key) c.register.number (numbers_code (constants_of ds) rest) ≡ numbers_code (constants_of cs) rest
 number_step cs ds c rest e = ap (λ (xs : List Number). numbers_code (constants_of xs) rest) (sym e)
 
 pub held_is : (R : ℕ → ℕ) (k : Program) (N M L : Layout) → N ≡ with_loose M (held_loosely k) → M ≡ with_constants L (held_numbers R k) → L ≡ layout_of_kernel R k → N ≡ loop_layout R k
@@ -91,15 +91,15 @@ bare_is R k L M N cs ls d left e none f =
 -- ---- names that are held loosely
 
 -- what is left of them from a place on
-here : (ls : List Held) (i : ℕ) (l : Held) → i < length ls → drop i ls ≡ get_or ls i l ∷ drop (i + 1) ls
+here : (ls : List LooseName) (i : ℕ) (l : LooseName) → i < length ls → drop i ls ≡ get_or ls i l ∷ drop (i + 1) ls
 here ls i l lt = drop-cons ls i l lt ∙ ap (λ n. get_or ls i l ∷ drop n ls) (sym (add-one i))
 
-pub enter_step : (r : ℕ) (hs : Homes) (ls : List Held) (i : ℕ) (l : Held) (d : ℕ) (rest : List Entry) → i < length ls → d ≡ register_at hs (lent_text (get_or ls i l).name) → word_code (enter_word r d (form_of (get_or ls i l).form)) (enter_code r hs (looses_of (drop (i + 1) ls)) rest) ≡ enter_code r hs (looses_of (drop i ls)) rest
+pub enter_step : (r : ℕ) (hs : Homes) (ls : List LooseName) (i : ℕ) (l : LooseName) (d : ℕ) (rest : List DraftEntry) → i < length ls → d ≡ register_at hs (lent_text (get_or ls i l).name) → word_code (enter_word r d (form_of (get_or ls i l).form)) (enter_code r hs (looses_of (drop (i + 1) ls)) rest) ≡ enter_code r hs (looses_of (drop i ls)) rest
 enter_step r hs ls i l d rest lt f =
     ap (λ q. word_code (enter_word r q (form_of (get_or ls i l).form)) (enter_code r hs (looses_of (drop (i + 1) ls)) rest)) f
-    ∙ ap (λ (xs : List Held). enter_code r hs (looses_of xs) rest) (sym (here ls i l lt))
+    ∙ ap (λ (xs : List LooseName). enter_code r hs (looses_of xs) rest) (sym (here ls i l lt))
 
-pub settle_step : (r : ℕ) (hs : Homes) (ls : List Held) (i : ℕ) (l : Held) (d : ℕ) (rest : List Entry) → i < length ls → d ≡ register_at hs (lent_text (get_or ls i l).name) → word_code (settle_form r d (form_of (get_or ls i l).form)) (settle_code r hs (looses_of (drop (i + 1) ls)) rest) ≡ settle_code r hs (looses_of (drop i ls)) rest
+pub settle_step : (r : ℕ) (hs : Homes) (ls : List LooseName) (i : ℕ) (l : LooseName) (d : ℕ) (rest : List DraftEntry) → i < length ls → d ≡ register_at hs (lent_text (get_or ls i l).name) → word_code (settle_form r d (form_of (get_or ls i l).form)) (settle_code r hs (looses_of (drop (i + 1) ls)) rest) ≡ settle_code r hs (looses_of (drop i ls)) rest
 settle_step r hs ls i l d rest lt f =
     ap (λ q. word_code (settle_form r q (form_of (get_or ls i l).form)) (settle_code r hs (looses_of (drop (i + 1) ls)) rest)) f
-    ∙ ap (λ (xs : List Held). settle_code r hs (looses_of xs) rest) (sym (here ls i l lt))
+    ∙ ap (λ (xs : List LooseName). settle_code r hs (looses_of xs) rest) (sym (here ls i l lt))

@@ -15,12 +15,12 @@ use Rattle.kernel_meaning.specs.Operators.{word}
 use Rattle.kernel_meaning.specs.Eval.{Names, value_at, byte_count}
 use Rattle.kernel_meaning.specs.Iterate.{assigned}
 use Rattle.kernel_meaning.proofs.Residues.{word-below}
-use Rattle.label_fix.specs.DraftRun.{Entry, Put, Laid, effect, word_of}
+use Rattle.label_fix.specs.DraftRun.{DraftEntry, Put, Laid, effect, word_of}
 use Rattle.label_fix.proofs.StretchSteps.{Goes, Resolves, stay, chain, put_goes}
 use Rattle.scalar_words.specs.Layout.{Form, LowBits, Ahead, Behind, Loose, loose_in, Layout, Homes, register_at, NameLasts}
 use Rattle.scalar_words.specs.Words.{word_code}
 use Rattle.scalar_words.specs.Safe.{Only}
-use Rattle.scalar_words.proofs.LayoutStates.{Assigned, AreSafe, Held, Tells, Told, name_held, name_found, wrote, wrote_same, wrote_shaped, changes_own}
+use Rattle.scalar_words.proofs.LayoutStates.{Assigned, AreSafe, AreInRegisters, Tells, Told, name_held, name_found, wrote, wrote_same, wrote_shaped, changes_own}
 use Rattle.scalar_words.proofs.Told.{tells_itself, told_at}
 use Rattle.scalar_words.proofs.Binary.{word-difference}
 use Rattle.scalar_words.proofs.WordsRuns.{Sets}
@@ -36,7 +36,7 @@ AreUnlike y [] = Unit {0}
 AreUnlike y (l ∷ ls) = (bytes_eq l.name y ≡ false) × AreUnlike y ls
 
 -- a word that writes an integer into a register
-pub wrote_sets : (D : Laid) {i : Listed} {rest : List Entry} {s : State} (d v : ℕ) (u : ℤ) → length s.x ≡ 31 → d ≤ 25 → effect i s ≡ Went (wrote s d v) → v ≡ word u → Sets D (Put i ∷ rest) s rest d u 1
+pub wrote_sets : (D : Laid) {i : Listed} {rest : List DraftEntry} {s : State} (d v : ℕ) (u : ℤ) → length s.x ≡ 31 → d ≤ 25 → effect i s ≡ Went (wrote s d v) → v ≡ word u → Sets D (Put i ∷ rest) s rest d u 1
 wrote_sets D {s = s} d v u sized hi does is = record {
   end = wrote s d v;
   goes = put_goes does;
@@ -61,7 +61,7 @@ entered_tells (Ahead t) n z v e = ap (λ y. y +ℤ pos (byte_count t * n)) e
 entered_tells Behind n z v e = ap (λ y. y -ℤ pos n) e
 
 module _ (D : Laid) where
-  enter_sets : (f : Form) (q r n : ℕ) (z : ℤ) {rest : List Entry} {s : State} → length s.x ≡ 31 → q ≤ 25 → n < 2 ^ 64 → x_at s q ≡ word z → x_at s r ≡ n → Sets D (word_code (enter_word r q f) rest) s rest q (entered f n z) (entering_words f)
+  enter_sets : (f : Form) (q r n : ℕ) (z : ℤ) {rest : List DraftEntry} {s : State} → length s.x ≡ 31 → q ≤ 25 → n < 2 ^ 64 → x_at s q ≡ word z → x_at s r ≡ n → Sets D (word_code (enter_word r q f) rest) s rest q (entered f n z) (entering_words f)
   enter_sets (LowBits t) q r n z {s = s} sized hi small ez en = record { end = s; goes = stay 0; changes = record { memory = refl; sized = refl; frame = refl; others = λ r le ne. refl }; value = ez; shaped = λ h. h }
   enter_sets (Ahead t) q r n z {s = s} sized hi small ez en =
       wrote_sets D {i = word_of add (q ∷ q ∷ element_shift t ∷ r ∷ 0 ∷ [])} q (sum (x_at s q) (shifted_word 0 (x_at s r) (element_shift t))) (z +ℤ pos (byte_count t * n)) sized hi refl
@@ -72,12 +72,12 @@ module _ (D : Laid) where
       wrote_sets D {i = word_of sub (q ∷ q ∷ 0 ∷ r ∷ 0 ∷ [])} q (difference (x_at s q) (shifted_word 0 (x_at s r) 0)) (z -ℤ pos n) sized hi refl
       (ap₂ (λ a b. difference a (shifted_word 0 b 0)) ez en ∙ ap (difference (word z)) (plain ∙ sym low) ∙ sym (word-difference z (pos n)))
 
-  pub enter_back : (r : ℕ) (hs : Homes) (ls : List Loose) (rest : List Entry) → Resolves D (enter_code r hs ls rest) → Resolves D rest
+  pub enter_back : (r : ℕ) (hs : Homes) (ls : List Loose) (rest : List DraftEntry) → Resolves D (enter_code r hs ls rest) → Resolves D rest
   enter_back r hs [] rest h = h
   enter_back r hs (l ∷ ls) rest h = enter_back r hs ls rest (word_back D (enter_word r (register_at hs l.name) l.form) _ h)
 
 -- what stands in the registers while iterations last
-pub record Enters (D : Laid) (c : List Entry) (s : State) (rest : List Entry) (hs : Homes) (ls : List Loose) (ns : Names) (p r n most : ℕ) : Type 0 where
+pub record Enters (D : Laid) (c : List DraftEntry) (s : State) (rest : List DraftEntry) (hs : Homes) (ls : List Loose) (ns : Names) (p r n most : ℕ) : Type 0 where
   pub end : State
   pub goes : Goes D c s rest end most
   pub memory : end.memory ≡ s.memory
@@ -85,7 +85,7 @@ pub record Enters (D : Laid) (c : List Entry) (s : State) (rest : List Entry) (h
   pub bound : x_at end r ≡ n
   pub stand : Names
   pub told : Told ls n stand ns
-  pub held : Held hs stand p end
+  pub held : AreInRegisters hs stand p end
 
 module _ (D : Laid) (L : Layout) (fit : Assigned L) (hs : Homes) (sc : Scope) (p : ℕ) (safe : AreSafe L p hs) (y : List ℕ) (r n : ℕ) (lasts : NameLasts hs y p) (same : register_at hs y ≡ r) (small : n < 2 ^ 64) where
   bound_high : r ≤ 25
@@ -95,7 +95,7 @@ module _ (D : Laid) (L : Layout) (fit : Assigned L) (hs : Homes) (sc : Scope) (p
   pub bound_apart : (x : List ℕ) → bytes_eq x y ≡ false → Only hs x (register_at hs x) p → r ≢ register_at hs x
   bound_apart x ne only = λ e. only_apart hs x y (register_at hs x) p (bytes_swap x y ne) only lasts (same ∙ e)
 
-  pub enter_runs : (ls done : List Loose) (rest : List Entry) (zs ns : Names) (s : State) → length s.x ≡ 31 → AreHeldLoosely hs sc p ls → AreUnlike y ls → AreOnce (done ++ ls) → x_at s r ≡ n → Told done n zs ns → Held hs zs p s → Enters D (enter_code r hs ls rest) s rest hs (done ++ ls) ns p r n (all_entering ls)
+  pub enter_runs : (ls done : List Loose) (rest : List DraftEntry) (zs ns : Names) (s : State) → length s.x ≡ 31 → AreHeldLoosely hs sc p ls → AreUnlike y ls → AreOnce (done ++ ls) → x_at s r ≡ n → Told done n zs ns → AreInRegisters hs zs p s → Enters D (enter_code r hs ls rest) s rest hs (done ++ ls) ns p r n (all_entering ls)
   enter_runs [] done rest zs ns s sized are unlike once bound told held = record { end = s; goes = stay 0; memory = refl; sized = refl; bound = bound; stand = zs; told = subst (λ ds. Told ds n zs ns) (sym (append-nil done)) told; held = held }
   enter_runs (l ∷ ls) done rest zs ns s sized are unlike once bound told held =
       let one = are.0 in

@@ -43,7 +43,7 @@ worked = record {
   name = x;
   params = record { name = a; shape = shape.Array ty.I8 } ∷ record { name = n; shape = shape.Scalar ty.U64 } ∷ [];
   vars = [];
-  turns = Some (record { index = i; bound = n; body = body });
+  for_loop = Some (record { index = i; bound = n; body = body });
   answer = None;
 }
 
@@ -106,7 +106,7 @@ bright = record {
   name = x;
   params = record { name = a; shape = shape.Array ty.U8 } ∷ record { name = n; shape = shape.Scalar ty.U64 } ∷ [];
   vars = [];
-  turns = Some (record { index = i; bound = n; body = bright-body });
+  for_loop = Some (record { index = i; bound = n; body = bright-body });
   answer = None;
 }
 
@@ -147,7 +147,7 @@ lits = record {
   name = n;
   params = record { name = a; shape = shape.Array ty.U32 } ∷ record { name = x; shape = shape.Array ty.U32 } ∷ record { name = n; shape = shape.Scalar ty.U64 } ∷ [];
   vars = [];
-  turns = Some (record {
+  for_loop = Some (record {
     index = i;
     bound = n;
     body = Then (Put a (Variable i) (Operation binary.Add (Operation binary.Add (Operation binary.Mul (Element x (Variable i)) (Literal (pos 1000003))) (Literal (pos 123456789))) (Literal (pos 1000003)))) Done;
@@ -173,7 +173,7 @@ spread = record {
   name = x;
   params = record { name = a; shape = shape.Array ty.U8 } ∷ record { name = n; shape = shape.Scalar ty.U64 } ∷ [];
   vars = [];
-  turns = Some (record { index = i; bound = n; body = Then (Put a (Operation binary.Add (Variable i) (Literal (pos 1))) (Element a (Variable i))) Done });
+  for_loop = Some (record { index = i; bound = n; body = Then (Put a (Operation binary.Add (Variable i) (Literal (pos 1))) (Element a (Variable i))) Done });
   answer = None;
 }
 

@@ -22,7 +22,7 @@ use Rattle.scalar_emit.specs.Statements.{let_home, defined_homes, after_homes, F
 use Rattle.scalar_words.proofs.AssignedOf.{counted-low}
 use Rattle.scalar_values.proofs.FitsOf.{some_of, no_untyped, no_offset, Sits, drop_head, AreUsed, untils, untils_on, value_fits, truth_fits}
 use Rattle.scalar_emit.proofs.LooseHomes.{var_lasts}
-use Rattle.scalar_words.proofs.NameHomes.{Spread, LetHome, AreHomes, homes_later, homes_on, is_at, name_lasts, array_lasts, is_var, only_of}
+use Rattle.scalar_words.proofs.NameHomes.{AccumulatorRegisters, LetHome, AreHomes, homes_later, homes_on, is_at, name_lasts, array_lasts, is_var, only_of}
 use Rattle.kernel_tree.specs.declared.fault.Binding.TheVariants as binding
 
 used_on : (hs : Homes) (i : Option (List ℕ)) (xs ys : List Entry) → AreUsed hs i xs → AreUsed hs i ys → AreUsed hs i (xs ++ ys)
@@ -265,7 +265,7 @@ module _ (k : Program) (R : ℕ → ℕ) (L : Layout) (all : List Entry) where
     indexed = indexed;
   }
 
-  module _ (few : length k.params ≤ 8) (spread : Spread R L (length k.vars)) where
+  module _ (few : length k.params ≤ 8) (accumulators : AccumulatorRegisters R L (length k.vars)) where
     update_fits : (v : List Local) (tk : List (List ℕ)) (ins : Bool) (hs : Homes) (b : ℕ) (rest : List ℕ) (x : List ℕ) (e : Term) → AreHomes k R L all b 0 v hs → IsIndexed ins hs
         → faults (scope v tk ins) b (Value (option_and_then accumulator_type (lookup (scope v tk ins) x))) e ≡ [] → IsKind accumulator_type (lookup (scope v tk ins) x) → Sits L.untils b (untils all (term_entries k b (b + term_size i e) e) rest) → AreUsesCounted all (term_entries k b (b + term_size i e) e) → (op : _) → FitsAction L hs (scope v tk ins) b (Update x op e)
     update_fits v tk ins hs b rest x e are indexed f kind h c op =
@@ -273,10 +273,10 @@ module _ (k : Program) (R : ℕ → ℕ) (L : Layout) (all : List Entry) where
         let q = b + term_size i e in
         let w : option_and_then accumulator_type (lookup S x) ≡ Some kind.type = ap (option_and_then accumulator_type) kind.known ∙ kind.kind in
         let r = wanted_stands v tk ins hs b are indexed e (option_and_then accumulator_type (lookup S x)) kind.type b q rest w f h c in
-        let n = is_var k R L all few spread b 0 v hs x kind.type are w in
+        let n = is_var k R L all few accumulators b 0 v hs x kind.type are w in
         let reg = n.register' in
         let at = is_at k R L all b 0 v hs x kind.bd are kind.known in
-        (r.0, r.1, var_lasts k R L all hs b q x kind.bd kind.type kind.kind at, (let l = counted-low (R n.number) in omega (arith, l, reg)), only_of k R L all few spread b 0 (q + 1) v hs x kind.type are (omega arith) (register_at hs x) w refl)
+        (r.0, r.1, var_lasts k R L all hs b q x kind.bd kind.type kind.kind at, (let l = counted-low (R n.number) in omega (arith, l, reg)), only_of k R L all few accumulators b 0 (q + 1) v hs x kind.type are (omega arith) (register_at hs x) w refl)
 
     mutual
       pub action_fits : (a : Action) (v : List Local) (tk : List (List ℕ)) (ins : Bool) (hs : Homes) (b : ℕ) (rest : List ℕ) → AreHomes k R L all b 0 v hs → IsIndexed ins hs → ins ≡ true → action_faults (scope v tk ins) b a ≡ [] → Sits L.untils b (untils all (action_entries k b a) rest) → AreUsesCounted all (action_entries k b a) → FitsAction L hs (scope v tk ins) b a

@@ -39,7 +39,7 @@ total = record {
   name = s;
   params = record { name = a; shape = shape.Array ty.U8 } ∷ record { name = n; shape = shape.Scalar ty.U64 } ∷ [];
   vars = record { name = s; type = ty.U64; init = Literal (pos 0) } ∷ [];
-  turns = Some adding;
+  for_loop = Some adding;
   answer = Some (record { type = ty.U64; value = Variable s });
 }
 
@@ -73,7 +73,7 @@ seven = record {
   name = s;
   params = [];
   vars = record { name = s; type = ty.U64; init = Literal (pos 7) } ∷ [];
-  turns = None;
+  for_loop = None;
   answer = Some (record { type = ty.U64; value = Variable s });
 }
 

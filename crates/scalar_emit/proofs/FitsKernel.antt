@@ -5,30 +5,30 @@ use Rattle.std.specs.List.{find}
 use Rattle.std.proofs.lemmas.Option.{slice_get_within}
 use Rattle.kernel_tree.specs.declared.ops.Ty.TheVariants.{U64}
 use Rattle.kernel_tree.specs.Plain.{Accumulator, PlainLoop, Returned, Program}
-use Rattle.kernel_tree.specs.Items.{term_size, block_size, vars_size, turns_size, index_of, loop_index, loop_start, loop_end}
-use Rattle.kernel_tree.specs.Typing.{Local, local, Value, lookup, insert_name, in_loop, after_turns, faults, twice, vars_faults, bound_faults, turns_faults, answer_faults, param_scope, var_scope, check_fault}
+use Rattle.kernel_tree.specs.Items.{term_size, block_size, vars_size, for_loop_size, index_of, loop_index, loop_start, loop_end}
+use Rattle.kernel_tree.specs.Typing.{Local, local, Value, lookup, insert_name, in_loop, after_for_loop, faults, twice, vars_faults, bound_faults, for_loop_faults, answer_faults, param_scope, var_scope, check_fault}
 use Rattle.kernel_tree.specs.Scopes.{locals_of, accs_of}
-use Rattle.kernel_tree.proofs.Faultless.{nil-left, nil-right, vars_faultless, turns_faultless, answer_faultless}
+use Rattle.kernel_tree.proofs.Faultless.{nil-left, nil-right, vars_faultless, for_loop_faultless, answer_faultless}
 use Rattle.kernel_tree.proofs.NoFault.{bound_known}
 use Rattle.kernel_tree.proofs.Names.{bytes_same, index_alone}
-use Rattle.loop_form.specs.Entries.{Entry, term_entries, params_entries, vars_entries, turns_entries, answer_entries, loop_entries, entries_of}
+use Rattle.loop_form.specs.Entries.{Entry, term_entries, params_entries, vars_entries, for_loop_entries, answer_entries, loop_entries, entries_of}
 use Rattle.loop_form.proofs.Numbers.{params-listed, vars-listed, term-listed, loop-listed}
 use Rattle.loop_form.proofs.NameUses.{AreUsesCounted, counted_left, counted_right, all_counted}
 use Rattle.scalar_words.specs.Layout.{Layout, Home, Homes, with_constants, with_loose, is_home, register_of, LastsAt, NameLasts}
 use Rattle.scalar_values.specs.Fits.{IndexAt}
-use Rattle.scalar_emit.specs.Loosening.{covers_block, after_loop, covers_answer, turns_loose, held_loosely}
+use Rattle.scalar_emit.specs.Loosening.{covers_block, after_loop, covers_answer, for_loop_loose, held_loosely}
 use Rattle.scalar_emit.specs.LoopNumbers.{held_numbers, loop_layout, coded_block}
 use Rattle.scalar_emit.proofs.LooseBlocks.{loop_covered, loop_answered, loop_formed, loop_once}
 use Rattle.scalar_values.specs.HeldNumbers.{loading_words}
 use Rattle.kernel_tree.proofs.Scopes.{scope_index}
 use Rattle.scalar_emit.specs.Loop.{index_home, with_index, bare, NoHome, moving_words, AreHeldLoosely, FitsAnswer, FitsLoop}
-use Rattle.scalar_emit.proofs.HoldBlocks.{numbers_next, numbers_few, spread_with, kernel_clear}
+use Rattle.scalar_emit.proofs.HoldBlocks.{numbers_next, numbers_few, accumulators_with, kernel_clear}
 use Rattle.scalar_words.specs.KernelRegisters.{counted_x, x_last_use, layout_of_kernel, param_homes, var_home, var_homes, kernel_homes, AreChosen}
 use Rattle.scalar_emit.specs.Kernel.{FitsVars}
 use Rattle.scalar_emit.specs.KernelFits.{AreSafeVars, KernelFits}
-use Rattle.scalar_words.proofs.SpreadOf.{spread_of}
+use Rattle.scalar_words.proofs.AccumulatorRegisters.{accumulator_registers}
 use Rattle.scalar_values.proofs.FitsOf.{Sits, untils}
-use Rattle.scalar_words.proofs.NameHomes.{Spread, numbers, AreHomes, homes_later, homes_on, is_at, register_is, others_new, are_safe}
+use Rattle.scalar_words.proofs.NameHomes.{AccumulatorRegisters, numbers, AreHomes, homes_later, homes_on, is_at, register_is, others_new, are_safe}
 use Rattle.scalar_emit.proofs.FitsBlocks.{sits_first, sits_second, sits_next, IsIndexed, value_stands, block_fits}
 use Rattle.scalar_emit.proofs.LooseHomes.{no_home-append, no_param_home, no_var_home, AreNamed, held_loose, loop_named, loop_distinct}
 use Rattle.scalar_words.proofs.KernelNames.{names_fit, scope_at, param_scope_is, var_scope_is, others-append, params_nine, vars_nine, numbers_on, numbers_params, first_are, kernel_are}
@@ -36,7 +36,7 @@ use Rattle.kernel_tree.specs.declared.fault.Binding.TheVariants as binding
 
 -- ---- the loop variable's name is no other's
 
-index_homeless : (R : ℕ → ℕ) (k : Program) (l : PlainLoop) → check_fault k ≡ None → k.turns ≡ Some l → NoHome l.index (kernel_homes R k)
+index_homeless : (R : ℕ → ℕ) (k : Program) (l : PlainLoop) → check_fault k ≡ None → k.for_loop ≡ Some l → NoHome l.index (kernel_homes R k)
 index_homeless R k l e loop =
     let alone = index_alone k l e loop in
     no_home-append l.index (param_homes 0 k.params) (var_homes R 0 k.vars) (no_param_home l.index 0 k.params alone.params) (no_var_home l.index R 0 k.vars alone.vars)
@@ -85,14 +85,14 @@ module _ (R : ℕ → ℕ) (k : Program) (L : Layout) (all : List Entry) where
         vars_fit vs (v ++ local a.name (binding.Accumulator a.type) ∷ []) (insert_name tk a.name) (hs ++ var_home R j a ∷ []) (j + 1) (q + 1) rest (one_more (q + 1) j v hs a (homes_later k R L all b (q + 1) 0 v hs (omega arith) are) n (omega (arith, le))) (one_number j v a n) (omega (arith, le)) f2 h2 (counted_right all es _ c).1,
       )
 
-  module _ (few : length k.params ≤ 8) (spread : Spread R L (length k.vars)) where
+  module _ (few : length k.params ≤ 8) (accumulators : AccumulatorRegisters R L (length k.vars)) where
     vars_safe : (vs : List Accumulator) (v : List Local) (tk : List (List ℕ)) (hs : Homes) (j b : ℕ) → AreHomes k R L all b 0 v hs → numbers 0 v ≡ j → j + length vs ≤ length k.vars → AreSafeVars L R hs (scope_at k v tk false) j b vs
-    vars_safe [] v tk hs j b are n le = are_safe k R L all few spread b 0 b v hs are (omega arith)
+    vars_safe [] v tk hs j b are n le = are_safe k R L all few accumulators b 0 b v hs are (omega arith)
     vars_safe (a ∷ vs) v tk hs j b are n le =
         let q = b + term_size (loop_index k) a.init in
         let later = homes_later k R L all b (q + 1) 0 v hs (omega arith) are in (
-          are_safe k R L all few spread b 0 b v hs are (omega arith),
-          others_new k R L all few spread (q + 1) 0 j (q + 1) v hs later (omega (arith, n)) (omega arith) (omega (arith, le)),
+          are_safe k R L all few accumulators b 0 b v hs are (omega arith),
+          others_new k R L all few accumulators (q + 1) 0 j (q + 1) v hs later (omega (arith, n)) (omega arith) (omega (arith, le)),
           vars_safe vs (v ++ local a.name (binding.Accumulator a.type) ∷ []) (insert_name tk a.name) (hs ++ var_home R j a ∷ []) (j + 1) (q + 1) (one_more (q + 1) j v hs a later n (omega (arith, le))) (one_number j v a n) (omega (arith, le)),
         )
 
@@ -110,14 +110,14 @@ abbrev IndexLasts : Homes → Option (List ℕ) → ℕ → Type 0
 IndexLasts hs None p = Unit {0}
 IndexLasts hs (Some x) p = NameLasts hs x p
 
-module _ (R : ℕ → ℕ) (k : Program) (L : Layout) (all : List Entry) (few : length k.params ≤ 8) (spread : Spread R L (length k.vars)) where
-  loop_fits : (l : PlainLoop) (tk : List (List ℕ)) (b b2 : ℕ) (rest : List ℕ) → AreNamed (with_index (kernel_homes R k) l) → k.turns ≡ Some l → held_loosely k ≡ turns_loose (scope_at k (locals_of k.params ++ accs_of k.vars) tk false) (Some l) k.answer → loop_index k ≡ Some l.index → NoHome l.index (kernel_homes R k) → b ≤ b2 → turns_faults (scope_at k (locals_of k.params ++ accs_of k.vars) tk false) b (Some l) ≡ [] → answer_faults (after_turns (scope_at k (locals_of k.params ++ accs_of k.vars) tk false) (Some l)) b2 k.answer ≡ []
-      → Sits L.untils b (untils all (turns_entries k b (Some l)) rest) → AreUsesCounted all (turns_entries k b (Some l)) → Sits L.untils b2 (untils all (answer_entries k b2 k.answer) []) → AreUsesCounted all (answer_entries k b2 k.answer)
+module _ (R : ℕ → ℕ) (k : Program) (L : Layout) (all : List Entry) (few : length k.params ≤ 8) (accumulators : AccumulatorRegisters R L (length k.vars)) where
+  loop_fits : (l : PlainLoop) (tk : List (List ℕ)) (b b2 : ℕ) (rest : List ℕ) → AreNamed (with_index (kernel_homes R k) l) → k.for_loop ≡ Some l → held_loosely k ≡ for_loop_loose (scope_at k (locals_of k.params ++ accs_of k.vars) tk false) (Some l) k.answer → loop_index k ≡ Some l.index → NoHome l.index (kernel_homes R k) → b ≤ b2 → for_loop_faults (scope_at k (locals_of k.params ++ accs_of k.vars) tk false) b (Some l) ≡ [] → answer_faults (after_for_loop (scope_at k (locals_of k.params ++ accs_of k.vars) tk false) (Some l)) b2 k.answer ≡ []
+      → Sits L.untils b (untils all (for_loop_entries k b (Some l)) rest) → AreUsesCounted all (for_loop_entries k b (Some l)) → Sits L.untils b2 (untils all (answer_entries k b2 k.answer) []) → AreUsesCounted all (answer_entries k b2 k.answer)
       → FitsLoop (with_loose (with_constants L (held_numbers R k)) (held_loosely k)) (kernel_homes R k) (scope_at k (locals_of k.params ++ accs_of k.vars) tk false) l b b2 k.answer
-  loop_fits l tk b b2 rest named turns loose ix alone le f fa h c ha ca =
+  loop_fits l tk b b2 rest named for_loop loose ix alone le f fa h c ha ca =
       let N = with_loose (with_constants L (held_numbers R k)) (held_loosely k) in
       let p = length k.params in
-      let inner : Spread R N (length k.vars) = spread_with R L (length k.vars) p (held_numbers R k) (held_loosely k) (numbers_next R k) spread in
+      let inner : AccumulatorRegisters R N (length k.vars) = accumulators_with R L (length k.vars) p (held_numbers R k) (held_loosely k) (numbers_next R k) accumulators in
       let v = locals_of k.params ++ accs_of k.vars in
       let hs = kernel_homes R k in
       let S = scope_at k v tk false in
@@ -141,12 +141,12 @@ module _ (R : ℕ → ℕ) (k : Program) (L : Layout) (all : List Entry) (few : 
         params = p;
         next = numbers_next R k;
         clear = kernel_clear R k;
-        few = subst (λ i. moving_words (held_loosely k) + loading_words (held_numbers R k) + coded_block (held_numbers R k) i l.body ≤ 4 * block_size i l.body) (scope_index k) (numbers_few R k l turns);
+        few = subst (λ i. moving_words (held_loosely k) + loading_words (held_numbers R k) + coded_block (held_numbers R k) i l.body ≤ 4 * block_size i l.body) (scope_index k) (numbers_few R k l for_loop);
         covered = subst (λ ls. covers_block ls (in_loop S l) l.body ≡ true) (sym loose) (loop_covered l S k.answer ix);
         loosely = subst (AreHeldLoosely (with_index hs l) (in_loop S l) b) (sym loose)
-            (held_loose k R N all (with_index hs l) (in_loop S l) b outside (λ x e. subst (λ o. IndexLasts (with_index hs l) o b) (sym ix ∙ e) (index_at l.index hs b alone).1) named (loop_distinct R k N l few inner) (turns_loose S (Some l) k.answer) (loop_formed l S k.answer ix) (loop_once l S k.answer ix));
-        answer_covered = subst (λ ls. covers_answer (after_loop ls) (after_turns S (Some l)) k.answer ≡ true) (sym loose) (loop_answered l S k.answer ix);
-        answered = answer_fits R k (bare N) all few (spread_with R N (length k.vars) p [] (after_loop (held_loosely k)) tt inner) k.answer (v ++ local l.index binding.Index ∷ []) (insert_name tk l.index) (with_index hs l) b2 (are b2) fa ha ca;
+            (held_loose k R N all (with_index hs l) (in_loop S l) b outside (λ x e. subst (λ o. IndexLasts (with_index hs l) o b) (sym ix ∙ e) (index_at l.index hs b alone).1) named (loop_distinct R k N l few inner) (for_loop_loose S (Some l) k.answer) (loop_formed l S k.answer ix) (loop_once l S k.answer ix));
+        answer_covered = subst (λ ls. covers_answer (after_loop ls) (after_for_loop S (Some l)) k.answer ≡ true) (sym loose) (loop_answered l S k.answer ix);
+        answered = answer_fits R k (bare N) all few (accumulators_with R N (length k.vars) p [] (after_loop (held_loosely k)) tt inner) k.answer (v ++ local l.index binding.Index ∷ []) (insert_name tk l.index) (with_index hs l) b2 (are b2) fa ha ca;
         following = le;
       }
     where
@@ -184,7 +184,7 @@ module _ (R : ℕ → ℕ) (k : Program) (checked : check_fault k ≡ None) (few
   at_loop = sits_second all us vs (ls ++ xs) (length k.params) (loop_start k) (vars_size (loop_index k) k.vars) [] (vars-listed k (length k.params) k.vars).count refl at_vars
 
   at_answer : Sits us (loop_end k) (untils all xs [])
-  at_answer = sits_second all us ls xs (loop_start k) (loop_end k) (turns_size k.turns) [] (loop-listed k).count refl at_loop
+  at_answer = sits_second all us ls xs (loop_start k) (loop_end k) (for_loop_size k.for_loop) [] (loop-listed k).count refl at_loop
 
   counted_vars : AreUsesCounted all (vs ++ (ls ++ xs))
   counted_vars = counted_right all ps _ (all_counted all)
@@ -192,8 +192,8 @@ module _ (R : ℕ → ℕ) (k : Program) (checked : check_fault k ≡ None) (few
   counted_loop : AreUsesCounted all (ls ++ xs)
   counted_loop = counted_right all vs _ counted_vars
 
-  spread : Spread R (layout_of_kernel R k) (length k.vars)
-  spread = spread_of R k c
+  accumulators : AccumulatorRegisters R (layout_of_kernel R k) (length k.vars)
+  accumulators = accumulator_registers R k c
 
   vars_fits : FitsVars L R (param_homes 0 k.params) (param_scope k) 0 (length k.params) k.vars
   vars_fits =
@@ -205,35 +205,35 @@ module _ (R : ℕ → ℕ) (k : Program) (checked : check_fault k ≡ None) (few
   vars_are_safe : AreSafeVars L R (param_homes 0 k.params) (param_scope k) 0 (length k.params) k.vars
   vars_are_safe =
       subst (λ s. AreSafeVars L R (param_homes 0 k.params) s 0 (length k.params) k.vars) (sym (param_scope_is k))
-      (vars_safe R k L all few spread k.vars (locals_of k.params) (param_scope k).taken (param_homes 0 k.params) 0 (length k.params) (first_are R k L all (length k.params)) (numbers_params 0 k.params) (omega arith))
+      (vars_safe R k L all few accumulators k.vars (locals_of k.params) (param_scope k).taken (param_homes 0 k.params) 0 (length k.params) (first_are R k L all (length k.params)) (numbers_params 0 k.params) (omega arith))
 
-  turns_fit : (l : PlainLoop) → k.turns ≡ Some l → FitsLoop (loop_layout R k) (kernel_homes R k) (var_scope k) l (loop_start k) (loop_end k) k.answer
-  turns_fit l e =
+  for_loop_fits : (l : PlainLoop) → k.for_loop ≡ Some l → FitsLoop (loop_layout R k) (kernel_homes R k) (var_scope k) l (loop_start k) (loop_end k) k.answer
+  for_loop_fits l e =
       let s = var_scope_is k in
       let ix : loop_index k ≡ Some l.index = ap (option_map index_of) e in
-      let f0 : turns_faults (var_scope k) (loop_start k) (Some l) ≡ [] = turns_faultless k l checked e in
-      let a0 : answer_faults (after_turns (var_scope k) (Some l)) (loop_end k) k.answer ≡ [] = subst (λ o. answer_faults (after_turns (var_scope k) o) (loop_end k) k.answer ≡ []) e (answer_faultless k checked) in
-      let h : Sits us (loop_start k) (untils all (turns_entries k (loop_start k) (Some l)) (untils all xs [])) = subst (λ o. Sits us (loop_start k) (untils all (turns_entries k (loop_start k) o) (untils all xs []))) e (sits_first all us ls xs (loop_start k) [] at_loop) in
-      let u : AreUsesCounted all (turns_entries k (loop_start k) (Some l)) = subst (λ o. AreUsesCounted all (turns_entries k (loop_start k) o)) e (counted_left all ls xs counted_loop) in
+      let f0 : for_loop_faults (var_scope k) (loop_start k) (Some l) ≡ [] = for_loop_faultless k l checked e in
+      let a0 : answer_faults (after_for_loop (var_scope k) (Some l)) (loop_end k) k.answer ≡ [] = subst (λ o. answer_faults (after_for_loop (var_scope k) o) (loop_end k) k.answer ≡ []) e (answer_faultless k checked) in
+      let h : Sits us (loop_start k) (untils all (for_loop_entries k (loop_start k) (Some l)) (untils all xs [])) = subst (λ o. Sits us (loop_start k) (untils all (for_loop_entries k (loop_start k) o) (untils all xs []))) e (sits_first all us ls xs (loop_start k) [] at_loop) in
+      let u : AreUsesCounted all (for_loop_entries k (loop_start k) (Some l)) = subst (λ o. AreUsesCounted all (for_loop_entries k (loop_start k) o)) e (counted_left all ls xs counted_loop) in
       subst (λ s. FitsLoop (loop_layout R k) (kernel_homes R k) s l (loop_start k) (loop_end k) k.answer) (sym s)
-      (loop_fits R k L all few spread l (var_scope k).taken (loop_start k) (loop_end k) _ (loop_named R k l checked (index_homeless R k l checked e)) e (ap (λ o. turns_loose (var_scope k) o k.answer) e ∙ ap (λ s. turns_loose s (Some l) k.answer) s) ix (index_homeless R k l checked e) (omega arith) (subst (λ s. turns_faults s (loop_start k) (Some l) ≡ []) s f0) (subst (λ s. answer_faults (after_turns s (Some l)) (loop_end k) k.answer ≡ []) s a0) h u at_answer (counted_right all ls xs counted_loop))
+      (loop_fits R k L all few accumulators l (var_scope k).taken (loop_start k) (loop_end k) _ (loop_named R k l checked (index_homeless R k l checked e)) e (ap (λ o. for_loop_loose (var_scope k) o k.answer) e ∙ ap (λ s. for_loop_loose s (Some l) k.answer) s) ix (index_homeless R k l checked e) (omega arith) (subst (λ s. for_loop_faults s (loop_start k) (Some l) ≡ []) s f0) (subst (λ s. answer_faults (after_for_loop s (Some l)) (loop_end k) k.answer ≡ []) s a0) h u at_answer (counted_right all ls xs counted_loop))
 
-  straight_fit : k.turns ≡ None → FitsAnswer L (kernel_homes R k) (var_scope k) (loop_end k) k.answer
+  straight_fit : k.for_loop ≡ None → FitsAnswer L (kernel_homes R k) (var_scope k) (loop_end k) k.answer
   straight_fit e =
       let s = var_scope_is k in
-      let a0 : answer_faults (var_scope k) (loop_end k) k.answer ≡ [] = subst (λ o. answer_faults (after_turns (var_scope k) o) (loop_end k) k.answer ≡ []) e (answer_faultless k checked) in
+      let a0 : answer_faults (var_scope k) (loop_end k) k.answer ≡ [] = subst (λ o. answer_faults (after_for_loop (var_scope k) o) (loop_end k) k.answer ≡ []) e (answer_faultless k checked) in
       subst (λ s. FitsAnswer L (kernel_homes R k) s (loop_end k) k.answer) (sym s)
-      (answer_fits R k L all few spread k.answer (locals_of k.params ++ accs_of k.vars) (var_scope k).taken (kernel_homes R k) (loop_end k) (kernel_are R k L all (loop_end k)) (subst (λ s. answer_faults s (loop_end k) k.answer ≡ []) s a0) at_answer (counted_right all ls xs counted_loop))
+      (answer_fits R k L all few accumulators k.answer (locals_of k.params ++ accs_of k.vars) (var_scope k).taken (kernel_homes R k) (loop_end k) (kernel_are R k L all (loop_end k)) (subst (λ s. answer_faults s (loop_end k) k.answer ≡ []) s a0) at_answer (counted_right all ls xs counted_loop))
 
 -- Registers fit a checked kernel with at most eight parameters, whatever numbers register assignment gave.
 pub kernel_fits : (R : ℕ → ℕ) (k : Program) → check_fault k ≡ None → length k.params ≤ 8 → AreChosen R k → KernelFits R k
 kernel_fits R k checked few c = record {
-  assigned = (spread_of R k c).fit;
+  assigned = (accumulator_registers R k c).fit;
   vars = vars_fits R k checked few c;
   vars_safe = vars_are_safe R k checked few c;
   steady = (names_fit R k checked few c).steady;
   safe = (names_fit R k checked few c).safe;
-  looped = turns_fit R k checked few c;
+  looped = for_loop_fits R k checked few c;
   bound = (names_fit R k checked few c).bound;
   straight = straight_fit R k checked few c;
 }

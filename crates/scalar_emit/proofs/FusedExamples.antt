@@ -49,7 +49,7 @@ lcg = record {
   name = s;
   params = record { name = a; shape = shape.Array ty.U32 } ∷ record { name = n; shape = shape.Scalar ty.U64 } ∷ [];
   vars = record { name = s; type = ty.U32; init = Literal (pos 1) } ∷ [];
-  turns = Some (record {
+  for_loop = Some (record {
     index = i;
     bound = n;
     body = Then (Update s update.Add (Operation binary.Add (Operation binary.Mul (Variable s) (Literal (pos 1664524))) (Literal (pos 1013904223)))) (Then (Put a (Variable i) (Variable s)) Done);
@@ -111,7 +111,7 @@ sweep = record {
       record { name = a; shape = shape.Array ty.I16 } ∷ record { name = b; shape = shape.Array ty.U8 } ∷ record { name = y; shape = shape.Array ty.I32 } ∷ record { name = k; shape = shape.Scalar ty.I32 }
       ∷ record { name = n; shape = shape.Scalar ty.U64 } ∷ [];
   vars = record { name = s; type = ty.I64; init = Literal (pos 0) } ∷ record { name = m; type = ty.I32; init = Literal (pos 90) } ∷ [];
-  turns = Some (record { index = i; bound = n; body = sweep-body });
+  for_loop = Some (record { index = i; bound = n; body = sweep-body });
   answer = Some (record { type = ty.I64; value = Operation binary.Add (Variable s) (Conversion (Variable m) ty.I64) });
 }
 

@@ -10,11 +10,11 @@ use Rattle.scalar_words.specs.Layout.{Key, OfNumber, OfAddress, Constant, Loose,
 use Rattle.scalar_words.specs.KernelRegisters.{param_homes, var_homes, kernel_homes}
 use Rattle.scalar_words.proofs.AssignedOf.{counted-low}
 use Rattle.scalar_words.proofs.LayoutStates.{Assigned, AreSafe}
-use Rattle.scalar_words.proofs.NameHomes.{Spread}
+use Rattle.scalar_words.proofs.NameHomes.{AccumulatorRegisters}
 use Rattle.scalar_values.specs.HeldNumbers.{AreNext, addend_of, hold_term, key_words, loading_words}
 use Rattle.scalar_values.proofs.HoldTerms.{Within, Holds, holds_same, holds_on, IsFew, term_held, term_few, side_holds, side_is_few, element_held, element_few, next_low}
-use Rattle.scalar_emit.specs.LoopNumbers.{hold_action, hold_block, hold_otherwise, turns_numbers, held_numbers, coded_action, coded_block, coded_otherwise}
-use Rattle.scalar_emit.specs.Loosening.{turns_loose, held_loosely}
+use Rattle.scalar_emit.specs.LoopNumbers.{hold_action, hold_block, hold_otherwise, for_loop_numbers, held_numbers, coded_action, coded_block, coded_otherwise}
+use Rattle.scalar_emit.specs.Loosening.{for_loop_loose, held_loosely}
 use Rattle.scalar_emit.specs.Loop.{moving_words, AreClear}
 use Rattle.scalar_emit.proofs.LooseBlocks.{action_streams, block_streams, otherwise_streams, action_updates, block_updates, otherwise_updates, loop_few}
 
@@ -68,23 +68,23 @@ mutual
 
 -- ---- a kernel
 
-turns_next : (p : ℕ) (hs : Homes) (s : Scope) (o : Option PlainLoop) → AreNext p 0 (turns_numbers p hs s o)
-turns_next p hs s None = tt
-turns_next p hs s (Some l) = (block_held l.body p hs s []).next tt
+for_loop_next : (p : ℕ) (hs : Homes) (s : Scope) (o : Option PlainLoop) → AreNext p 0 (for_loop_numbers p hs s o)
+for_loop_next p hs s None = tt
+for_loop_next p hs s (Some l) = (block_held l.body p hs s []).next tt
 
 pub numbers_next : (R : ℕ → ℕ) (k : Program) → AreNext (length k.params) 0 (held_numbers R k)
-numbers_next R k = turns_next (length k.params) (kernel_homes R k) (var_scope k) k.turns
+numbers_next R k = for_loop_next (length k.params) (kernel_homes R k) (var_scope k) k.for_loop
 
-pub numbers_few : (R : ℕ → ℕ) (k : Program) (l : PlainLoop) → k.turns ≡ Some l → moving_words (held_loosely k) + loading_words (held_numbers R k) + coded_block (held_numbers R k) (var_scope k).index l.body ≤ 4 * block_size (var_scope k).index l.body
+pub numbers_few : (R : ℕ → ℕ) (k : Program) (l : PlainLoop) → k.for_loop ≡ Some l → moving_words (held_loosely k) + loading_words (held_numbers R k) + coded_block (held_numbers R k) (var_scope k).index l.body ≤ 4 * block_size (var_scope k).index l.body
 numbers_few R k l e =
     let p = length k.params in
     let hs = kernel_homes R k in
     let s = var_scope k in
-    let cs = turns_numbers p hs s (Some l) in
+    let cs = for_loop_numbers p hs s (Some l) in
     let f = block_few l.body p hs s [] cs (λ z q. q) in
     let n = loop_few l s k.answer (scope_index k ∙ ap (option_map index_of) e) in
-    subst (λ ds. moving_words (held_loosely k) + loading_words ds + coded_block ds (var_scope k).index l.body ≤ 4 * block_size (var_scope k).index l.body) (ap (turns_numbers p hs s) (sym e))
-    (subst (λ ls. moving_words ls + loading_words cs + coded_block cs (var_scope k).index l.body ≤ 4 * block_size (var_scope k).index l.body) (ap (λ o. turns_loose s o k.answer) (sym e)) (omega (arith, f, n)))
+    subst (λ ds. moving_words (held_loosely k) + loading_words ds + coded_block ds (var_scope k).index l.body ≤ 4 * block_size (var_scope k).index l.body) (ap (for_loop_numbers p hs s) (sym e))
+    (subst (λ ls. moving_words ls + loading_words cs + coded_block cs (var_scope k).index l.body ≤ 4 * block_size (var_scope k).index l.body) (ap (λ o. for_loop_loose s o k.answer) (sym e)) (omega (arith, f, n)))
 
 next_count : (p n : ℕ) (cs : List Constant) → n ≤ 9 → AreNext p n cs → length cs + n ≤ 9
 next_count p n [] le h = omega (arith, le)
@@ -111,8 +111,8 @@ pub safe_with : (L : Layout) (cs : List Constant) (ls : List Loose) (p : ℕ) (h
 safe_with L cs ls p [] h = tt
 safe_with L cs ls p (x ∷ hs) h = (record { high = h.0.high; apart = h.0.apart }, safe_with L cs ls p hs h.1)
 
-pub spread_with : (R : ℕ → ℕ) (L : Layout) (accs p : ℕ) (cs : List Constant) (ls : List Loose) → AreNext p 0 cs → Spread R L accs → Spread R (with_loose (with_constants L cs) ls) accs
-spread_with R L accs p cs ls next s = record { fit = assigned_with L p cs ls next s.fit; high = s.high; free = s.free; differ = s.differ }
+pub accumulators_with : (R : ℕ → ℕ) (L : Layout) (accs p : ℕ) (cs : List Constant) (ls : List Loose) → AreNext p 0 cs → AccumulatorRegisters R L accs → AccumulatorRegisters R (with_loose (with_constants L cs) ls) accs
+accumulators_with R L accs p cs ls next s = record { fit = assigned_with L p cs ls next s.fit; high = s.high; free = s.free; differ = s.differ }
 
 params_clear : (p n : ℕ) (ps : List Parameter) → n + length ps ≤ p → AreClear p (param_homes n ps)
 params_clear p n [] h = tt

@@ -6,8 +6,8 @@ use Rattle.std.specs.List.{find}
 use Rattle.std.proofs.lemmas.Bool.{and_from}
 use Rattle.kernel_tree.specs.declared.ops.Ty.{Ty}
 use Rattle.kernel_tree.specs.Plain.{Term, Literal, Variable, Element, Unary, Operation, Shift, Conversion, Choice, Comparison, Both, Either, Not, Action, Define, Put, Update, Choose, Leave, Block, Done, Then, Otherwise, Nothing, Else, PlainLoop, Returned, Program}
-use Rattle.kernel_tree.specs.Items.{action_size, block_size, otherwise_size, turns_size, size_of, stream_offset, index_of}
-use Rattle.kernel_tree.specs.Typing.{Scope, lookup, own, first, element_type, accumulator_type, index_type, in_loop, after_turns, var_scope, after_action, after_block, left}
+use Rattle.kernel_tree.specs.Items.{action_size, block_size, otherwise_size, for_loop_size, size_of, stream_offset, index_of}
+use Rattle.kernel_tree.specs.Typing.{Scope, lookup, own, first, element_type, accumulator_type, index_type, in_loop, after_for_loop, var_scope, after_action, after_block, left}
 use Rattle.kernel_tree.proofs.Names.{bytes_swap}
 use Rattle.kernel_tree.proofs.Scopes.{scope_index}
 use Rattle.kernel_meaning.specs.Operators.{operator_of}
@@ -20,7 +20,7 @@ use Rattle.scalar_values.specs.Covers.{is_whole, index_covers}
 use Rattle.scalar_values.proofs.CodedSizes.{element_moves, term_moves, moved_few}
 use Rattle.scalar_values.proofs.CoversNone.{covers_none, covers_truth_none}
 use Rattle.scalar_emit.specs.Statements.{update_extent}
-use Rattle.scalar_emit.specs.Loosening.{covers_action, covers_block, covers_otherwise, narrow_at, gained, loosened, loosen_action, loosen_block, loosen_otherwise, element_arrays, put_ahead, with_array, term_arrays, action_arrays, block_arrays, otherwise_arrays, moved_names, keep_ahead, after_loop, covers_answer, may_move, counted_down, turns_loose, held_loosely}
+use Rattle.scalar_emit.specs.Loosening.{covers_action, covers_block, covers_otherwise, narrow_at, gained, loosened, loosen_action, loosen_block, loosen_otherwise, element_arrays, put_ahead, with_array, term_arrays, action_arrays, block_arrays, otherwise_arrays, moved_names, keep_ahead, after_loop, covers_answer, may_move, counted_down, for_loop_loose, held_loosely}
 use Rattle.scalar_emit.specs.Loop.{IsFormed, form_words, moving_words}
 
 -- ---- no names that are held loosely
@@ -184,7 +184,7 @@ mutual
 -- what holds of the names of a loop
 record Stands (s : Scope) (l : PlainLoop) (answer : Option Returned) (ls : List Loose) (n : ℕ) : Type 0 where
   covered : covers_block ls (in_loop s l) l.body ≡ true
-  answered : covers_answer (after_loop ls) (after_turns s (Some l)) answer ≡ true
+  answered : covers_answer (after_loop ls) (after_for_loop s (Some l)) answer ≡ true
   formed : AreFormed (in_loop s l) ls
   once : AreNamedOnce ls
   few : moving_words ls ≤ n
@@ -201,9 +201,9 @@ right_true false b e = absurd cc
 down_step : (b : Bool) (s : Scope) (l : PlainLoop) (answer : Option Returned) (ls : List Loose) (n : ℕ) → may_move ls s l answer ≡ b → AreFormed (in_loop s l) ls → AreNamedOnce ls → moving_words ls ≤ n → length ls ≤ 1 + n → Stands s l answer (if b then ls else []) n
 down_step true s l answer ls n e formed once few count =
     let c = covers_block ls (in_loop s l) l.body in
-    let a = covers_answer (after_loop ls) (after_turns s (Some l)) answer in
+    let a = covers_answer (after_loop ls) (after_for_loop s (Some l)) answer in
     record { covered = left_true c a e; answered = right_true c a e; formed = formed; once = once; few = few; count = count }
-down_step false s l answer ls n e formed once few count = record { covered = block_none l.body (in_loop s l); answered = answer_none answer (after_turns s (Some l)); formed = tt; once = tt; few = omega arith; count = omega arith }
+down_step false s l answer ls n e formed once few count = record { covered = block_none l.body (in_loop s l); answered = answer_none answer (after_for_loop s (Some l)); formed = tt; once = tt; few = omega arith; count = omega arith }
 
 down_stands : (s : Scope) (l : PlainLoop) (answer : Option Returned) → s.index ≡ Some l.index → Stands s l answer (counted_down s l answer) (block_streams s.index l.body)
 down_stands s l answer e =
@@ -310,27 +310,27 @@ mutual
 
 -- ---- a kernel
 
-loop_loosens : (l : PlainLoop) (s : Scope) (answer : Option Returned) → Loosens (in_loop s l) l.body (counted_down s l answer) (turns_loose s (Some l) answer) (block_updates l.body)
+loop_loosens : (l : PlainLoop) (s : Scope) (answer : Option Returned) → Loosens (in_loop s l) l.body (counted_down s l answer) (for_loop_loose s (Some l) answer) (block_updates l.body)
 loop_loosens l s answer = block_loosens l.body (in_loop s l) l.body (counted_down s l answer)
 
-pub loop_covered : (l : PlainLoop) (s : Scope) (answer : Option Returned) → s.index ≡ Some l.index → covers_block (turns_loose s (Some l) answer) (in_loop s l) l.body ≡ true
+pub loop_covered : (l : PlainLoop) (s : Scope) (answer : Option Returned) → s.index ≡ Some l.index → covers_block (for_loop_loose s (Some l) answer) (in_loop s l) l.body ≡ true
 loop_covered l s answer e = (loop_loosens l s answer).covered (down_stands s l answer e).covered
 
-pub loop_answered : (l : PlainLoop) (s : Scope) (answer : Option Returned) → s.index ≡ Some l.index → covers_answer (after_loop (turns_loose s (Some l) answer)) (after_turns s (Some l)) answer ≡ true
-loop_answered l s answer e = ap (λ ls. covers_answer ls (after_turns s (Some l)) answer) (loop_loosens l s answer).after ∙ (down_stands s l answer e).answered
+pub loop_answered : (l : PlainLoop) (s : Scope) (answer : Option Returned) → s.index ≡ Some l.index → covers_answer (after_loop (for_loop_loose s (Some l) answer)) (after_for_loop s (Some l)) answer ≡ true
+loop_answered l s answer e = ap (λ ls. covers_answer ls (after_for_loop s (Some l)) answer) (loop_loosens l s answer).after ∙ (down_stands s l answer e).answered
 
-pub loop_formed : (l : PlainLoop) (s : Scope) (answer : Option Returned) → s.index ≡ Some l.index → AreFormed (in_loop s l) (turns_loose s (Some l) answer)
+pub loop_formed : (l : PlainLoop) (s : Scope) (answer : Option Returned) → s.index ≡ Some l.index → AreFormed (in_loop s l) (for_loop_loose s (Some l) answer)
 loop_formed l s answer e = (loop_loosens l s answer).adds.formed (down_stands s l answer e).formed
 
-pub loop_once : (l : PlainLoop) (s : Scope) (answer : Option Returned) → s.index ≡ Some l.index → AreNamedOnce (turns_loose s (Some l) answer)
+pub loop_once : (l : PlainLoop) (s : Scope) (answer : Option Returned) → s.index ≡ Some l.index → AreNamedOnce (for_loop_loose s (Some l) answer)
 loop_once l s answer e = (loop_loosens l s answer).adds.once (down_stands s l answer e).once
 
-pub loop_few : (l : PlainLoop) (s : Scope) (answer : Option Returned) → s.index ≡ Some l.index → moving_words (turns_loose s (Some l) answer) ≤ block_streams s.index l.body + block_updates l.body
+pub loop_few : (l : PlainLoop) (s : Scope) (answer : Option Returned) → s.index ≡ Some l.index → moving_words (for_loop_loose s (Some l) answer) ≤ block_streams s.index l.body + block_updates l.body
 loop_few l s answer e = let k = (loop_loosens l s answer).adds.few in let j = (down_stands s l answer e).few in omega (arith, k, j)
 
-turns_few : (s : Scope) (o : Option PlainLoop) (answer : Option Returned) → s.index ≡ option_map index_of o → length (turns_loose s o answer) ≤ 1 + 4 * turns_size o
-turns_few s None answer e = omega arith
-turns_few s (Some l) answer e =
+for_loop_few : (s : Scope) (o : Option PlainLoop) (answer : Option Returned) → s.index ≡ option_map index_of o → length (for_loop_loose s o answer) ≤ 1 + 4 * for_loop_size o
+for_loop_few s None answer e = omega arith
+for_loop_few s (Some l) answer e =
     let k = (loop_loosens l s answer).adds.count in
     let j = (down_stands s l answer e).count in
     let i = ap (λ x. block_streams x l.body) e in
@@ -338,4 +338,4 @@ turns_few s (Some l) answer e =
     omega (arith, k, j, i, h)
 
 pub few_loose : (k : Program) → length (held_loosely k) ≤ 1 + 4 * size_of k
-few_loose k = let f = turns_few (var_scope k) k.turns k.answer (scope_index k) in omega (arith, f)
+few_loose k = let f = for_loop_few (var_scope k) k.for_loop k.answer (scope_index k) in omega (arith, f)

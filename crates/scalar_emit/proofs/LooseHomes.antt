@@ -16,7 +16,7 @@ use Rattle.scalar_words.specs.KernelRegisters.{counted_x, param_homes, var_homes
 use Rattle.scalar_words.specs.Layout.{Form, LowBits, Ahead, Behind, Loose, Layout, Home, Homes, is_home, register_of, register_at, LastsAt, NameLasts}
 use Rattle.scalar_words.specs.Safe.{Others, OnlyIf, Only}
 use Rattle.scalar_words.proofs.AssignedOf.{counted-low}
-use Rattle.scalar_words.proofs.NameHomes.{Spread, AreHomes, IsAt, is_at, array_lasts}
+use Rattle.scalar_words.proofs.NameHomes.{AccumulatorRegisters, AreHomes, IsAt, is_at, array_lasts}
 use Rattle.scalar_emit.specs.Loop.{index_home, with_index, NoHome, IsOnce, IsFormed, AreHeldLoosely}
 use Rattle.scalar_emit.proofs.LooseBlocks.{AreFormed, AreNamedOnce}
 use Rattle.kernel_tree.specs.declared.fault.Binding.TheVariants as binding
@@ -129,10 +129,10 @@ var_registers : (R : ℕ → ℕ) (r j : ℕ) (vs : List Accumulator) → r < 10
 var_registers R r j [] lt = tt
 var_registers R r j (v ∷ vs) lt = ((λ e. absurd (let c = counted-low (R j) in omega (arith, c, e, lt))), var_registers R r (j + 1) vs lt)
 
-module _ (R : ℕ → ℕ) (L : Layout) (accs : ℕ) (spread : Spread R L accs) where
+module _ (R : ℕ → ℕ) (L : Layout) (accs : ℕ) (accumulators : AccumulatorRegisters R L accs) where
   number_apart : (i j : ℕ) (vs : List Accumulator) → i < j → j + length vs ≤ accs → NoRegister (counted_x (R i)) (var_homes R j vs)
   number_apart i j [] lt le = tt
-  number_apart i j (v ∷ vs) lt le = (spread.differ j i (omega (arith, le)) (omega (arith, lt, le)) (λ e. absurd (omega (arith, e, lt))), number_apart i (j + 1) vs (omega (arith, lt)) (omega (arith, le)))
+  number_apart i j (v ∷ vs) lt le = (accumulators.differ j i (omega (arith, le)) (omega (arith, lt, le)) (λ e. absurd (omega (arith, e, lt))), number_apart i (j + 1) vs (omega (arith, lt)) (omega (arith, le)))
 
   vars_distinct : (j : ℕ) (vs : List Accumulator) → j + length vs ≤ accs → AreDistinct (var_homes R j vs)
   vars_distinct j [] le = tt
@@ -209,7 +209,7 @@ module _ (k : Program) (R : ℕ → ℕ) (L : Layout) (all : List Entry) where
 pub loop_named : (R : ℕ → ℕ) (k : Program) (l : PlainLoop) → check_fault k ≡ None → NoHome l.index (kernel_homes R k) → AreNamed (with_index (kernel_homes R k) l)
 loop_named R k l e alone = named_last (kernel_homes R k) (index_home l.index) (kernel_named R k e) alone
 
-pub loop_distinct : (R : ℕ → ℕ) (k : Program) (L : Layout) (l : PlainLoop) → length k.params ≤ 8 → Spread R L (length k.vars) → AreDistinct (with_index (kernel_homes R k) l)
-loop_distinct R k L l few spread =
-    distinct_last (kernel_homes R k) (index_home l.index) (homes_distinct R L (length k.vars) spread 0 k.params k.vars (omega (arith, few)) (omega arith))
+pub loop_distinct : (R : ℕ → ℕ) (k : Program) (L : Layout) (l : PlainLoop) → length k.params ≤ 8 → AccumulatorRegisters R L (length k.vars) → AreDistinct (with_index (kernel_homes R k) l)
+loop_distinct R k L l few accumulators =
+    distinct_last (kernel_homes R k) (index_home l.index) (homes_distinct R L (length k.vars) accumulators 0 k.params k.vars (omega (arith, few)) (omega arith))
     (no_register-append 9 (param_homes 0 k.params) (var_homes R 0 k.vars) (param_registers 9 0 k.params (λ e. omega (arith, few))) (var_registers R 9 0 k.vars (omega arith)))

@@ -16,7 +16,7 @@ use Rattle.kernel_meaning.specs.Iterate.{named, assigned}
 use Rattle.kernel_meaning.specs.Ranges.{AreRanged}
 use Rattle.scalar_words.specs.Layout.{Form, LowBits, Ahead, Behind, Loose, loose_form, is_loose, loose_in, Home, Homes, is_home, register_of, register_at, Lasts, LastsAt, NameLasts}
 use Rattle.scalar_words.specs.Safe.{Others, OnlyIf, Only}
-use Rattle.scalar_words.proofs.LayoutStates.{Held, Tells, Told}
+use Rattle.scalar_words.proofs.LayoutStates.{AreInRegisters, Tells, Told}
 use Rattle.scalar_emit.specs.Loosening.{keep_ahead, after_loop}
 use Rattle.scalar_emit.specs.Loop.{NoHome, IsOnce, IsFormed, AreHeldLoosely, form_words, moving_words}
 
@@ -80,7 +80,7 @@ once_without (d ∷ done) l ls h = (sym (without done l ls d.name (none_in done 
 
 -- ---- another value in the register of one name
 
-told_other : (as' bs : List Loose) (x : List ℕ) (c : ℕ) (hs : Homes) (zs ns : Names) (p : ℕ) (s : State) → ((y : List ℕ) → bytes_eq x y ≡ false → loose_in as' y ≡ loose_in bs y) → NoHome x hs → Held hs zs p s → Told as' c zs ns → Told bs c zs ns
+told_other : (as' bs : List Loose) (x : List ℕ) (c : ℕ) (hs : Homes) (zs ns : Names) (p : ℕ) (s : State) → ((y : List ℕ) → bytes_eq x y ≡ false → loose_in as' y ≡ loose_in bs y) → NoHome x hs → AreInRegisters hs zs p s → Told as' c zs ns → Told bs c zs ns
 told_other as' bs x c [] [] [] p s f free held h = tt
 told_other as' bs x c [] [] (n ∷ ns) p s f free held h = absurd h
 told_other as' bs x c [] (z ∷ zs) ns p s f free held h = absurd held
@@ -90,7 +90,7 @@ told_other as' bs x c (y ∷ hs) (z ∷ zs) (n ∷ ns) p s f free held h =
     let other : bytes_eq n.name x ≡ false = ap (λ y. bytes_eq y x) (sym h.0 ∙ held.0) ∙ free.0 in
     (h.0, subst (λ o. Tells c o z.value n.value) (f n.name (bytes_swap n.name x other)) h.1, told_other as' bs x c hs zs ns p s f free.1 held.2 h.2)
 
-changed_step : (b : Bool) (as' bs : List Loose) (c : ℕ) (x : List ℕ) (u : ℤ) (y : Home) (hs : Homes) (z n : Named) (zs ns : Names) (p : ℕ) (s : State) → is_home x y ≡ b → ((y : List ℕ) → bytes_eq x y ≡ false → loose_in as' y ≡ loose_in bs y) → IsOnce (y ∷ hs) x → Held (y ∷ hs) (z ∷ zs) p s → Told as' c (z ∷ zs) (n ∷ ns) → Tells c (loose_in bs x) u (value_at (n ∷ ns) x)
+changed_step : (b : Bool) (as' bs : List Loose) (c : ℕ) (x : List ℕ) (u : ℤ) (y : Home) (hs : Homes) (z n : Named) (zs ns : Names) (p : ℕ) (s : State) → is_home x y ≡ b → ((y : List ℕ) → bytes_eq x y ≡ false → loose_in as' y ≡ loose_in bs y) → IsOnce (y ∷ hs) x → AreInRegisters (y ∷ hs) (z ∷ zs) p s → Told as' c (z ∷ zs) (n ∷ ns) → Tells c (loose_in bs x) u (value_at (n ∷ ns) x)
     → (IsOnce hs x → Tells c (loose_in bs x) u (value_at ns x) → Told bs c (assigned x u zs) ns) → Told bs c (assigned x u (z ∷ zs)) (n ∷ ns)
 changed_step true as' bs c x u y hs z n zs ns p s e f once held h tells rest =
     let ez : is_named x z ≡ true = ap (λ y. bytes_eq y x) held.0 ∙ e in
@@ -108,7 +108,7 @@ changed_step false as' bs c x u y hs z n zs ns p s e f once held h tells rest =
     (h.0, subst (λ o. Tells c o z.value n.value) (f n.name (bytes_swap n.name x en)) h.1, rest more (subst (λ v. Tells c (loose_in bs x) u v) value tells))
 
 -- with other forms, of that name alone
-pub told_changed : (as' bs : List Loose) (c : ℕ) (x : List ℕ) (u : ℤ) (hs : Homes) (zs ns : Names) (p : ℕ) (s : State) → ((y : List ℕ) → bytes_eq x y ≡ false → loose_in as' y ≡ loose_in bs y) → IsOnce hs x → Held hs zs p s → Told as' c zs ns → Tells c (loose_in bs x) u (value_at ns x) → Told bs c (assigned x u zs) ns
+pub told_changed : (as' bs : List Loose) (c : ℕ) (x : List ℕ) (u : ℤ) (hs : Homes) (zs ns : Names) (p : ℕ) (s : State) → ((y : List ℕ) → bytes_eq x y ≡ false → loose_in as' y ≡ loose_in bs y) → IsOnce hs x → AreInRegisters hs zs p s → Told as' c zs ns → Tells c (loose_in bs x) u (value_at ns x) → Told bs c (assigned x u zs) ns
 told_changed as' bs c x u [] [] [] p s f once held h tells = tt
 told_changed as' bs c x u [] [] (n ∷ ns) p s f once held h tells = absurd h
 told_changed as' bs c x u [] (z ∷ zs) ns p s f once held h tells = absurd held
@@ -179,7 +179,7 @@ look_more [] ws x bd h = absurd cc
 look_more (v ∷ vs) ws x bd h = look_step (has_name x v) v vs (vs ++ ws) x bd refl (look_more vs ws x bd) h
 
 -- the loop variable, where no home has its name
-pub index_looked : (ls : List Loose) (c : ℕ) (hs : Homes) (zs ns : Names) (vs : List Local) (x : List ℕ) (p : ℕ) (s : State) → NoHome x hs → Held hs zs p s → Told ls c zs ns → AreRanged vs ns → option_map binding_of (find (has_name x) (vs ++ local x binding.Index ∷ [])) ≡ Some binding.Index
+pub index_looked : (ls : List Loose) (c : ℕ) (hs : Homes) (zs ns : Names) (vs : List Local) (x : List ℕ) (p : ℕ) (s : State) → NoHome x hs → AreInRegisters hs zs p s → Told ls c zs ns → AreRanged vs ns → option_map binding_of (find (has_name x) (vs ++ local x binding.Index ∷ [])) ≡ Some binding.Index
 index_looked ls c hs [] [] [] x p s free held told ranged = ap (λ b. option_map binding_of (cond b (Some (local x binding.Index)) None)) (bytes_same x)
 index_looked ls c hs [] [] (v ∷ vs) x p s free held told ranged = absurd ranged
 index_looked ls c hs [] (n ∷ ns) vs x p s free held told ranged = absurd told
@@ -287,7 +287,7 @@ pub record HasLast (ls : List Loose) (c : ℕ) (x : List ℕ) (v : ℤ) (r : ℕ
   pub tells : Tells c (loose_in ls x) stand v
   pub value : x_at s r ≡ word stand
 
-pub last_held : (ls : List Loose) (c : ℕ) (hs : Homes) (h : Home) (zs ns : Names) (x : List ℕ) (v : ℤ) (p : ℕ) (s : State) → length ns ≡ length hs → Lasts h.last_use p → Held (hs ++ h ∷ []) zs p s → Told ls c zs (ns ++ named x v ∷ []) → HasLast ls c x v h.register s
+pub last_held : (ls : List Loose) (c : ℕ) (hs : Homes) (h : Home) (zs ns : Names) (x : List ℕ) (v : ℤ) (p : ℕ) (s : State) → length ns ≡ length hs → Lasts h.last_use p → AreInRegisters (hs ++ h ∷ []) zs p s → Told ls c zs (ns ++ named x v ∷ []) → HasLast ls c x v h.register s
 last_held ls c [] h [] ns x v p s e lasts held told = absurd held
 last_held ls c [] h (z ∷ zs) [] x v p s e lasts held told = record { stand = z.value; tells = told.1; value = held.1 lasts }
 last_held ls c [] h (z ∷ zs) (n ∷ ns) x v p s e lasts held told = absurd (omega (arith, e))

@@ -16,11 +16,11 @@ use Rattle.kernel_meaning.specs.Iterate.{assigned}
 use Rattle.kernel_meaning.specs.TypeValues.{IsOf}
 use Rattle.kernel_meaning.proofs.TypeRanges.{wrap-of}
 use Rattle.kernel_meaning.proofs.NameRanges.{name_range, acc_value}
-use Rattle.label_fix.specs.DraftRun.{Entry, Laid, word_of}
+use Rattle.label_fix.specs.DraftRun.{DraftEntry, Laid, word_of}
 use Rattle.label_fix.proofs.StretchSteps.{Goes, Resolves, stay, go_more, chain}
 use Rattle.scalar_words.specs.Layout.{Form, LowBits, Ahead, Behind, Loose, loose_in, Layout, Homes, register_at, NameLasts}
 use Rattle.scalar_words.specs.Words.{word_code}
-use Rattle.scalar_words.proofs.LayoutStates.{Assigned, AreSafe, Held, Tells, Told, AreRanged, TypeRange, name_held, name_found}
+use Rattle.scalar_words.proofs.LayoutStates.{Assigned, AreSafe, AreInRegisters, Tells, Told, AreRanged, TypeRange, name_held, name_found}
 use Rattle.scalar_words.proofs.Told.{told_found}
 use Rattle.scalar_words.proofs.WordsRuns.{Sets, extended_sets}
 use Rattle.scalar_words.proofs.Constants.{word_back}
@@ -43,28 +43,28 @@ type_wraps ty.I64 z v e = wrap-alike ty.I64 z v e
 type_wraps ty.U64 z v e = wrap-alike ty.U64 z v e
 
 module _ (D : Laid) where
-  pub settle_back : (r : ℕ) (hs : Homes) (ls : List Loose) (rest : List Entry) → Resolves D (settle_code r hs ls rest) → Resolves D rest
+  pub settle_back : (r : ℕ) (hs : Homes) (ls : List Loose) (rest : List DraftEntry) → Resolves D (settle_code r hs ls rest) → Resolves D rest
   settle_back r hs [] rest h = h
   settle_back r hs (l ∷ ls) rest h = settle_back r hs ls rest (word_back D (settle_form r (register_at hs l.name) l.form) _ h)
 
   -- the values stand in the registers, but for those of arrays
-  pub record Settles (c : List Entry) (s : State) (rest : List Entry) (hs : Homes) (ls : List Loose) (ns : Names) (p n most : ℕ) : Type 0 where
+  pub record Settles (c : List DraftEntry) (s : State) (rest : List DraftEntry) (hs : Homes) (ls : List Loose) (ns : Names) (p n most : ℕ) : Type 0 where
     pub end : State
     pub goes : Goes D c s rest end most
     pub memory : end.memory ≡ s.memory
     pub sized : length end.x ≡ length s.x
     pub stand : Names
     pub told : Told ls n stand ns
-    pub held : Held hs stand p end
+    pub held : AreInRegisters hs stand p end
 
 module _ (D : Laid) (L : Layout) (fit : Assigned L) (hs : Homes) (sc : Scope) (p : ℕ) (safe : AreSafe L p hs) (y : List ℕ) (r n : ℕ) (lasts : NameLasts hs y p) (same : register_at hs y ≡ r) (small : n < 2 ^ 64) where
   bound_high : r ≤ 25
   bound_high = let f = (name_found L hs y p p (omega arith) safe lasts).high in omega (arith, f, same)
 
   -- a value that stands in its register again, and the rest
-  settle_more : (l : Loose) (ls done : List Loose) (rest : List Entry) (zs ns : Names) (s : State) {c : List Entry} (most : ℕ) → length s.x ≡ 31 → AreHeldLoosely hs sc p (l ∷ ls) → AreUnlike y (l ∷ ls) → AreOnce (done ++ l ∷ ls) → x_at s r ≡ n → Told (done ++ l ∷ ls) n zs ns → Held hs zs p s
+  settle_more : (l : Loose) (ls done : List Loose) (rest : List DraftEntry) (zs ns : Names) (s : State) {c : List DraftEntry} (most : ℕ) → length s.x ≡ 31 → AreHeldLoosely hs sc p (l ∷ ls) → AreUnlike y (l ∷ ls) → AreOnce (done ++ l ∷ ls) → x_at s r ≡ n → Told (done ++ l ∷ ls) n zs ns → AreInRegisters hs zs p s
       → Sets D c s (settle_code r hs ls rest) (register_at hs l.name) (value_at ns l.name) most
-      → ((zs : Names) (s : State) → length s.x ≡ 31 → AreOnce (done ++ ls) → x_at s r ≡ n → Told (done ++ ls) n zs ns → Held hs zs p s → Settles D (settle_code r hs ls rest) s rest hs (done ++ after_loop ls) ns p n (all_settling ls))
+      → ((zs : Names) (s : State) → length s.x ≡ 31 → AreOnce (done ++ ls) → x_at s r ≡ n → Told (done ++ ls) n zs ns → AreInRegisters hs zs p s → Settles D (settle_code r hs ls rest) s rest hs (done ++ after_loop ls) ns p n (all_settling ls))
       → Settles D c s rest hs (done ++ after_loop ls) ns p n (most + all_settling ls)
   settle_more l ls done rest zs ns s most sized are unlike once bound told held k more =
       let x = l.name in
@@ -85,8 +85,8 @@ module _ (D : Laid) (L : Layout) (fit : Assigned L) (hs : Homes) (sc : Scope) (p
         held = f.held;
       }
 
-  settle_one : (f : Form) (l : Loose) (ls done : List Loose) (rest : List Entry) (zs ns : Names) (s : State) → l.form ≡ f → length s.x ≡ 31 → AreHeldLoosely hs sc p (l ∷ ls) → AreUnlike y (l ∷ ls) → AreOnce (done ++ l ∷ ls) → x_at s r ≡ n → AreRanged sc.visible ns → Told (done ++ l ∷ ls) n zs ns → Held hs zs p s
-      → ((done : List Loose) (zs : Names) (s : State) → length s.x ≡ 31 → AreOnce (done ++ ls) → x_at s r ≡ n → Told (done ++ ls) n zs ns → Held hs zs p s → Settles D (settle_code r hs ls rest) s rest hs (done ++ after_loop ls) ns p n (all_settling ls))
+  settle_one : (f : Form) (l : Loose) (ls done : List Loose) (rest : List DraftEntry) (zs ns : Names) (s : State) → l.form ≡ f → length s.x ≡ 31 → AreHeldLoosely hs sc p (l ∷ ls) → AreUnlike y (l ∷ ls) → AreOnce (done ++ l ∷ ls) → x_at s r ≡ n → AreRanged sc.visible ns → Told (done ++ l ∷ ls) n zs ns → AreInRegisters hs zs p s
+      → ((done : List Loose) (zs : Names) (s : State) → length s.x ≡ 31 → AreOnce (done ++ ls) → x_at s r ≡ n → Told (done ++ ls) n zs ns → AreInRegisters hs zs p s → Settles D (settle_code r hs ls rest) s rest hs (done ++ after_loop ls) ns p n (all_settling ls))
       → Settles D (word_code (settle_form r (register_at hs l.name) f) (settle_code r hs ls rest)) s rest hs (done ++ keep_ahead f l (after_loop ls)) ns p n (settling_words f + all_settling ls)
   settle_one (LowBits t) l ls done rest zs ns s e sized are unlike once bound ranged told held more =
       let x = l.name in
@@ -116,7 +116,7 @@ module _ (D : Laid) (L : Layout) (fit : Assigned L) (hs : Homes) (sc : Scope) (p
       settle_more l ls done rest zs ns s 1 sized are unlike once bound told held
       (wrote_sets D {i = word_of add (q ∷ q ∷ 0 ∷ r ∷ 0 ∷ [])} q (sum (x_at s q) (shifted_word 0 (x_at s r) 0)) v sized found.high refl value) (more done)
 
-  pub settle_runs : (ls done : List Loose) (rest : List Entry) (zs ns : Names) (s : State) → length s.x ≡ 31 → AreHeldLoosely hs sc p ls → AreUnlike y ls → AreOnce (done ++ ls) → x_at s r ≡ n → AreRanged sc.visible ns → Told (done ++ ls) n zs ns → Held hs zs p s → Settles D (settle_code r hs ls rest) s rest hs (done ++ after_loop ls) ns p n (all_settling ls)
+  pub settle_runs : (ls done : List Loose) (rest : List DraftEntry) (zs ns : Names) (s : State) → length s.x ≡ 31 → AreHeldLoosely hs sc p ls → AreUnlike y ls → AreOnce (done ++ ls) → x_at s r ≡ n → AreRanged sc.visible ns → Told (done ++ ls) n zs ns → AreInRegisters hs zs p s → Settles D (settle_code r hs ls rest) s rest hs (done ++ after_loop ls) ns p n (all_settling ls)
   settle_runs [] done rest zs ns s sized are unlike once bound ranged told held = record { end = s; goes = stay 0; memory = refl; sized = refl; stand = zs; told = told; held = held }
   settle_runs (l ∷ ls) done rest zs ns s sized are unlike once bound ranged told held =
       settle_one l.form l ls done rest zs ns s refl sized are unlike once bound ranged told held

@@ -8,11 +8,11 @@ use Rattle.machine_model.specs.InstructionTable.{Listed}
 use Rattle.kernel_meaning.specs.Operators.{word}
 use Rattle.kernel_meaning.specs.Eval.{Names}
 use Rattle.kernel_meaning.proofs.Residues.{word-below}
-use Rattle.label_fix.specs.DraftRun.{Entry, Put, Laid}
+use Rattle.label_fix.specs.DraftRun.{DraftEntry, Put, Laid}
 use Rattle.label_fix.specs.Finished.{size}
 use Rattle.label_fix.proofs.StretchSteps.{Goes, Resolves, stay, chain, put_goes}
 use Rattle.scalar_words.specs.Layout.{Key, OfNumber, OfAddress, Constant, Layout, Homes, is_constant, constant_register, constant_in}
-use Rattle.scalar_words.proofs.LayoutStates.{Assigned, key_word, Held, wrote, wrote_same, wrote_other, wrote_sized}
+use Rattle.scalar_words.proofs.LayoutStates.{Assigned, key_word, AreInRegisters, wrote, wrote_same, wrote_other, wrote_sized}
 use Rattle.scalar_words.proofs.Constants.{const_back, const_fills}
 use Rattle.scalar_words.proofs.Pieces.{const_put}
 use Rattle.scalar_words.proofs.WordCounts.{within, const_words}
@@ -26,34 +26,34 @@ use Rattle.scalar_emit.specs.Loop.{key_code, numbers_code, AreClear}
 
 -- ---- the code
 
-key_back : (D : Laid) (z : Key) (d : ℕ) (rest : List Entry) → Resolves D (key_code z d rest) → Resolves D rest
+key_back : (D : Laid) (z : Key) (d : ℕ) (rest : List DraftEntry) → Resolves D (key_code z d rest) → Resolves D rest
 key_back D (OfNumber z) d rest h = const_back D d (word z) rest h
 key_back D (OfAddress q c) d rest h = h
 
-pub numbers_back : (D : Laid) (cs : List Constant) (rest : List Entry) → Resolves D (numbers_code cs rest) → Resolves D rest
+pub numbers_back : (D : Laid) (cs : List Constant) (rest : List DraftEntry) → Resolves D (numbers_code cs rest) → Resolves D rest
 numbers_back D [] rest h = h
 numbers_back D (c ∷ cs) rest h = numbers_back D cs rest (key_back D c.key c.register (numbers_code cs rest) h)
 
-key_size : (z : Key) (d : ℕ) (rest : List Entry) (k : ℕ) → size rest ≤ k → size (key_code z d rest) ≤ key_words z + k
+key_size : (z : Key) (d : ℕ) (rest : List DraftEntry) (k : ℕ) → size rest ≤ k → size (key_code z d rest) ≤ key_words z + k
 key_size (OfNumber z) d rest k h = const_words d (word z) rest k h
 key_size (OfAddress q c) d rest k h = omega (arith, h)
 
-pub numbers_words : (cs : List Constant) (rest : List Entry) (k : ℕ) → size rest ≤ k → size (numbers_code cs rest) ≤ loading_words cs + k
+pub numbers_words : (cs : List Constant) (rest : List DraftEntry) (k : ℕ) → size rest ≤ k → size (numbers_code cs rest) ≤ loading_words cs + k
 numbers_words [] rest k h = omega (arith, h)
 numbers_words (c ∷ cs) rest k h = within (omega arith) (key_size c.key c.register (numbers_code cs rest) (loading_words cs + k) (numbers_words cs rest k h))
 
-key_put : (P : List Entry → Type 0) → ((i : Listed) (rest : List Entry) → P rest → P (Put i ∷ rest)) → (z : Key) (d : ℕ) (rest : List Entry) → P rest → P (key_code z d rest)
+key_put : (P : List DraftEntry → Type 0) → ((i : Listed) (rest : List DraftEntry) → P rest → P (Put i ∷ rest)) → (z : Key) (d : ℕ) (rest : List DraftEntry) → P rest → P (key_code z d rest)
 key_put P put (OfNumber z) d rest h = const_put P put d (word z) rest h
 key_put P put (OfAddress q c) d rest h = put _ _ h
 
-pub numbers_put : (P : List Entry → Type 0) → ((i : Listed) (rest : List Entry) → P rest → P (Put i ∷ rest)) → (cs : List Constant) (rest : List Entry) → P rest → P (numbers_code cs rest)
+pub numbers_put : (P : List DraftEntry → Type 0) → ((i : Listed) (rest : List DraftEntry) → P rest → P (Put i ∷ rest)) → (cs : List Constant) (rest : List DraftEntry) → P rest → P (numbers_code cs rest)
 numbers_put P put [] rest h = h
 numbers_put P put (c ∷ cs) rest h = key_put P put c.key c.register (numbers_code cs rest) (numbers_put P put cs rest h)
 
 -- ---- what it does
 
 -- one register has what it holds
-record KeyLoads (D : Laid) (c : List Entry) (s : State) (rest : List Entry) (z : Key) (d : ℕ) : Type 0 where
+record KeyLoads (D : Laid) (c : List DraftEntry) (s : State) (rest : List DraftEntry) (z : Key) (d : ℕ) : Type 0 where
   end : State
   goes : Goes D c s rest end (key_words z)
   value : x_at end d ≡ key_word s.x z
@@ -64,7 +64,7 @@ record KeyLoads (D : Laid) (c : List Entry) (s : State) (rest : List Entry) (z :
 address_sum : (n : ℕ) (c : ℤ) → sum n (word c) ≡ word (pos n +ℤ c)
 address_sum n c = (let w = word-sum (pos n) c in omega (arith, w))
 
-key_loads : (D : Laid) (L : Layout) (fit : Assigned L) (p : ℕ) (z : Key) (d : ℕ) (s : State) (rest : List Entry) → p ≤ 9 → d ≤ 25 → length s.x ≡ 31 → IsReached p z → KeyLoads D (key_code z d rest) s rest z d
+key_loads : (D : Laid) (L : Layout) (fit : Assigned L) (p : ℕ) (z : Key) (d : ℕ) (s : State) (rest : List DraftEntry) → p ≤ 9 → d ≤ 25 → length s.x ≡ 31 → IsReached p z → KeyLoads D (key_code z d rest) s rest z d
 key_loads D L fit p (OfNumber z) d s rest few hi sized is =
     let f = const_fills D d (omega (arith, hi)) (word z) s rest sized (word-below z) in
     record { end = f.end; goes = f.goes; value = f.value; others = f.others; sized = f.sized; memory = f.memory }
@@ -86,7 +86,7 @@ key_same p (OfNumber z) s t is low = refl
 key_same p (OfAddress q c) s t is low = ap (λ n. word (pos n +ℤ c)) (low q is.0)
 
 -- all of it is loaded, and registers below and above are as they were
-pub record Loads (D : Laid) (c : List Entry) (s : State) (rest : List Entry) (p n : ℕ) (cs : List Constant) : Type 0 where
+pub record Loads (D : Laid) (c : List DraftEntry) (s : State) (rest : List DraftEntry) (p n : ℕ) (cs : List Constant) : Type 0 where
   pub end : State
   pub goes : Goes D c s rest end (loading_words cs)
   pub memory : end.memory ≡ s.memory
@@ -99,7 +99,7 @@ loaded_step : (b : Bool) (c : Constant) (o : Option Constant) (z : Key) (r : ℕ
 loaded_step true c o z r s e is more h = let same : c.register ≡ r = cc in ap (x_at s) (sym same) ∙ is ∙ ap (key_word s.x) (key_is c.key z e)
 loaded_step false c o z r s e is more h = more h
 
-pub numbers_load : (D : Laid) (L : Layout) (fit : Assigned L) (p n : ℕ) (cs : List Constant) (s : State) (rest : List Entry) → length s.x ≡ 31 → AreNext p n cs → Loads D (numbers_code cs rest) s rest p n cs
+pub numbers_load : (D : Laid) (L : Layout) (fit : Assigned L) (p n : ℕ) (cs : List Constant) (s : State) (rest : List DraftEntry) → length s.x ≡ 31 → AreNext p n cs → Loads D (numbers_code cs rest) s rest p n cs
 numbers_load D L fit p n [] s rest sized next = record { end = s; goes = stay 0; memory = refl; sized = refl; low = λ r h. refl; high = λ r h. refl; loaded = λ z r e. absurd cc }
 numbers_load D L fit p n (c ∷ cs) s rest sized next =
     let here = next.0 in
@@ -117,7 +117,7 @@ numbers_load D L fit p n (c ∷ cs) s rest sized next =
       loaded = λ z r e. loaded_step (is_constant z c) c (find (is_constant z) cs) z r k.end refl (k.high c.register (omega (arith, here)) ∙ f.value ∙ sym (key_same p c.key s k.end next.2 low)) (k.loaded z r) e;
     }
 
-held_clear : (p : ℕ) (hs : Homes) (ns : Names) (q : ℕ) (s t : State) → AreClear p hs → ((r : ℕ) → r < p → x_at t r ≡ x_at s r) → ((r : ℕ) → 8 < r + 0 → x_at t r ≡ x_at s r) → Held hs ns q s → Held hs ns q t
+held_clear : (p : ℕ) (hs : Homes) (ns : Names) (q : ℕ) (s t : State) → AreClear p hs → ((r : ℕ) → r < p → x_at t r ≡ x_at s r) → ((r : ℕ) → 8 < r + 0 → x_at t r ≡ x_at s r) → AreInRegisters hs ns q s → AreInRegisters hs ns q t
 held_clear p [] [] q s t clear low high h = tt
 held_clear p [] (n ∷ ns) q s t clear low high h = absurd h
 held_clear p (x ∷ hs) [] q s t clear low high h = absurd h
@@ -125,5 +125,5 @@ held_clear p (x ∷ hs) (n ∷ ns) q s t clear low high h =
     (h.0, (λ l. ⊎_elim (λ (a : x.register < p). low x.register a) (λ (a : 9 ≤ x.register). high x.register (omega (arith, a))) clear.0 ∙ h.1 l), held_clear p hs ns q s t clear.1 low high h.2)
 
 -- names after them
-pub held_loaded : {D : Laid} {c rest : List Entry} {p : ℕ} {s : State} (hs : Homes) (q : ℕ) (ns : Names) (cs : List Constant) (k : Loads D c s rest p 0 cs) → AreClear p hs → Held hs ns q s → Held hs ns q k.end
+pub held_loaded : {D : Laid} {c rest : List DraftEntry} {p : ℕ} {s : State} (hs : Homes) (q : ℕ) (ns : Names) (cs : List Constant) (k : Loads D c s rest p 0 cs) → AreClear p hs → AreInRegisters hs ns q s → AreInRegisters hs ns q k.end
 held_loaded {p = p} {s = s} hs q ns cs k clear h = held_clear p hs ns q s k.end clear k.low k.high h

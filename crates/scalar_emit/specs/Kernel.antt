@@ -5,7 +5,7 @@ use Rattle.kernel_tree.specs.Plain.{Parameter, Accumulator, PlainLoop, Returned,
 use Rattle.kernel_tree.specs.Items.{term_size, loop_index, loop_start, loop_end}
 use Rattle.kernel_tree.specs.Typing.{Scope, declared, param_scope, var_scope}
 pub use Rattle.kernel_scope.specs.Scopes.{after_var}
-use Rattle.label_fix.specs.DraftRun.{Entry as Line, Place, ins}
+use Rattle.label_fix.specs.DraftRun.{DraftEntry as Line, Place, ins}
 use Rattle.scalar_words.specs.Layout.{Layout, Homes}
 use Rattle.scalar_values.specs.ValueRegisters.{home}
 use Rattle.scalar_words.specs.Words.{settle_word, copy_word, word_code}
@@ -68,19 +68,19 @@ straight_code L hs s n b answer rest = Place n ∷ answer_code L hs s b (n + 1) 
 
 -- A loop whose items begin at b, and an answer whose items begin at b2. Label n stands at the head of the loop, and without
 -- a loop before the answer.
-abbrev pub turns_code : Layout → Homes → Scope → Option PlainLoop → (b n b2 : ℕ) → Option Returned → List Line → List Line
-turns_code L hs s (Some l) b n b2 answer rest = loop_code L hs s l b n b2 answer rest
-turns_code L hs s None b n b2 answer rest = straight_code (bare L) hs s n b2 answer rest
+abbrev pub for_loop_code : Layout → Homes → Scope → Option PlainLoop → (b n b2 : ℕ) → Option Returned → List Line → List Line
+for_loop_code L hs s (Some l) b n b2 answer rest = loop_code L hs s l b n b2 answer rest
+for_loop_code L hs s None b n b2 answer rest = straight_code (bare L) hs s n b2 answer rest
 
-abbrev pub turns_labels : Option (List ℕ) → Option PlainLoop → Option Returned → ℕ
-turns_labels i (Some l) answer = loop_labels i l answer
-turns_labels i None answer = 1 + answer_labels i answer
+abbrev pub for_loop_labels : Option (List ℕ) → Option PlainLoop → Option Returned → ℕ
+for_loop_labels i (Some l) answer = loop_labels i l answer
+for_loop_labels i None answer = 1 + answer_labels i answer
 
 abbrev pub scalar_code : (ℕ → ℕ) → Program → ℕ → List Line → List Line
-scalar_code R k n rest = turns_code (loop_layout R k) (kernel_homes R k) (var_scope k) k.turns (loop_start k) n (loop_end k) k.answer rest
+scalar_code R k n rest = for_loop_code (loop_layout R k) (kernel_homes R k) (var_scope k) k.for_loop (loop_start k) n (loop_end k) k.answer rest
 
 abbrev pub scalar_labels : Program → ℕ
-scalar_labels k = turns_labels (loop_index k) k.turns k.answer
+scalar_labels k = for_loop_labels (loop_index k) k.for_loop k.answer
 
 -- ---- registers that fit
 

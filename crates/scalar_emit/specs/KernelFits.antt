@@ -45,6 +45,6 @@ pub record KernelFits (R : ℕ → ℕ) (k : Program) : Type 0 where
   -- the parameters and accumulators: held throughout, and left alone by every item
   pub steady : AreSteady (kernel_homes R k)
   pub safe : (b : ℕ) → AreSafe (layout_of_kernel R k) b (kernel_homes R k)
-  pub looped : (l : PlainLoop) → k.turns ≡ Some l → LoopFits R k l
-  pub bound : (l : PlainLoop) → k.turns ≡ Some l → IsBound R k l
-  pub straight : k.turns ≡ None → AnswerFits R k
+  pub looped : (l : PlainLoop) → k.for_loop ≡ Some l → LoopFits R k l
+  pub bound : (l : PlainLoop) → k.for_loop ≡ Some l → IsBound R k l
+  pub straight : k.for_loop ≡ None → AnswerFits R k

@@ -27,12 +27,12 @@ abbrev mutual
   hold_otherwise p hs s (Else b) cs = hold_block p hs s b cs
 
 -- for a loop, and nothing where there is no loop
-abbrev pub turns_numbers : ℕ → Homes → Scope → Option PlainLoop → List Constant
-turns_numbers p hs s None = []
-turns_numbers p hs s (Some l) = hold_block p hs s l.body []
+abbrev pub for_loop_numbers : ℕ → Homes → Scope → Option PlainLoop → List Constant
+for_loop_numbers p hs s None = []
+for_loop_numbers p hs s (Some l) = hold_block p hs s l.body []
 
 abbrev pub held_numbers : (ℕ → ℕ) → Program → List Constant
-held_numbers R k = turns_numbers (length k.params) (kernel_homes R k) (var_scope k) k.turns
+held_numbers R k = for_loop_numbers (length k.params) (kernel_homes R k) (var_scope k) k.for_loop
 
 -- the registers while iterations last
 abbrev pub loop_layout : (ℕ → ℕ) → Program → Layout

@@ -6,7 +6,7 @@ use Rattle.kernel_tree.specs.declared.ops.Ty.{Ty}
 use Rattle.kernel_tree.specs.declared.ops.BinaryOp.{BinaryOp}
 use Rattle.kernel_tree.specs.Plain.{Action, Define, Put, Update, Choose, Leave, Block, Done, Then, Otherwise, Nothing, Else, PlainLoop, Returned, Program, Term, Literal, Variable, Element, Unary, Operation, Shift, Conversion, Choice, Comparison, Both, Either, Not}
 use Rattle.kernel_tree.specs.Items.{stream_offset}
-use Rattle.kernel_tree.specs.Typing.{Scope, lookup, own, first, element_type, accumulator_type, index_type, in_loop, after_turns, var_scope, after_action, after_block, left}
+use Rattle.kernel_tree.specs.Typing.{Scope, lookup, own, first, element_type, accumulator_type, index_type, in_loop, after_for_loop, var_scope, after_action, after_block, left}
 use Rattle.kernel_meaning.specs.Operators.{operator_of}
 use Rattle.kernel_meaning.specs.TypeValues.{binary_leaves}
 use Rattle.scalar_words.specs.Layout.{Form, LowBits, Ahead, Behind, Loose, loose_in}
@@ -137,16 +137,16 @@ covers_answer ls s (Some a) = covers ls s Whole (Some a.type) a.value
 
 -- whether a loop counts to zero, by what stands in the registers then
 abbrev pub may_move : List Loose → Scope → PlainLoop → Option Returned → Bool
-may_move ls s l answer = covers_block ls (in_loop s l) l.body && covers_answer (after_loop ls) (after_turns s (Some l)) answer
+may_move ls s l answer = covers_block ls (in_loop s l) l.body && covers_answer (after_loop ls) (after_for_loop s (Some l)) answer
 
 abbrev pub counted_down : Scope → PlainLoop → Option Returned → List Loose
 counted_down s l answer = if may_move (moved_names (in_loop s l) l) s l answer then moved_names (in_loop s l) l else []
 
 -- ---- the whole
 
-abbrev pub turns_loose : Scope → Option PlainLoop → Option Returned → List Loose
-turns_loose s None answer = []
-turns_loose s (Some l) answer = loosen_block (in_loop s l) l.body l.body (counted_down s l answer)
+abbrev pub for_loop_loose : Scope → Option PlainLoop → Option Returned → List Loose
+for_loop_loose s None answer = []
+for_loop_loose s (Some l) answer = loosen_block (in_loop s l) l.body l.body (counted_down s l answer)
 
 abbrev pub held_loosely : Program → List Loose
-held_loosely k = turns_loose (var_scope k) k.turns k.answer
+held_loosely k = for_loop_loose (var_scope k) k.for_loop k.answer

@@ -1,7 +1,7 @@
 //! Emits the code of a kernel: what stands before its loop, the loop, and the end.
 
 ghost use Rattle.std.specs.Prelude.{◌≡◌, ◌+◌, ◌*◌, ◌<◌, ◌≤◌, ◌^◌, None, Some, [], ◌∷◌, ◌++◌, OnOk, IfOk, length, option_map};
-ghost use Rattle.kernel_tree.specs.Plain.{term_of, parameters_of, accumulator_of, accumulators_of, turns_of, returned_of, block_of, program_of};
+ghost use Rattle.kernel_tree.specs.Plain.{term_of, parameters_of, accumulator_of, accumulators_of, for_loop_of, returned_of, block_of, program_of};
 ghost use Rattle.kernel_tree.specs.Kinds.{IsValue, VarsKinds, BlockKinds, AnswerKinds, KernelKinds};
 ghost use Rattle.kernel_scope.specs.Scopes.{scope_of, after_var};
 ghost use Rattle.reg_assign.specs.declared.interval.RegClass.TheVariants.{X};
@@ -22,9 +22,9 @@ ghost use Rattle.scalar_emit.specs.Loop as loops;
 ghost use Rattle.scalar_emit.specs.Kernel as kernels;
 ghost use Rattle.scalar_words.specs.KernelRegisters as registers;
 
+use crate::for_loop::emit_loop;
 use crate::loosening::{after_loop, loosen_names};
 use crate::numbers::hold_block;
-use crate::turns::emit_loop;
 use crate::variable::declare_index;
 use kernel_scope::{Scope, empty, loop_index};
 use kernel_tree::laws::{few_params, right_kinds};
@@ -260,65 +260,65 @@ fn emit_answer(
 }
 
 // The loop of a kernel, with no name declared yet.
-fn turns_named<'a>(
+fn for_loop_named<'a>(
     draft: &mut Draft,
     places: &Places,
     regs: &Assigned,
     homes: &mut Vec<Home<'a>>,
     scope: &mut Scope<'a>,
     kernel: &'a Kernel,
-    turns: &'a Loop,
+    for_loop: &'a Loop,
     item: &mut usize,
 ) -> Result<Label, AllocError>
     requires assigned { IsAssignment 15 regs.now }
     requires vars { length (program_of kernel.now).vars ≤ length regs.now.registers }
     requires params { length (program_of kernel.now).params ≤ 8 }
-    requires turns { (program_of kernel.now).turns ≡ Some (turns_of turns.now) }
-    requires kinds { BlockKinds (block_of turns.now.body.items) }
-    requires fits { item.old + items.turns_size (Some (turns_of turns.now)) < 2 ^ 32 }
+    requires for_loop { (program_of kernel.now).for_loop ≡ Some (for_loop_of for_loop.now) }
+    requires kinds { BlockKinds (block_of for_loop.now.body.items) }
+    requires fits { item.old + items.for_loop_size (Some (for_loop_of for_loop.now)) < 2 ^ 32 }
     requires scope { scope_of scope.old ≡ typing.empty (items.loop_index (program_of kernel.now)) }
     requires homes { homes.old.items ≡ [] }
     ensures head { IfOk result (λ l. l ≡ draft.old.labels) }
-    ensures item { OnOk result (item.new ≡ item.old + items.turns_size (Some (turns_of turns.now))) }
+    ensures item { OnOk result (item.new ≡ item.old + items.for_loop_size (Some (for_loop_of for_loop.now))) }
     ensures emits { OnOk result (Emits draft.old draft.new
         (draft.old.labels + 4 + block_labels (items.loop_index (program_of kernel.now))
-        (block_of turns.now.body.items))
-        (loops.turn_code places.now (registers.kernel_homes (register_in regs.now) (program_of kernel.now))
-        (typing.var_scope (program_of kernel.now)) (turns_of turns.now) item.old draft.old.labels)) }
+        (block_of for_loop.now.body.items))
+        (loops.iterations_code places.now (registers.kernel_homes (register_in regs.now) (program_of kernel.now))
+        (typing.var_scope (program_of kernel.now)) (for_loop_of for_loop.now) item.old draft.old.labels)) }
 {
     declare_names(scope, homes, regs, kernel)?;
-    let head = emit_loop(draft, places, homes, scope, turns, item)?;
+    let head = emit_loop(draft, places, homes, scope, for_loop, item)?;
     Ok(head)
 }
 
 // The loop of a kernel.
-fn emit_turns(
+fn emit_for_loop(
     alloc: Global,
     draft: &mut Draft,
     places: &Places,
     regs: &Assigned,
     kernel: &Kernel,
-    turns: &Loop,
+    for_loop: &Loop,
     item: &mut usize,
 ) -> Result<Label, AllocError>
     requires assigned { IsAssignment 15 regs.now }
     requires vars { length (program_of kernel.now).vars ≤ length regs.now.registers }
     requires params { length (program_of kernel.now).params ≤ 8 }
-    requires turns { (program_of kernel.now).turns ≡ Some (turns_of turns.now) }
-    requires kinds { BlockKinds (block_of turns.now.body.items) }
-    requires fits { item.old + items.turns_size (Some (turns_of turns.now)) < 2 ^ 32 }
+    requires for_loop { (program_of kernel.now).for_loop ≡ Some (for_loop_of for_loop.now) }
+    requires kinds { BlockKinds (block_of for_loop.now.body.items) }
+    requires fits { item.old + items.for_loop_size (Some (for_loop_of for_loop.now)) < 2 ^ 32 }
     ensures head { IfOk result (λ l. l ≡ draft.old.labels) }
-    ensures item { OnOk result (item.new ≡ item.old + items.turns_size (Some (turns_of turns.now))) }
+    ensures item { OnOk result (item.new ≡ item.old + items.for_loop_size (Some (for_loop_of for_loop.now))) }
     ensures emits { OnOk result (Emits draft.old draft.new
         (draft.old.labels + 4 + block_labels (items.loop_index (program_of kernel.now))
-        (block_of turns.now.body.items))
-        (loops.turn_code places.now (registers.kernel_homes (register_in regs.now) (program_of kernel.now))
-        (typing.var_scope (program_of kernel.now)) (turns_of turns.now) item.old draft.old.labels)) }
+        (block_of for_loop.now.body.items))
+        (loops.iterations_code places.now (registers.kernel_homes (register_in regs.now) (program_of kernel.now))
+        (typing.var_scope (program_of kernel.now)) (for_loop_of for_loop.now) item.old draft.old.labels)) }
 {
-    let mut scope = empty(alloc, Some(turns.index.text()));
+    let mut scope = empty(alloc, Some(for_loop.index.text()));
     let mut homes = Vec::new(alloc);
-    turns_named(
-        draft, places, regs, &mut homes, &mut scope, kernel, turns, item,
+    for_loop_named(
+        draft, places, regs, &mut homes, &mut scope, kernel, for_loop, item,
     )
 }
 
@@ -330,13 +330,13 @@ fn following_named<'a>(
     homes: &mut Vec<Home<'a>>,
     scope: &mut Scope<'a>,
     kernel: &'a Kernel,
-    turns: &'a Loop,
+    for_loop: &'a Loop,
     item: usize,
 ) -> Result<(), AllocError>
     requires assigned { IsAssignment 15 regs.now }
     requires vars { length (program_of kernel.now).vars ≤ length regs.now.registers }
     requires params { length (program_of kernel.now).params ≤ 8 }
-    requires turns { (program_of kernel.now).turns ≡ Some (turns_of turns.now) }
+    requires for_loop { (program_of kernel.now).for_loop ≡ Some (for_loop_of for_loop.now) }
     requires kind { AnswerKinds (program_of kernel.now).answer }
     requires fits { item + items.answer_size (items.loop_index (program_of kernel.now))
         (program_of kernel.now).answer < 2 ^ 32 }
@@ -346,11 +346,11 @@ fn following_named<'a>(
         (draft.old.labels + loops.answer_labels (items.loop_index (program_of kernel.now))
         (program_of kernel.now).answer)
         (loops.leave_code places.now (registers.kernel_homes (register_in regs.now) (program_of kernel.now))
-        (typing.var_scope (program_of kernel.now)) (turns_of turns.now) item draft.old.labels
+        (typing.var_scope (program_of kernel.now)) (for_loop_of for_loop.now) item draft.old.labels
         (program_of kernel.now).answer)) }
 {
     declare_names(scope, homes, regs, kernel)?;
-    declare_index(scope, homes, turns)?;
+    declare_index(scope, homes, for_loop)?;
     emit_answer(draft, places, homes, scope, &kernel.answer, item)?;
     Ok(())
 }
@@ -362,13 +362,13 @@ fn emit_following(
     places: &Places,
     regs: &Assigned,
     kernel: &Kernel,
-    turns: &Loop,
+    for_loop: &Loop,
     item: usize,
 ) -> Result<(), AllocError>
     requires assigned { IsAssignment 15 regs.now }
     requires vars { length (program_of kernel.now).vars ≤ length regs.now.registers }
     requires params { length (program_of kernel.now).params ≤ 8 }
-    requires turns { (program_of kernel.now).turns ≡ Some (turns_of turns.now) }
+    requires for_loop { (program_of kernel.now).for_loop ≡ Some (for_loop_of for_loop.now) }
     requires kind { AnswerKinds (program_of kernel.now).answer }
     requires fits { item + items.answer_size (items.loop_index (program_of kernel.now))
         (program_of kernel.now).answer < 2 ^ 32 }
@@ -376,13 +376,13 @@ fn emit_following(
         (draft.old.labels + loops.answer_labels (items.loop_index (program_of kernel.now))
         (program_of kernel.now).answer)
         (loops.leave_code places.now (registers.kernel_homes (register_in regs.now) (program_of kernel.now))
-        (typing.var_scope (program_of kernel.now)) (turns_of turns.now) item draft.old.labels
+        (typing.var_scope (program_of kernel.now)) (for_loop_of for_loop.now) item draft.old.labels
         (program_of kernel.now).answer)) }
 {
-    let mut scope = empty(alloc, Some(turns.index.text()));
+    let mut scope = empty(alloc, Some(for_loop.index.text()));
     let mut homes = Vec::new(alloc);
     following_named(
-        draft, places, regs, &mut homes, &mut scope, kernel, turns, item,
+        draft, places, regs, &mut homes, &mut scope, kernel, for_loop, item,
     )
 }
 
@@ -399,7 +399,7 @@ fn straight_named<'a>(
     requires assigned { IsAssignment 15 regs.now }
     requires vars { length (program_of kernel.now).vars ≤ length regs.now.registers }
     requires params { length (program_of kernel.now).params ≤ 8 }
-    requires turns { (program_of kernel.now).turns ≡ None }
+    requires for_loop { (program_of kernel.now).for_loop ≡ None }
     requires kind { AnswerKinds (program_of kernel.now).answer }
     requires fits { item + items.answer_size (items.loop_index (program_of kernel.now))
         (program_of kernel.now).answer < 2 ^ 32 }
@@ -430,7 +430,7 @@ fn emit_straight(
     requires assigned { IsAssignment 15 regs.now }
     requires vars { length (program_of kernel.now).vars ≤ length regs.now.registers }
     requires params { length (program_of kernel.now).params ≤ 8 }
-    requires turns { (program_of kernel.now).turns ≡ None }
+    requires for_loop { (program_of kernel.now).for_loop ≡ None }
     requires kind { AnswerKinds (program_of kernel.now).answer }
     requires fits { item + items.answer_size (items.loop_index (program_of kernel.now))
         (program_of kernel.now).answer < 2 ^ 32 }
@@ -453,12 +453,12 @@ fn hold_named<'a>(
     homes: &mut Vec<Home<'a>>,
     scope: &mut Scope<'a>,
     kernel: &'a Kernel,
-    turns: &'a Loop,
+    for_loop: &'a Loop,
 ) -> Result<(), AllocError>
     requires assigned { IsAssignment 15 regs.now }
     requires vars { length (program_of kernel.now).vars ≤ length regs.now.registers }
     requires params { length (program_of kernel.now).params ≤ 8 }
-    requires turns { (program_of kernel.now).turns ≡ Some (turns_of turns.now) }
+    requires for_loop { (program_of kernel.now).for_loop ≡ Some (for_loop_of for_loop.now) }
     requires scope { scope_of scope.old ≡ typing.empty (items.loop_index (program_of kernel.now)) }
     requires homes { homes.old.items ≡ [] }
     ensures { OnOk result (places.new
@@ -471,7 +471,7 @@ fn hold_named<'a>(
         kernel.params.len(),
         homes,
         scope,
-        &turns.body,
+        &for_loop.body,
     )?;
     places.hold(constants);
     Ok(())
@@ -483,18 +483,20 @@ fn hold_numbers(
     places: &mut Places,
     regs: &Assigned,
     kernel: &Kernel,
-    turns: &Loop,
+    for_loop: &Loop,
 ) -> Result<(), AllocError>
     requires assigned { IsAssignment 15 regs.now }
     requires vars { length (program_of kernel.now).vars ≤ length regs.now.registers }
     requires params { length (program_of kernel.now).params ≤ 8 }
-    requires turns { (program_of kernel.now).turns ≡ Some (turns_of turns.now) }
+    requires for_loop { (program_of kernel.now).for_loop ≡ Some (for_loop_of for_loop.now) }
     ensures { OnOk result (places.new
         ≡ with_constants places.old (numbers.held_numbers (register_in regs.now) (program_of kernel.now))) }
 {
-    let mut scope = empty(alloc, Some(turns.index.text()));
+    let mut scope = empty(alloc, Some(for_loop.index.text()));
     let mut homes = Vec::new(alloc);
-    hold_named(alloc, places, regs, &mut homes, &mut scope, kernel, turns)
+    hold_named(
+        alloc, places, regs, &mut homes, &mut scope, kernel, for_loop,
+    )
 }
 
 // The code of a kernel's loop and of what follows it; answers the label of its head, or before the returned value.
@@ -523,15 +525,15 @@ fn emit_rest<'a>(
             let head = emit_straight(alloc, draft, places, regs, kernel, item)?;
             Ok(head)
         }
-        Some(turns) => {
+        Some(for_loop) => {
             let mut next = item;
-            hold_numbers(alloc, places, regs, kernel, turns)?;
-            loosen_names(alloc, places, regs, kernel, turns)?;
-            let head = emit_turns(alloc, draft, places, regs, kernel, turns, &mut next)?;
+            hold_numbers(alloc, places, regs, kernel, for_loop)?;
+            loosen_names(alloc, places, regs, kernel, for_loop)?;
+            let head = emit_for_loop(alloc, draft, places, regs, kernel, for_loop, &mut next)?;
             places.hold(Vec::new(alloc));
             let ahead = after_loop(alloc, places.loose())?;
             places.loosen(ahead);
-            emit_following(alloc, draft, places, regs, kernel, turns, next)?;
+            emit_following(alloc, draft, places, regs, kernel, for_loop, next)?;
             Ok(head)
         }
     }

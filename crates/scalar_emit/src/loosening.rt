@@ -1,7 +1,7 @@
 //! Which names a loop holds loosely: its variable and its arrays where it counts to zero, and accumulators.
 
 ghost use Rattle.std.specs.Prelude.{◌≡◌, ◌≤◌, List, true, [], ◌∷◌, ◌++◌, Some, None, IfOk, OnOk, length, option_map, option_and_then};
-ghost use Rattle.kernel_tree.specs.Plain.{Define, Put, Update, Choose, Nothing, Else, name_of, term_of, action_of, block_of, turns_of, returned_of, program_of};
+ghost use Rattle.kernel_tree.specs.Plain.{Define, Put, Update, Choose, Nothing, Else, name_of, term_of, action_of, block_of, for_loop_of, returned_of, program_of};
 ghost use Rattle.kernel_tree.specs.Parts.{part_action};
 ghost use Rattle.kernel_scope.specs.Scopes.{scope_of};
 ghost use Rattle.reg_assign.specs.Registers.{IsAssignment};
@@ -202,7 +202,7 @@ fn body_named<'a>(
     homes: &mut Vec<Home<'a>>,
     regs: &Assigned,
     kernel: &'a Kernel,
-    turns: &'a Loop,
+    for_loop: &'a Loop,
     loose: &[Loose],
 ) -> Result<bool, AllocError>
     requires assigned { IsAssignment 15 regs.now }
@@ -211,13 +211,13 @@ fn body_named<'a>(
     requires scope { scope_of scope.old ≡ typing.empty (items.loop_index (program_of kernel.now)) }
     requires homes { homes.old.items ≡ [] }
     ensures { IfOk result (λ t. t ≡ loosening.covers_block (looses_of loose.now)
-        (typing.in_loop (typing.var_scope (program_of kernel.now)) (turns_of turns.now))
-        (block_of turns.now.body.items)) }
+        (typing.in_loop (typing.var_scope (program_of kernel.now)) (for_loop_of for_loop.now))
+        (block_of for_loop.now.body.items)) }
 {
     declare_names(scope, homes, regs, kernel)?;
-    declare_index(scope, homes, turns)?;
+    declare_index(scope, homes, for_loop)?;
     scope.inside = true;
-    let covered = covers_block(loose, scope, &turns.body)?;
+    let covered = covers_block(loose, scope, &for_loop.body)?;
     Ok(covered)
 }
 
@@ -226,20 +226,20 @@ fn covers_body(
     alloc: Global,
     regs: &Assigned,
     kernel: &Kernel,
-    turns: &Loop,
+    for_loop: &Loop,
     loose: &[Loose],
 ) -> Result<bool, AllocError>
     requires assigned { IsAssignment 15 regs.now }
     requires vars { length (program_of kernel.now).vars ≤ length regs.now.registers }
     requires params { length (program_of kernel.now).params ≤ 8 }
-    requires turns { (program_of kernel.now).turns ≡ Some (turns_of turns.now) }
+    requires for_loop { (program_of kernel.now).for_loop ≡ Some (for_loop_of for_loop.now) }
     ensures { IfOk result (λ t. t ≡ loosening.covers_block (looses_of loose.now)
-        (typing.in_loop (typing.var_scope (program_of kernel.now)) (turns_of turns.now))
-        (block_of turns.now.body.items)) }
+        (typing.in_loop (typing.var_scope (program_of kernel.now)) (for_loop_of for_loop.now))
+        (block_of for_loop.now.body.items)) }
 {
-    let mut scope = empty(alloc, Some(turns.index.text()));
+    let mut scope = empty(alloc, Some(for_loop.index.text()));
     let mut homes = Vec::new(alloc);
-    body_named(&mut scope, &mut homes, regs, kernel, turns, loose)
+    body_named(&mut scope, &mut homes, regs, kernel, for_loop, loose)
 }
 
 // ---- the accumulators
@@ -260,7 +260,7 @@ fn loosen_name<'a>(
     alloc: Global,
     regs: &Assigned,
     kernel: &'a Kernel,
-    turns: &'a Loop,
+    for_loop: &'a Loop,
     loose: &mut Vec<Loose<'a>>,
     name: &'a Name,
     ty: Ty,
@@ -268,16 +268,16 @@ fn loosen_name<'a>(
     requires assigned { IsAssignment 15 regs.now }
     requires vars { length (program_of kernel.now).vars ≤ length regs.now.registers }
     requires params { length (program_of kernel.now).params ≤ 8 }
-    requires turns { (program_of kernel.now).turns ≡ Some (turns_of turns.now) }
+    requires for_loop { (program_of kernel.now).for_loop ≡ Some (for_loop_of for_loop.now) }
     ensures { OnOk result (looses_of loose.new.items
-        ≡ loosening.loosened (typing.in_loop (typing.var_scope (program_of kernel.now)) (turns_of turns.now))
-        (block_of turns.now.body.items) (name_of name.now) (Some ty) (looses_of loose.old.items)) }
+        ≡ loosening.loosened (typing.in_loop (typing.var_scope (program_of kernel.now)) (for_loop_of for_loop.now))
+        (block_of for_loop.now.body.items) (name_of name.now) (Some ty) (looses_of loose.old.items)) }
 {
     let count = loose.len();
     let name = name.text();
     let form = Form::LowBits(ty);
     loose.push(Loose { name, form })?;
-    if !covers_body(alloc, regs, kernel, turns, loose)? {
+    if !covers_body(alloc, regs, kernel, for_loop, loose)? {
         loose.truncate(count);
     }
     Ok(())
@@ -288,7 +288,7 @@ fn loosen_update<'a>(
     alloc: Global,
     regs: &Assigned,
     kernel: &'a Kernel,
-    turns: &'a Loop,
+    for_loop: &'a Loop,
     scope: &Scope,
     loose: &mut Vec<Loose<'a>>,
     name: &'a Name,
@@ -297,11 +297,11 @@ fn loosen_update<'a>(
     requires assigned { IsAssignment 15 regs.now }
     requires vars { length (program_of kernel.now).vars ≤ length regs.now.registers }
     requires params { length (program_of kernel.now).params ≤ 8 }
-    requires turns { (program_of kernel.now).turns ≡ Some (turns_of turns.now) }
+    requires for_loop { (program_of kernel.now).for_loop ≡ Some (for_loop_of for_loop.now) }
     requires scope { scope_of scope.now
-        ≡ typing.in_loop (typing.var_scope (program_of kernel.now)) (turns_of turns.now) }
+        ≡ typing.in_loop (typing.var_scope (program_of kernel.now)) (for_loop_of for_loop.now) }
     ensures { OnOk result (looses_of loose.new.items
-        ≡ loosening.loosened (scope_of scope.now) (block_of turns.now.body.items) (name_of name.now)
+        ≡ loosening.loosened (scope_of scope.now) (block_of for_loop.now.body.items) (name_of name.now)
         (loosening.gained (looses_of loose.old.items) (name_of name.now) (operators.operator_of op)
         (option_and_then typing.accumulator_type (typing.lookup (scope_of scope.now) (name_of name.now))))
         (looses_of loose.old.items)) }
@@ -309,7 +309,7 @@ fn loosen_update<'a>(
     let want = lookup(scope, name).and_then(accumulator_type);
     match gained(loose, name, update_operator(op), want) {
         None => Ok(()),
-        Some(ty) => loosen_name(alloc, regs, kernel, turns, loose, name, ty),
+        Some(ty) => loosen_name(alloc, regs, kernel, for_loop, loose, name, ty),
     }
 }
 
@@ -318,7 +318,7 @@ fn loosen_stmt<'a>(
     alloc: Global,
     regs: &Assigned,
     kernel: &'a Kernel,
-    turns: &'a Loop,
+    for_loop: &'a Loop,
     scope: &Scope,
     loose: &mut Vec<Loose<'a>>,
     stmt: &'a Stmt,
@@ -326,21 +326,21 @@ fn loosen_stmt<'a>(
     requires assigned { IsAssignment 15 regs.now }
     requires vars { length (program_of kernel.now).vars ≤ length regs.now.registers }
     requires params { length (program_of kernel.now).params ≤ 8 }
-    requires turns { (program_of kernel.now).turns ≡ Some (turns_of turns.now) }
+    requires for_loop { (program_of kernel.now).for_loop ≡ Some (for_loop_of for_loop.now) }
     requires scope { scope_of scope.now
-        ≡ typing.in_loop (typing.var_scope (program_of kernel.now)) (turns_of turns.now) }
+        ≡ typing.in_loop (typing.var_scope (program_of kernel.now)) (for_loop_of for_loop.now) }
     ensures { OnOk result (looses_of loose.new.items
-        ≡ loosening.loosen_action (scope_of scope.now) (block_of turns.now.body.items) (action_of stmt.now)
+        ≡ loosening.loosen_action (scope_of scope.now) (block_of for_loop.now.body.items) (action_of stmt.now)
         (looses_of loose.old.items)) }
 {
     match parts(stmt) {
-        Part::If { block, .. } => loosen_block(alloc, regs, kernel, turns, scope, loose, block),
+        Part::If { block, .. } => loosen_block(alloc, regs, kernel, for_loop, scope, loose, block),
         Part::IfElse { block, other, .. } => {
-            loosen_block(alloc, regs, kernel, turns, scope, loose, block)?;
-            loosen_block(alloc, regs, kernel, turns, scope, loose, other)
+            loosen_block(alloc, regs, kernel, for_loop, scope, loose, block)?;
+            loosen_block(alloc, regs, kernel, for_loop, scope, loose, other)
         }
         Part::Update { name, op, .. } => {
-            loosen_update(alloc, regs, kernel, turns, scope, loose, name, op)
+            loosen_update(alloc, regs, kernel, for_loop, scope, loose, name, op)
         }
         _ => Ok(()),
     }
@@ -352,7 +352,7 @@ fn loosen_block<'a>(
     alloc: Global,
     regs: &Assigned,
     kernel: &'a Kernel,
-    turns: &'a Loop,
+    for_loop: &'a Loop,
     scope: &Scope,
     loose: &mut Vec<Loose<'a>>,
     block: &'a [Stmt],
@@ -360,15 +360,15 @@ fn loosen_block<'a>(
     requires assigned { IsAssignment 15 regs.now }
     requires vars { length (program_of kernel.now).vars ≤ length regs.now.registers }
     requires params { length (program_of kernel.now).params ≤ 8 }
-    requires turns { (program_of kernel.now).turns ≡ Some (turns_of turns.now) }
+    requires for_loop { (program_of kernel.now).for_loop ≡ Some (for_loop_of for_loop.now) }
     requires scope { scope_of scope.now
-        ≡ typing.in_loop (typing.var_scope (program_of kernel.now)) (turns_of turns.now) }
+        ≡ typing.in_loop (typing.var_scope (program_of kernel.now)) (for_loop_of for_loop.now) }
     ensures { OnOk result (looses_of loose.new.items
-        ≡ loosening.loosen_block (scope_of scope.now) (block_of turns.now.body.items) (block_of block.now)
+        ≡ loosening.loosen_block (scope_of scope.now) (block_of for_loop.now.body.items) (block_of block.now)
         (looses_of loose.old.items)) }
 {
     for stmt in block {
-        loosen_stmt(alloc, regs, kernel, turns, scope, loose, stmt)?;
+        loosen_stmt(alloc, regs, kernel, for_loop, scope, loose, stmt)?;
     }
     Ok(())
 }
@@ -379,16 +379,16 @@ fn loosen_block<'a>(
 fn moved_names<'a>(
     alloc: Global,
     scope: &Scope,
-    turns: &'a Loop,
+    for_loop: &'a Loop,
 ) -> Result<Vec<Loose<'a>>, AllocError>
     ensures { IfOk result (λ v. looses_of v.items
-        ≡ loosening.moved_names (scope_of scope.now) (turns_of turns.now)) }
+        ≡ loosening.moved_names (scope_of scope.now) (for_loop_of for_loop.now)) }
 {
     let mut loose = Vec::new(alloc);
-    let name = turns.index.text();
+    let name = for_loop.index.text();
     let form = Form::Behind;
     loose.push(Loose { name, form })?;
-    add_block(&mut loose, scope, &turns.body)?;
+    add_block(&mut loose, scope, &for_loop.body)?;
     Ok(loose)
 }
 
@@ -435,7 +435,7 @@ fn moves_named<'a>(
     homes: &mut Vec<Home<'a>>,
     regs: &Assigned,
     kernel: &'a Kernel,
-    turns: &'a Loop,
+    for_loop: &'a Loop,
     loose: &[Loose],
     kept: &[Loose],
 ) -> Result<bool, AllocError>
@@ -446,13 +446,13 @@ fn moves_named<'a>(
     requires homes { homes.old.items ≡ [] }
     requires kept { looses_of kept.now ≡ loosening.after_loop (looses_of loose.now) }
     ensures { IfOk result (λ t. t ≡ loosening.may_move (looses_of loose.now)
-        (typing.var_scope (program_of kernel.now)) (turns_of turns.now) (program_of kernel.now).answer) }
+        (typing.var_scope (program_of kernel.now)) (for_loop_of for_loop.now) (program_of kernel.now).answer) }
 {
     declare_names(scope, homes, regs, kernel)?;
-    declare_index(scope, homes, turns)?;
+    declare_index(scope, homes, for_loop)?;
     let answered = covers_answer(kept, scope, &kernel.answer);
     scope.inside = true;
-    let covered = covers_block(loose, scope, &turns.body)?;
+    let covered = covers_block(loose, scope, &for_loop.body)?;
     Ok(covered && answered)
 }
 
@@ -461,20 +461,20 @@ fn may_move(
     alloc: Global,
     regs: &Assigned,
     kernel: &Kernel,
-    turns: &Loop,
+    for_loop: &Loop,
     loose: &[Loose],
 ) -> Result<bool, AllocError>
     requires assigned { IsAssignment 15 regs.now }
     requires vars { length (program_of kernel.now).vars ≤ length regs.now.registers }
     requires params { length (program_of kernel.now).params ≤ 8 }
-    requires turns { (program_of kernel.now).turns ≡ Some (turns_of turns.now) }
+    requires for_loop { (program_of kernel.now).for_loop ≡ Some (for_loop_of for_loop.now) }
     ensures { IfOk result (λ t. t ≡ loosening.may_move (looses_of loose.now)
-        (typing.var_scope (program_of kernel.now)) (turns_of turns.now) (program_of kernel.now).answer) }
+        (typing.var_scope (program_of kernel.now)) (for_loop_of for_loop.now) (program_of kernel.now).answer) }
 {
     let kept = after_loop(alloc, loose)?;
-    let mut scope = empty(alloc, Some(turns.index.text()));
+    let mut scope = empty(alloc, Some(for_loop.index.text()));
     let mut homes = Vec::new(alloc);
-    moves_named(&mut scope, &mut homes, regs, kernel, turns, loose, &kept)
+    moves_named(&mut scope, &mut homes, regs, kernel, for_loop, loose, &kept)
 }
 
 // The loop variable and the arrays, where the loop counts to zero.
@@ -482,21 +482,21 @@ fn counted_down<'a>(
     alloc: Global,
     regs: &Assigned,
     kernel: &'a Kernel,
-    turns: &'a Loop,
+    for_loop: &'a Loop,
     scope: &Scope,
 ) -> Result<Vec<Loose<'a>>, AllocError>
     requires assigned { IsAssignment 15 regs.now }
     requires vars { length (program_of kernel.now).vars ≤ length regs.now.registers }
     requires params { length (program_of kernel.now).params ≤ 8 }
-    requires turns { (program_of kernel.now).turns ≡ Some (turns_of turns.now) }
+    requires for_loop { (program_of kernel.now).for_loop ≡ Some (for_loop_of for_loop.now) }
     requires scope { scope_of scope.now
-        ≡ typing.in_loop (typing.var_scope (program_of kernel.now)) (turns_of turns.now) }
+        ≡ typing.in_loop (typing.var_scope (program_of kernel.now)) (for_loop_of for_loop.now) }
     ensures { IfOk result (λ v. looses_of v.items
-        ≡ loosening.counted_down (typing.var_scope (program_of kernel.now)) (turns_of turns.now)
+        ≡ loosening.counted_down (typing.var_scope (program_of kernel.now)) (for_loop_of for_loop.now)
         (program_of kernel.now).answer) }
 {
-    let moved = moved_names(alloc, scope, turns)?;
-    if may_move(alloc, regs, kernel, turns, &moved)? {
+    let moved = moved_names(alloc, scope, for_loop)?;
+    if may_move(alloc, regs, kernel, for_loop, &moved)? {
         Ok(moved)
     } else {
         Ok(Vec::new(alloc))
@@ -513,21 +513,29 @@ fn loosen_named<'a>(
     homes: &mut Vec<Home<'a>>,
     scope: &mut Scope<'a>,
     kernel: &'a Kernel,
-    turns: &'a Loop,
+    for_loop: &'a Loop,
 ) -> Result<(), AllocError>
     requires assigned { IsAssignment 15 regs.now }
     requires vars { length (program_of kernel.now).vars ≤ length regs.now.registers }
     requires params { length (program_of kernel.now).params ≤ 8 }
-    requires turns { (program_of kernel.now).turns ≡ Some (turns_of turns.now) }
+    requires for_loop { (program_of kernel.now).for_loop ≡ Some (for_loop_of for_loop.now) }
     requires scope { scope_of scope.old ≡ typing.empty (items.loop_index (program_of kernel.now)) }
     requires homes { homes.old.items ≡ [] }
     ensures { OnOk result (places.new ≡ with_loose places.old (loosening.held_loosely (program_of kernel.now))) }
 {
     declare_names(scope, homes, regs, kernel)?;
-    declare_index(scope, homes, turns)?;
+    declare_index(scope, homes, for_loop)?;
     scope.inside = true;
-    let mut loose = counted_down(alloc, regs, kernel, turns, scope)?;
-    loosen_block(alloc, regs, kernel, turns, scope, &mut loose, &turns.body)?;
+    let mut loose = counted_down(alloc, regs, kernel, for_loop, scope)?;
+    loosen_block(
+        alloc,
+        regs,
+        kernel,
+        for_loop,
+        scope,
+        &mut loose,
+        &for_loop.body,
+    )?;
     places.loosen(loose);
     Ok(())
 }
@@ -538,15 +546,17 @@ pub fn loosen_names<'a>(
     places: &mut Places<'a>,
     regs: &Assigned,
     kernel: &'a Kernel,
-    turns: &'a Loop,
+    for_loop: &'a Loop,
 ) -> Result<(), AllocError>
     requires assigned { IsAssignment 15 regs.now }
     requires vars { length (program_of kernel.now).vars ≤ length regs.now.registers }
     requires params { length (program_of kernel.now).params ≤ 8 }
-    requires turns { (program_of kernel.now).turns ≡ Some (turns_of turns.now) }
+    requires for_loop { (program_of kernel.now).for_loop ≡ Some (for_loop_of for_loop.now) }
     ensures { OnOk result (places.new ≡ with_loose places.old (loosening.held_loosely (program_of kernel.now))) }
 {
-    let mut scope = empty(alloc, Some(turns.index.text()));
+    let mut scope = empty(alloc, Some(for_loop.index.text()));
     let mut homes = Vec::new(alloc);
-    loosen_named(alloc, places, regs, &mut homes, &mut scope, kernel, turns)
+    loosen_named(
+        alloc, places, regs, &mut homes, &mut scope, kernel, for_loop,
+    )
 }

@@ -1,7 +1,7 @@
 //! The loop variable.
 
 ghost use Rattle.std.specs.Prelude.{◌≡◌, Some, OnOk};
-ghost use Rattle.kernel_tree.specs.Plain.{turns_of};
+ghost use Rattle.kernel_tree.specs.Plain.{for_loop_of};
 ghost use Rattle.kernel_scope.specs.Scopes.{scope_of};
 ghost use Rattle.scalar_words.specs.View.{homes_of};
 ghost use Rattle.kernel_tree.specs.Typing as typing;
@@ -18,19 +18,19 @@ use std::alloc::AllocError;
 pub fn declare_index<'a>(
     scope: &mut Scope<'a>,
     homes: &mut Vec<Home<'a>>,
-    turns: &'a Loop,
+    for_loop: &'a Loop,
 ) -> Result<(), AllocError>
     ensures scope { OnOk result (scope_of scope.new
-        ≡ typing.after_turns (scope_of scope.old) (Some (turns_of turns.now))) }
+        ≡ typing.after_for_loop (scope_of scope.old) (Some (for_loop_of for_loop.now))) }
     ensures index { OnOk result ((scope_of scope.new).index ≡ (scope_of scope.old).index) }
     ensures homes { OnOk result (homes_of homes.new.items
-        ≡ loops.with_index (homes_of homes.old.items) (turns_of turns.now)) }
+        ≡ loops.with_index (homes_of homes.old.items) (for_loop_of for_loop.now)) }
 {
     homes.push(Home {
-        name: turns.index.text(),
+        name: for_loop.index.text(),
         register: index(),
         last_use: None,
     })?;
-    declare(scope, &turns.index, Binding::Index)?;
+    declare(scope, &for_loop.index, Binding::Index)?;
     Ok(())
 }

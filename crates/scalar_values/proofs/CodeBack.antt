@@ -9,7 +9,7 @@ use Rattle.kernel_tree.specs.Items.{term_size, stream_offset}
 use Rattle.kernel_tree.specs.Wrap.{is_signed}
 use Rattle.kernel_tree.specs.Typing.{Scope, lookup, own, element_type, index_type, side_type}
 use Rattle.kernel_meaning.specs.Operators.{word, wrapped}
-use Rattle.label_fix.specs.DraftRun.{Entry, Put, Place, Laid, following}
+use Rattle.label_fix.specs.DraftRun.{DraftEntry, Put, Place, Laid, following}
 use Rattle.label_fix.proofs.StretchSteps.{Resolves}
 use Rattle.scalar_words.specs.Layout.{OfNumber, Layout, Homes, reg_of, constant_at, register_at}
 use Rattle.scalar_words.specs.Words.{operation_code, word_code, copy_word, settle_word, condition, at_type}
@@ -25,15 +25,15 @@ use Rattle.kernel_tree.specs.declared.ops.BinaryOp.TheVariants as binary
 use Rattle.kernel_tree.specs.declared.ops.UnaryOp.TheVariants as unary
 
 module _ (D : Laid) (L : Layout) (fit : Assigned L) where
-  number_back : (o : Option ℤ) (inner : List Entry → List Entry) (rest : List Entry) → (Resolves D (inner rest) → Resolves D rest) → Resolves D (number_code o inner rest) → Resolves D rest
+  number_back : (o : Option ℤ) (inner : List DraftEntry → List DraftEntry) (rest : List DraftEntry) → (Resolves D (inner rest) → Resolves D rest) → Resolves D (number_code o inner rest) → Resolves D rest
   number_back (Some c) inner rest f h = word_back D (index_word c) rest h
   number_back None inner rest f h = f h
 
-  load_back : (o : Option Ty) (d p r : ℕ) (rest : List Entry) → Resolves D (load_code o d p r rest) → Resolves D rest
+  load_back : (o : Option Ty) (d p r : ℕ) (rest : List DraftEntry) → Resolves D (load_code o d p r rest) → Resolves D rest
   load_back None d p r rest h = h
   load_back (Some t) d p r rest h = h
 
-  operation_back : (op : BinaryOp) (signed : Bool) (d a c : ℕ) (rest : List Entry) → Resolves D (operation_code op signed d a c rest) → Resolves D rest
+  operation_back : (op : BinaryOp) (signed : Bool) (d a c : ℕ) (rest : List DraftEntry) → Resolves D (operation_code op signed d a c rest) → Resolves D rest
   operation_back binary.Add signed d a c rest h = h
   operation_back binary.Sub signed d a c rest h = h
   operation_back binary.Mul signed d a c rest h = h
@@ -43,59 +43,59 @@ module _ (D : Laid) (L : Layout) (fit : Assigned L) where
   operation_back binary.Min signed d a c rest h = h
   operation_back binary.Max signed d a c rest h = h
 
-  pub operator_back : (side : Side) (leaves : Bool) (want : Option Ty) (op : BinaryOp) (d a : ℕ) (rest : List Entry) → Resolves D (at_type want (λ t. operator_code side leaves op t d a rest) rest) → Resolves D rest
+  pub operator_back : (side : Side) (leaves : Bool) (want : Option Ty) (op : BinaryOp) (d a : ℕ) (rest : List DraftEntry) → Resolves D (at_type want (λ t. operator_code side leaves op t d a rest) rest) → Resolves D rest
   operator_back side leaves None op d a rest h = h
   operator_back (Number v) leaves (Some t) op d a rest h = word_back D (settle_word leaves t d) rest h
   operator_back (Register c) leaves (Some t) op d a rest h = word_back D (settle_word leaves t d) rest (operation_back op (is_signed t) d a c _ h)
   operator_back (Product p q) leaves (Some t) op d a rest h = word_back D (settle_word leaves t d) rest h
   operator_back (Moved kind n r) leaves (Some t) op d a rest h = word_back D (settle_word leaves t d) rest h
 
-  pub side_back : (number : Option ℕ) (fused : Bool) (whole parts : List Entry → List Entry) (rest : List Entry) → (Resolves D (whole rest) → Resolves D rest) → (Resolves D (parts rest) → Resolves D rest) → Resolves D (side_code number fused whole parts rest) → Resolves D rest
+  pub side_back : (number : Option ℕ) (fused : Bool) (whole parts : List DraftEntry → List DraftEntry) (rest : List DraftEntry) → (Resolves D (whole rest) → Resolves D rest) → (Resolves D (parts rest) → Resolves D rest) → Resolves D (side_code number fused whole parts rest) → Resolves D rest
   side_back (Some v) fused whole parts rest f g h = h
   side_back None true whole parts rest f g h = g h
   side_back None false whole parts rest f g h = f h
 
-  pub right_back : (number : Option ℕ) (inner : List Entry → List Entry) (rest : List Entry) → (Resolves D (inner rest) → Resolves D rest) → Resolves D (right_code number inner rest) → Resolves D rest
+  pub right_back : (number : Option ℕ) (inner : List DraftEntry → List DraftEntry) (rest : List DraftEntry) → (Resolves D (inner rest) → Resolves D rest) → Resolves D (right_code number inner rest) → Resolves D rest
   right_back (Some v) inner rest f h = h
   right_back None inner rest f h = f h
 
-  tested_back : (o : Option Bool) (sense : Bool) (number : Option ℕ) (a c k to : ℕ) (rest : List Entry) → Resolves D (tested_code o sense number a c k to rest) → Resolves D rest
+  tested_back : (o : Option Bool) (sense : Bool) (number : Option ℕ) (a c k to : ℕ) (rest : List DraftEntry) → Resolves D (tested_code o sense number a c k to rest) → Resolves D rest
   tested_back (Some is) sense number a c k to rest h = h
   tested_back None sense number a c k to rest h = h
 
-  placed_back : (wanted : Bool) (n : ℕ) (rest : List Entry) → Resolves D (placed_code wanted n rest) → Resolves D rest
+  placed_back : (wanted : Bool) (n : ℕ) (rest : List DraftEntry) → Resolves D (placed_code wanted n rest) → Resolves D rest
   placed_back true n rest h = h.1
   placed_back false n rest h = h
 
-  pub pick_back : (d p q n : ℕ) (rest : List Entry) → Resolves D (pick_code d p q n rest) → (following D n ≡ word_code (copy_word d q) (Place (n + 1) ∷ rest)) × ((following D (n + 1) ≡ rest) × Resolves D rest)
+  pub pick_back : (d p q n : ℕ) (rest : List DraftEntry) → Resolves D (pick_code d p q n rest) → (following D n ≡ word_code (copy_word d q) (Place (n + 1) ∷ rest)) × ((following D (n + 1) ≡ rest) × Resolves D rest)
   pick_back d p q n rest h =
       let k = word_back D (copy_word d p) _ h in
       (k.0, word_back D (copy_word d q) _ k.1)
 
-  choice_back : (o : Option ℕ) (flags jump : List Entry → List Entry) (d p q n : ℕ) (rest : List Entry) → ((rest : List Entry) → Resolves D (flags rest) → Resolves D rest) → ((rest : List Entry) → Resolves D (jump rest) → Resolves D rest) → Resolves D (choice_code o flags jump d p q n rest) → Resolves D rest
+  choice_back : (o : Option ℕ) (flags jump : List DraftEntry → List DraftEntry) (d p q n : ℕ) (rest : List DraftEntry) → ((rest : List DraftEntry) → Resolves D (flags rest) → Resolves D rest) → ((rest : List DraftEntry) → Resolves D (jump rest) → Resolves D rest) → Resolves D (choice_code o flags jump d p q n rest) → Resolves D rest
   choice_back (Some k) flags jump d p q n rest f g h = f _ h
   choice_back None flags jump d p q n rest f g h = (pick_back d p q n rest (g _ h)).1.1
 
-  abs_back : (leaves b : Bool) (t : Ty) (d a : ℕ) (rest : List Entry) → Resolves D (abs_code leaves b t d a rest) → Resolves D rest
+  abs_back : (leaves b : Bool) (t : Ty) (d a : ℕ) (rest : List DraftEntry) → Resolves D (abs_code leaves b t d a rest) → Resolves D rest
   abs_back leaves true t d a rest h = word_back D (settle_word leaves t d) rest h
   abs_back leaves false t d a rest h = word_back D (copy_word d a) rest h
 
-  cast_back : (low : Bool) (from : Option Ty) (t : Ty) (d a : ℕ) (rest : List Entry) → Resolves D (at_type from (λ u. word_code (convert_word low u t d a) rest) rest) → Resolves D rest
+  cast_back : (low : Bool) (from : Option Ty) (t : Ty) (d a : ℕ) (rest : List DraftEntry) → Resolves D (at_type from (λ u. word_code (convert_word low u t d a) rest) rest) → Resolves D rest
   cast_back low None t d a rest h = h
   cast_back low (Some u) t d a rest h = word_back D (convert_word low u t d a) rest h
 
-  unary_back : (leaves : Bool) (want : Option Ty) (op : UnaryOp) (d a : ℕ) (rest : List Entry) → Resolves D (at_type want (λ t. unary_code leaves op t d a rest) rest) → Resolves D rest
+  unary_back : (leaves : Bool) (want : Option Ty) (op : UnaryOp) (d a : ℕ) (rest : List DraftEntry) → Resolves D (at_type want (λ t. unary_code leaves op t d a rest) rest) → Resolves D rest
   unary_back leaves None op d a rest h = h
   unary_back leaves (Some t) unary.Neg d a rest h = word_back D (settle_word leaves t d) rest h
   unary_back leaves (Some t) unary.Flip d a rest h = word_back D (settle_word leaves t d) rest h
   unary_back leaves (Some t) unary.Abs d a rest h = abs_back leaves (is_signed t) t d a rest h
 
-  shift_back : (leaves : Bool) (want : Option Ty) (left : Bool) (n : ℤ) (d a : ℕ) (rest : List Entry) → Resolves D (at_type want (λ t. shift_code leaves left n t d a rest) rest) → Resolves D rest
+  shift_back : (leaves : Bool) (want : Option Ty) (left : Bool) (n : ℤ) (d a : ℕ) (rest : List DraftEntry) → Resolves D (at_type want (λ t. shift_code leaves left n t d a rest) rest) → Resolves D rest
   shift_back leaves None left n d a rest h = h
   shift_back leaves (Some t) left n d a rest h = word_back D (settle_word leaves t d) rest h
 
   mutual
-    pub loose_back : (e : Term) (hs : Homes) (s : Scope) (w : Extent) (want : Option Ty) (b n : ℕ) (rest : List Entry) → Resolves D (loose_code L hs s w want b n e rest) → Resolves D rest
+    pub loose_back : (e : Term) (hs : Homes) (s : Scope) (w : Extent) (want : Option Ty) (b n : ℕ) (rest : List DraftEntry) → Resolves D (loose_code L hs s w want b n e rest) → Resolves D rest
     loose_back (Literal z) hs s w want b n rest h = right_back (constant_at L (OfNumber z)) _ rest (const_back D (reg_of L b) (word (wrapped want z)) rest) h
     loose_back (Variable x) hs s w want b n rest h = h
     loose_back (Element a i) hs s w want b n rest h = load_back _ _ _ _ rest (right_back (place_of L (register_at hs a) (option_and_then element_type (lookup s a)) (stream_offset s.index i)) _ _ (number_back (stream_offset s.index i) _ _ (loose_back i hs s Whole (index_type s i) b n _)) h)
@@ -113,7 +113,7 @@ module _ (D : Laid) (L : Layout) (fit : Assigned L) where
     loose_back (Either x y) hs s w want b n rest h = h
     loose_back (Not e) hs s w want b n rest h = h
 
-    pub parts_back : (e : Term) (hs : Homes) (s : Scope) (w : Extent) (want : Option Ty) (b n : ℕ) (rest : List Entry) → Resolves D (parts_code L hs s w want b n e rest) → Resolves D rest
+    pub parts_back : (e : Term) (hs : Homes) (s : Scope) (w : Extent) (want : Option Ty) (b n : ℕ) (rest : List DraftEntry) → Resolves D (parts_code L hs s w want b n e rest) → Resolves D rest
     parts_back (Operation op x y) hs s w want b n rest h = loose_back y hs s (binary_asks s want op x y w) want _ _ rest (loose_back x hs s (binary_asks s want op x y w) want b n _ h)
     parts_back (Shift left e z) hs s w want b n rest h = loose_back e hs s (shift_asks s want left e z w) want b n rest h
     parts_back (Literal z) hs s w want b n rest h = h
@@ -127,7 +127,7 @@ module _ (D : Laid) (L : Layout) (fit : Assigned L) where
     parts_back (Either x y) hs s w want b n rest h = h
     parts_back (Not e) hs s w want b n rest h = h
 
-    flags_back : (e : Term) (hs : Homes) (s : Scope) (b n : ℕ) (rest : List Entry) → Resolves D (flags_code L hs s b n e rest) → Resolves D rest
+    flags_back : (e : Term) (hs : Homes) (s : Scope) (b n : ℕ) (rest : List DraftEntry) → Resolves D (flags_code L hs s b n e rest) → Resolves D rest
     flags_back (Comparison op x y) hs s b n rest h = right_back (compared_number (side_type s x y) y) _ (Put (compare_word (compared_number (side_type s x y) y) (home L hs s.index b x) (home L hs s.index (b + term_size s.index x) y)) ∷ rest) (loose_back y hs s Whole (side_type s x y) _ _ _) (loose_back x hs s Whole (side_type s x y) b n _ h)
     flags_back (Literal z) hs s b n rest h = h
     flags_back (Variable x) hs s b n rest h = h
@@ -141,7 +141,7 @@ module _ (D : Laid) (L : Layout) (fit : Assigned L) where
     flags_back (Either x y) hs s b n rest h = h
     flags_back (Not e) hs s b n rest h = h
 
-    pub jump_back : (e : Term) (hs : Homes) (s : Scope) (sense : Bool) (to b n : ℕ) (rest : List Entry) → Resolves D (jump_code L hs s sense to b n e rest) → Resolves D rest
+    pub jump_back : (e : Term) (hs : Homes) (s : Scope) (sense : Bool) (to b n : ℕ) (rest : List DraftEntry) → Resolves D (jump_code L hs s sense to b n e rest) → Resolves D rest
     jump_back (Comparison op x y) hs s sense to b n rest h =
         tested_back (zero_test op (compared_number (side_type s x y) y)) sense (compared_number (side_type s x y) y) _ _ (condition op (signed_side (side_type s x y))) to rest
         (right_back (compared_number (side_type s x y) y) _ _ (loose_back y hs s Whole (side_type s x y) _ _ _) (loose_back x hs s Whole (side_type s x y) b n _ h))
@@ -157,5 +157,5 @@ module _ (D : Laid) (L : Layout) (fit : Assigned L) where
     jump_back (Conversion e t) hs s sense to b n rest h = h
     jump_back (Choice c x y) hs s sense to b n rest h = h
 
-  pub value_back : (e : Term) (hs : Homes) (s : Scope) (want : Option Ty) (b n : ℕ) (rest : List Entry) → Resolves D (value_code L hs s want b n e rest) → Resolves D rest
+  pub value_back : (e : Term) (hs : Homes) (s : Scope) (want : Option Ty) (b n : ℕ) (rest : List DraftEntry) → Resolves D (value_code L hs s want b n e rest) → Resolves D rest
   value_back e hs s want b n rest h = loose_back e hs s Whole want b n rest h

@@ -5,7 +5,7 @@ use Rattle.machine_model.specs.Machine.{State, x_at, x_or_sp, with_x, next}
 use Rattle.machine_model.specs.Arithmetic.{difference, flags_of}
 use Rattle.a64_code.specs.Table.{subs_imm}
 use Rattle.kernel_meaning.specs.Operators.{word}
-use Rattle.label_fix.specs.DraftRun.{Entry, Put, Laid, word_of}
+use Rattle.label_fix.specs.DraftRun.{DraftEntry, Put, Laid, word_of}
 use Rattle.label_fix.proofs.StretchSteps.{Goes, put_goes}
 use Rattle.scalar_words.specs.Layout.{Layout}
 use Rattle.scalar_values.specs.ItemWords.{compare_word}
@@ -21,7 +21,7 @@ IsSide (Some v) r s y = v ≡ word y
 IsSide None r s y = x_at s r ≡ word y
 
 -- the flags of two integers, and all else as it was
-pub record Compared (D : Laid) (c : List Entry) (s : State) (rest : List Entry) (x y : ℤ) : Type 0 where
+pub record Compared (D : Laid) (c : List DraftEntry) (s : State) (rest : List DraftEntry) (x y : ℤ) : Type 0 where
   pub end : State
   pub goes : Goes D c s rest end 1
   pub flags : end.flags ≡ flags_of (word x) (word y)
@@ -29,7 +29,7 @@ pub record Compared (D : Laid) (c : List Entry) (s : State) (rest : List Entry) 
   pub others : (r : ℕ) → r ≢ 31 → x_at end r ≡ x_at s r
   pub kept : (L : Layout) (b e : ℕ) → Kept L s end b e
 
-pub compare_goes : (D : Laid) (number : Option ℕ) (rest : List Entry) (s : State) (a c : ℕ) (x y : ℤ) → ((v : ℕ) → number ≡ Some v → v < 4096) → a ≤ 25 → x_at s a ≡ word x → IsSide number c s y → Compared D (Put (compare_word number a c) ∷ rest) s rest x y
+pub compare_goes : (D : Laid) (number : Option ℕ) (rest : List DraftEntry) (s : State) (a c : ℕ) (x y : ℤ) → ((v : ℕ) → number ≡ Some v → v < 4096) → a ≤ 25 → x_at s a ≡ word x → IsSide number c s y → Compared D (Put (compare_word number a c) ∷ rest) s rest x y
 compare_goes D None rest s a c x y few hi ex ey = record {
   end = tested s a c;
   goes = tested_goes D rest s a c;

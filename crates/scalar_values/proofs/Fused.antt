@@ -20,7 +20,7 @@ use Rattle.kernel_meaning.specs.TypeValues.{IsOf, binary_leaves}
 use Rattle.kernel_meaning.specs.Eval.{on_both}
 use Rattle.kernel_meaning.proofs.Residues.{word-shl}
 use Rattle.kernel_meaning.proofs.ExtendedForm.{shift-kept}
-use Rattle.label_fix.specs.DraftRun.{Entry, Laid}
+use Rattle.label_fix.specs.DraftRun.{DraftEntry, Laid}
 use Rattle.label_fix.proofs.StretchSteps.{Goes, Stops, chain, stop_after, stop_more}
 use Rattle.scalar_words.specs.Layout.{Layout, Homes, reg_of, last_use_at, IsMade}
 use Rattle.scalar_words.specs.Words.{is_narrow}
@@ -40,12 +40,12 @@ use Rattle.scalar_values.proofs.Operators.{IsOperand, IsTaken, shifted-word, set
 use Rattle.kernel_tree.specs.declared.ops.BinaryOp.TheVariants as binary
 
 -- a right side, or a fault of a read
-pub data Sided (D : Laid) (L : Layout) (c : List Entry) (s : State) (rest : List Entry) (b e : ℕ) (Q : State → ℤ → Type 0) (m : Memory) (most : ℕ) : Option ℤ → Type 0 where
+pub data Sided (D : Laid) (L : Layout) (c : List DraftEntry) (s : State) (rest : List DraftEntry) (b e : ℕ) (Q : State → ℤ → Type 0) (m : Memory) (most : ℕ) : Option ℤ → Type 0 where
   no_side : Stops D c s Read m most → Sided D L c s rest b e Q m most None
   a_side : {y : ℤ} (end : State) → Goes D c s rest end most → Kept L s end b e → Q end y → Sided D L c s rest b e Q m most (Some y)
 
 -- a value in a register and a right side, or a fault of a read
-pub data Pairs (D : Laid) (L : Layout) (c : List Entry) (s : State) (rest : List Entry) (b e hx : ℕ) (Q : State → ℤ → Type 0) (m : Memory) (most : ℕ) : Option ℤ → Option ℤ → Type 0 where
+pub data Pairs (D : Laid) (L : Layout) (c : List DraftEntry) (s : State) (rest : List DraftEntry) (b e hx : ℕ) (Q : State → ℤ → Type 0) (m : Memory) (most : ℕ) : Option ℤ → Option ℤ → Type 0 where
   no_left : {o : Option ℤ} → Stops D c s Read m most → Pairs D L c s rest b e hx Q m most None o
   no_right : {x : ℤ} → Stops D c s Read m most → Pairs D L c s rest b e hx Q m most (Some x) None
   pair : {x y : ℤ} (end : State) → Goes D c s rest end most → Kept L s end b e → x_at end hx ≡ word x → Q end y → Pairs D L c s rest b e hx Q m most (Some x) (Some y)
@@ -138,11 +138,11 @@ led_is L hs s op w want b x y h =
     }
 
 -- the code of a right side of which nothing stands in the word
-alone_by : (number : Option ℕ) (more : Bool) (whole parts : List Entry → List Entry) (rest : List Entry) → (is_none number && more) ≡ true → side_code number false whole parts rest ≡ whole rest
+alone_by : (number : Option ℕ) (more : Bool) (whole parts : List DraftEntry → List DraftEntry) (rest : List DraftEntry) → (is_none number && more) ≡ true → side_code number false whole parts rest ≡ whole rest
 alone_by (Some v) more whole parts rest h = absurd cc
 alone_by None more whole parts rest h = refl
 
-pub alone_code : (s : Scope) (op : BinaryOp) (w : Extent) (want : Option Ty) (x y : Term) (whole parts : List Entry → List Entry) (rest : List Entry) → stands_alone s op w want x y ≡ true → side_code (added_number op want y) false whole parts rest ≡ whole rest
+pub alone_code : (s : Scope) (op : BinaryOp) (w : Extent) (want : Option Ty) (x y : Term) (whole parts : List DraftEntry → List DraftEntry) (rest : List DraftEntry) → stands_alone s op w want x y ≡ true → side_code (added_number op want y) false whole parts rest ≡ whole rest
 alone_code s op w want x y whole parts rest h = alone_by (added_number op want y) (makes_way x y || not (is_fused s op w want y)) whole parts rest h
 
 -- sides that change places
@@ -195,7 +195,7 @@ operand_kept L (Moved kind c r) b n e x is hi lasts k h = ap (λ u. shifted_word
 
 module _ (D : Laid) (L : Layout) (fit : Assigned L) where
   -- a left side that the word takes, and then a value in a register
-  pub led_pairs : {c c2 d : List Entry} {s : State} {m : Memory} {b b1 e hy m1 m2 : ℕ} {o1 o2 : Option ℤ} (side : Side) (n most : ℕ) → m1 + m2 ≤ most → b ≤ b1 → e ≡ b1 + n → IsHigh side → side_lasts L b1 n side ≡ true
+  pub led_pairs : {c c2 d : List DraftEntry} {s : State} {m : Memory} {b b1 e hy m1 m2 : ℕ} {o1 o2 : Option ℤ} (side : Side) (n most : ℕ) → m1 + m2 ≤ most → b ≤ b1 → e ≡ b1 + n → IsHigh side → side_lasts L b1 n side ≡ true
       → Sided D L c s c2 b b1 (IsOperand side) m m1 o1 → ((t : State) → Kept L s t b b1 → Gives D L c2 t d b1 e hy m m2 o2) → Pairs D L c s d b e hy (IsOperand side) m most o2 o1
   led_pairs {c = c} {d = d} {s = s} {m = m} {b = b} {e = e} {hy = hy} {o2 = o2} side n most le l1 is hi lasts (no_side k) right = stopped o2
     where
@@ -209,7 +209,7 @@ module _ (D : Laid) (L : Layout) (fit : Assigned L) where
       second (a_value g) = pair g.end (chain most le goes g.goes) (kept_on L b e (omega arith) (omega arith) (omega arith) (omega arith) kept g.kept) g.value (operand_kept L side b1 n e x is hi lasts g.kept held)
 
   -- an operator whose word takes its left side
-  pub turned_runs : {rest : List Entry} {s : State} (side : Side) (op : BinaryOp) (leaves : Bool) (w : Extent) (t : Ty) (x y : ℤ) (a d : ℕ) → is_commutative op ≡ true → length s.x ≡ 31 → a ≤ 25 → d ≤ 25 → (leaves ≡ true → binary_leaves op ≡ true)
+  pub turned_runs : {rest : List DraftEntry} {s : State} (side : Side) (op : BinaryOp) (leaves : Bool) (w : Extent) (t : Ty) (x y : ℤ) (a d : ℕ) → is_commutative op ≡ true → length s.x ≡ 31 → a ≤ 25 → d ≤ 25 → (leaves ≡ true → binary_leaves op ≡ true)
       → (asked_extent (binary_joins op) leaves w (Some t) ≡ Whole → IsOf t x × IsOf t y) → (asked_extent (binary_joins op) leaves w (Some t) ≡ Whole → leaves ≡ false → word (wrap t (binary_on op x y)) ≡ word (binary_on op x y))
       → IsTaken op side → IsOperand side s x → x_at s a ≡ word y
       → Sets D (operator_code side (settles (within_type w t) (binary_joins op) leaves) op t d a rest) s rest d (loose_binary op w (Some t) x y) 4

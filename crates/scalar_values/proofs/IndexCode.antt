@@ -9,19 +9,19 @@ use Rattle.scalar_values.specs.Code.{number_code, loose_code, index_code}
 use Rattle.kernel_tree.specs.Plain.{Term}
 use Rattle.kernel_tree.specs.Items.{term_size, index_size, index_items, stream_offset}
 use Rattle.kernel_tree.specs.Typing.{Scope, index_type}
-use Rattle.label_fix.specs.DraftRun.{Entry}
+use Rattle.label_fix.specs.DraftRun.{DraftEntry}
 use Rattle.scalar_words.specs.Layout.{Constant, Form, Loose, Layout, Homes}
 use Rattle.scalar_values.specs.HeldNumbers.{hold_index}
 use Rattle.scalar_values.specs.Covers.{index_form, stands_together, index_covers}
 
 -- ---- indexes
 
-index_by : (L : Layout) (hs : Homes) (s : Scope) (b n : ℕ) (e : Term) (rest : List Entry) (o : Option ℤ) → option_map index_word o ≡ None → loose_code L hs s Whole (index_type s e) b n e rest ≡ number_code o (loose_code L hs s Whole (index_type s e) b n e) rest
+index_by : (L : Layout) (hs : Homes) (s : Scope) (b n : ℕ) (e : Term) (rest : List DraftEntry) (o : Option ℤ) → option_map index_word o ≡ None → loose_code L hs s Whole (index_type s e) b n e rest ≡ number_code o (loose_code L hs s Whole (index_type s e) b n e) rest
 index_by L hs s b n e rest None h = refl
 index_by L hs s b n e rest (Some c) h = absurd cc
 
 -- the code of an index that is computed
-pub index_is : (L : Layout) (hs : Homes) (s : Scope) (b n : ℕ) (e : Term) (want : Option Ty) (rest : List Entry) → option_map index_word (stream_offset s.index e) ≡ None → want ≡ index_type s e → loose_code L hs s Whole want b n e rest ≡ index_code L hs s b n e rest
+pub index_is : (L : Layout) (hs : Homes) (s : Scope) (b n : ℕ) (e : Term) (want : Option Ty) (rest : List DraftEntry) → option_map index_word (stream_offset s.index e) ≡ None → want ≡ index_type s e → loose_code L hs s Whole want b n e rest ≡ index_code L hs s b n e rest
 index_is L hs s b n e want rest h q = ap (λ w. loose_code L hs s Whole w b n e rest) q ∙ index_by L hs s b n e rest (stream_offset s.index e) h
 
 -- ---- the items of an index

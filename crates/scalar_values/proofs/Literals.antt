@@ -8,7 +8,7 @@ use Rattle.kernel_tree.specs.Wrap.{wrap}
 use Rattle.kernel_tree.specs.Typing.{Local}
 use Rattle.kernel_meaning.specs.Operators.{word}
 use Rattle.kernel_meaning.specs.Eval.{Names}
-use Rattle.label_fix.specs.DraftRun.{Entry, Laid}
+use Rattle.label_fix.specs.DraftRun.{DraftEntry, Laid}
 use Rattle.label_fix.proofs.StretchSteps.{stay}
 use Rattle.scalar_words.specs.Layout.{OfNumber, Layout, Homes, reg_of, last_use_at, constant_at, IsMade}
 use Rattle.scalar_words.specs.Words.{const_code}
@@ -29,7 +29,7 @@ module _ (D : Laid) (L : Layout) (fit : Assigned L) where
   literal_apart None z b user p is h lo up made = fit.apart p b lo (omega (arith, h, up)) made
   literal_apart (Some r) z b user p is h lo up made = λ e. absurd (let low = (fit.constants (OfNumber z) r is).0 in let above = fit.low p made in omega (arith, low, above, e))
 
-  pub literal_runs : (o : Option ℕ) {W : Fixed L} {hs : Homes} {ls : List Local} {stand names : Names} {m : Memory} {st : State} {rest : List Entry} (z : ℤ) (T : Ty) (b user : ℕ) → constant_at L (OfNumber z) ≡ o → b < user → Standing W hs ls stand names m b st → last_use_at L b ≡ user → wrap T z ≡ z
+  pub literal_runs : (o : Option ℕ) {W : Fixed L} {hs : Homes} {ls : List Local} {stand names : Names} {m : Memory} {st : State} {rest : List DraftEntry} (z : ℤ) (T : Ty) (b user : ℕ) → constant_at L (OfNumber z) ≡ o → b < user → Standing W hs ls stand names m b st → last_use_at L b ≡ user → wrap T z ≡ z
       → Gives D L (right_code o (const_code (reg_of L b) (word (wrap T z))) rest) st rest b (b + 1) (unwrap_or o (reg_of L b)) m (literal_words o) (Some (wrap T z))
   literal_runs None z T b user is le at h same = a_value (const_runs D L fit b (word (wrap T z)) (wrap T z) b (b + 1) at.sized (omega arith) (omega arith) (omega (arith, h, le)) refl)
   literal_runs (Some r) {W = W} {st = st} z T b user is le at h same =

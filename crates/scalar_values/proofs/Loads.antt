@@ -17,7 +17,7 @@ use Rattle.guest_types.proofs.Stores.{loaded-below}
 use Rattle.machine_model.specs.declared.outcome.StopKind.TheVariants.{Read}
 use Rattle.machine_model.specs.InstructionTable.{Listed}
 use Rattle.machine_model.specs.Machine.{State, Step, Went, Stopped, x_at, x_or_sp}
-use Rattle.label_fix.specs.DraftRun.{Entry, Put, Laid, effect, word_of}
+use Rattle.label_fix.specs.DraftRun.{DraftEntry, Put, Laid, effect, word_of}
 use Rattle.label_fix.proofs.StretchSteps.{Stops, stay, put_goes, put_stops}
 use Rattle.scalar_words.specs.Layout.{Layout, reg_of, IsMade}
 use Rattle.scalar_values.specs.Fits.{IsSmall}
@@ -62,7 +62,7 @@ pub word-sum : (a b : ℤ) → word (a +ℤ b) ≡ sum (word a) (word b)
 word-sum a b = word-add a b
 
 -- a value in a register, or a fault of a read
-pub data Gives (D : Laid) (L : Layout) (c : List Entry) (s : State) (rest : List Entry) (b e r : ℕ) (m : Memory) (most : ℕ) : Option ℤ → Type 0 where
+pub data Gives (D : Laid) (L : Layout) (c : List DraftEntry) (s : State) (rest : List DraftEntry) (b e r : ℕ) (m : Memory) (most : ℕ) : Option ℤ → Type 0 where
   no_value : Stops D c s Read m most → Gives D L c s rest b e r m most None
   a_value : {v : ℤ} → Gets D L c s rest b e r v most → Gives D L c s rest b e r m most (Some v)
 
@@ -109,7 +109,7 @@ load_is t d p r s base x le e f =
     load_does t d p r s ∙ ap (λ a. load_to s d a (byte_count t) (load_extended t)) (ap (λ b. sum b (scaled t (x_at s r))) (not_sp s p le) ∙ address_is t base x (x_at s p) (x_at s r) e f)
 
 module _ (D : Laid) (L : Layout) (fit : Assigned L) where
-  load_by : {rest : List Entry} {s : State} {m : Memory} {i : Listed} (t : Ty) (a p b e : ℕ) (o : Result ℕ AccessFault) → length s.x ≡ 31 → b ≤ p → p < e → IsMade L p → IsMemory m → loaded m a (byte_count t) ≡ o → loaded s.memory a (byte_count t) ≡ o → s.memory ≡ m → effect i s ≡ load_to s (reg_of L p) a (byte_count t) (load_extended t) → Gives D L (Put i ∷ rest) s rest b e (reg_of L p) m 1 (read_value t o)
+  load_by : {rest : List DraftEntry} {s : State} {m : Memory} {i : Listed} (t : Ty) (a p b e : ℕ) (o : Result ℕ AccessFault) → length s.x ≡ 31 → b ≤ p → p < e → IsMade L p → IsMemory m → loaded m a (byte_count t) ≡ o → loaded s.memory a (byte_count t) ≡ o → s.memory ≡ m → effect i s ≡ load_to s (reg_of L p) a (byte_count t) (load_extended t) → Gives D L (Put i ∷ rest) s rest b e (reg_of L p) m 1 (read_value t o)
   load_by {rest = rest} {s = s} {m = m} {i = i} t a p b e (Ok n) sized le lt made good is has same h =
       let d = reg_of L p in
       let v = load_extended t n in
@@ -125,13 +125,13 @@ module _ (D : Laid) (L : Layout) (fit : Assigned L) where
       let stop : effect i s ≡ Stopped Read s.pc f.address m = h ∙ ap (λ o. elim o as (λ o. Step) [ Ok v ↦ write s d (load_extended t v) | Err fault ↦ Stopped Read s.pc fault.address s.memory ]) has ∙ ap (λ m. Stopped Read s.pc f.address m) same in
       no_value (put_stops s.pc f.address stop)
 
-  pub load_runs : {rest : List Entry} {s : State} {m : Memory} (t : Ty) (base x : ℤ) (q r p b e : ℕ) → length s.x ≡ 31 → b ≤ p → p < e → IsMade L p → IsMemory m → s.memory ≡ m → q ≤ 25 → x_at s q ≡ word base → x_at s r ≡ word x → Gives D L (Put (load t (reg_of L p) q r) ∷ rest) s rest b e (reg_of L p) m 1 (read_value t (loaded m (address t base x) (byte_count t)))
+  pub load_runs : {rest : List DraftEntry} {s : State} {m : Memory} (t : Ty) (base x : ℤ) (q r p b e : ℕ) → length s.x ≡ 31 → b ≤ p → p < e → IsMade L p → IsMemory m → s.memory ≡ m → q ≤ 25 → x_at s q ≡ word base → x_at s r ≡ word x → Gives D L (Put (load t (reg_of L p) q r) ∷ rest) s rest b e (reg_of L p) m 1 (read_value t (loaded m (address t base x) (byte_count t)))
   load_runs {s = s} {m = m} t base x q r p b e sized le lt made good same hi eb ex =
       load_by t (address t base x) p b e (loaded m (address t base x) (byte_count t)) sized le lt made good refl (ap (λ n. loaded n (address t base x) (byte_count t)) same) same (load_is t (reg_of L p) q r s base x hi eb ex)
 
   -- ---- an index
 
-  index_sum : (s : State) (i c : ℤ) (by : Listed) (n : ℕ) (rest : List Entry) (b e : ℕ) → length s.x ≡ 31 → effect by s ≡ Went (wrote s 26 n) → n ≡ word (i +ℤ c) → Gets D L (Put by ∷ rest) s rest b e 26 (i +ℤ c) 1
+  index_sum : (s : State) (i c : ℤ) (by : Listed) (n : ℕ) (rest : List DraftEntry) (b e : ℕ) → length s.x ≡ 31 → effect by s ≡ Went (wrote s 26 n) → n ≡ word (i +ℤ c) → Gets D L (Put by ∷ rest) s rest b e 26 (i +ℤ c) 1
   index_sum s i c by n rest b e sized does is = record {
     end = wrote s 26 n;
     goes = put_goes does;
@@ -140,7 +140,7 @@ module _ (D : Laid) (L : Layout) (fit : Assigned L) where
   }
 
   -- an index into its register
-  pub index_runs : {rest : List Entry} {s : State} (i c : ℤ) (b e : ℕ) → length s.x ≡ 31 → x_at s 9 ≡ word i → IsSmall c → Gets D L (word_code (index_word c) rest) s rest b e (index_register (index_word c)) (i +ℤ c) 1
+  pub index_runs : {rest : List DraftEntry} {s : State} (i c : ℤ) (b e : ℕ) → length s.x ≡ 31 → x_at s 9 ≡ word i → IsSmall c → Gets D L (word_code (index_word c) rest) s rest b e (index_register (index_word c)) (i +ℤ c) 1
   index_runs {s = s} i (pos zero) b e sized at small =
       record { end = s; goes = stay 1; kept = kept_none L s b e; value = at ∙ (let w = word-sum i (pos 0) in let h = word-below i in omega (arith, w, h)) }
   index_runs {rest = rest} {s = s} i (pos (suc c)) b e sized at small =

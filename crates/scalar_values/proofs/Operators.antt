@@ -22,7 +22,7 @@ use Rattle.a64_code.specs.Table.{subs, csel, orr, add_imm, sub_imm}
 use Rattle.scalar_values.specs.Code.{takes_product, takes_shift}
 use Rattle.scalar_values.proofs.Numbers.{IsAddend, IsSum}
 use Rattle.scalar_words.proofs.Compare.{compared}
-use Rattle.label_fix.specs.DraftRun.{Entry, Put, Laid, ins, effect, word_of}
+use Rattle.label_fix.specs.DraftRun.{DraftEntry, Put, Laid, ins, effect, word_of}
 use Rattle.label_fix.proofs.StretchSteps.{put_goes, chain}
 use Rattle.scalar_words.specs.Layout.{Layout, reg_of, IsMade}
 use Rattle.scalar_words.specs.Words.{operation_code, word_code, copy_word, extend_word, settle_word}
@@ -121,7 +121,7 @@ unjoined binary.Max j = refl
 
 module _ (D : Laid) (L : Layout) (fit : Assigned L) where
   -- the absolute value
-  abs_sets : {rest : List Entry} {s : State} (leaves sg : Bool) (t : Ty) (x : ℤ) (a d : ℕ) → length s.x ≡ 31 → a ≤ 25 → d ≤ 25 → InRange sg x → (sg ≡ false → word (wrap t (pos (unsigned_abs x))) ≡ word (pos (unsigned_abs x))) → (leaves ≡ false → word (wrap t (pos (unsigned_abs x))) ≡ word (pos (unsigned_abs x))) → x_at s a ≡ word x → Sets D (abs_code leaves sg t d a rest) s rest d (wrap t (pos (unsigned_abs x))) 4
+  abs_sets : {rest : List DraftEntry} {s : State} (leaves sg : Bool) (t : Ty) (x : ℤ) (a d : ℕ) → length s.x ≡ 31 → a ≤ 25 → d ≤ 25 → InRange sg x → (sg ≡ false → word (wrap t (pos (unsigned_abs x))) ≡ word (pos (unsigned_abs x))) → (leaves ≡ false → word (wrap t (pos (unsigned_abs x))) ≡ word (pos (unsigned_abs x))) → x_at s a ≡ word x → Sets D (abs_code leaves sg t d a rest) s rest d (wrap t (pos (unsigned_abs x))) 4
   abs_sets {rest = rest} {s = s} leaves false t x a d sized la hi rx kept stays ex =
       set_more 4 (omega arith) (copied_sets D L fit d a (wrap t (pos (unsigned_abs x))) sized (omega (arith, hi)) (ex ∙ same-abs x rx ∙ sym (kept refl)))
   abs_sets {rest = rest} {s = s} leaves true t x a d sized la hi rx kept stays ex =
@@ -169,7 +169,7 @@ module _ (D : Laid) (L : Layout) (fit : Assigned L) where
       ∙ into s d (sum (x_or_sp s a) ((4096 - v % 4096) % 4096 * 2 ^ (12 * 0))) hi ∙ ap₂ (λ m n. Went (wrote s d ((m + n) % 2 ^ 64))) (not_sp s a la) low
 
   -- the same with a number that the word holds as the right side
-  sum_sets : {rest : List Entry} {s : State} (v : ℕ) (op : BinaryOp) (leaves : Bool) (t : Ty) (x y : ℤ) (a d : ℕ) → IsSum op v → length s.x ≡ 31 → a ≤ 25 → d ≤ 25 → (leaves ≡ false → word (wrap t (binary_on op x y)) ≡ word (binary_on op x y)) → x_at s a ≡ word x → v ≡ word y
+  sum_sets : {rest : List DraftEntry} {s : State} (v : ℕ) (op : BinaryOp) (leaves : Bool) (t : Ty) (x y : ℤ) (a d : ℕ) → IsSum op v → length s.x ≡ 31 → a ≤ 25 → d ≤ 25 → (leaves ≡ false → word (wrap t (binary_on op x y)) ≡ word (binary_on op x y)) → x_at s a ≡ word x → v ≡ word y
       → Sets D (Put (sum_word op v d a) ∷ word_code (settle_word leaves t d) rest) s rest d (wrap t (binary_on op x y)) 2
   sum_sets {s = s} v binary.Add leaves t x y a d adds sized la hi kept ex ey =
       settle_sets D L fit leaves t d (sum (x_at s a) v) (x +ℤ y) sized hi (number_goes v a d s (nat_lt v 4096) refl (let w = word-below y in omega (arith, ey, w)) adds la hi) (ap₂ sum ex ey ∙ sym (word-add x y)) kept
@@ -183,7 +183,7 @@ module _ (D : Laid) (L : Layout) (fit : Assigned L) where
   sum_sets v binary.Max leaves t x y a d adds sized la hi kept ex ey = absurd adds
 
   -- a product that the word of an operator takes, and a register that it shifts
-  product_sets : {rest : List Entry} {s : State} (op : BinaryOp) (leaves : Bool) (t : Ty) (x y : ℤ) (a p q d : ℕ) → takes_product op ≡ true → length s.x ≡ 31 → d ≤ 25 → (leaves ≡ false → word (wrap t (binary_on op x y)) ≡ word (binary_on op x y)) → x_at s a ≡ word x → x_at s p * x_at s q % 2 ^ 64 ≡ word y
+  product_sets : {rest : List DraftEntry} {s : State} (op : BinaryOp) (leaves : Bool) (t : Ty) (x y : ℤ) (a p q d : ℕ) → takes_product op ≡ true → length s.x ≡ 31 → d ≤ 25 → (leaves ≡ false → word (wrap t (binary_on op x y)) ≡ word (binary_on op x y)) → x_at s a ≡ word x → x_at s p * x_at s q % 2 ^ 64 ≡ word y
       → Sets D (Put (product_word op d a p q) ∷ word_code (settle_word leaves t d) rest) s rest d (wrap t (binary_on op x y)) 2
   product_sets {s = s} binary.Add leaves t x y a p q d takes sized hi kept ex ey = settle_sets D L fit leaves t d (sum (x_at s a) (x_at s p * x_at s q % 2 ^ 64)) (x +ℤ y) sized hi refl (ap₂ sum ex ey ∙ sym (word-add x y)) kept
   product_sets {s = s} binary.Sub leaves t x y a p q d takes sized hi kept ex ey = settle_sets D L fit leaves t d (difference (x_at s a) (x_at s p * x_at s q % 2 ^ 64)) (x -ℤ y) sized hi refl (ap₂ difference ex ey ∙ sym (word-difference x y)) kept
@@ -194,7 +194,7 @@ module _ (D : Laid) (L : Layout) (fit : Assigned L) where
   product_sets binary.Min leaves t x y a p q d takes sized hi kept ex ey = absurd cc
   product_sets binary.Max leaves t x y a p q d takes sized hi kept ex ey = absurd cc
 
-  moved_sets : {rest : List Entry} {s : State} (op : BinaryOp) (leaves : Bool) (t : Ty) (x y : ℤ) (a kind n r d : ℕ) → takes_shift op ≡ true → length s.x ≡ 31 → d ≤ 25 → (leaves ≡ false → word (wrap t (binary_on op x y)) ≡ word (binary_on op x y)) → x_at s a ≡ word x → shifted_word kind (x_at s r) n ≡ word y
+  moved_sets : {rest : List DraftEntry} {s : State} (op : BinaryOp) (leaves : Bool) (t : Ty) (x y : ℤ) (a kind n r d : ℕ) → takes_shift op ≡ true → length s.x ≡ 31 → d ≤ 25 → (leaves ≡ false → word (wrap t (binary_on op x y)) ≡ word (binary_on op x y)) → x_at s a ≡ word x → shifted_word kind (x_at s r) n ≡ word y
       → Sets D (Put (shift_word op d a kind n r) ∷ word_code (settle_word leaves t d) rest) s rest d (wrap t (binary_on op x y)) 2
   moved_sets {s = s} binary.Add leaves t x y a kind n r d takes sized hi kept ex ey = settle_sets D L fit leaves t d (sum (x_at s a) (shifted_word kind (x_at s r) n)) (x +ℤ y) sized hi refl (ap₂ sum ex ey ∙ sym (word-add x y)) kept
   moved_sets {s = s} binary.Sub leaves t x y a kind n r d takes sized hi kept ex ey = settle_sets D L fit leaves t d (difference (x_at s a) (shifted_word kind (x_at s r) n)) (x -ℤ y) sized hi refl (ap₂ difference ex ey ∙ sym (word-difference x y)) kept
@@ -206,7 +206,7 @@ module _ (D : Laid) (L : Layout) (fit : Assigned L) where
   moved_sets binary.Max leaves t x y a kind n r d takes sized hi kept ex ey = absurd cc
 
   -- an operator that joins low bits, by what its word takes as its right side
-  joined_runs : {rest : List Entry} {s : State} (side : Side) (op : BinaryOp) (leaves : Bool) (t u : Ty) (x y : ℤ) (a d : ℕ) → binary_joins op ≡ true → length s.x ≡ 31 → a ≤ 25 → d ≤ 25 → IsTaken op side → (leaves ≡ false → word (wrap u (binary_on op x y)) ≡ word (binary_on op x y)) → settle_word leaves u d ≡ settle_word leaves t d → x_at s a ≡ word x → IsOperand side s y
+  joined_runs : {rest : List DraftEntry} {s : State} (side : Side) (op : BinaryOp) (leaves : Bool) (t u : Ty) (x y : ℤ) (a d : ℕ) → binary_joins op ≡ true → length s.x ≡ 31 → a ≤ 25 → d ≤ 25 → IsTaken op side → (leaves ≡ false → word (wrap u (binary_on op x y)) ≡ word (binary_on op x y)) → settle_word leaves u d ≡ settle_word leaves t d → x_at s a ≡ word x → IsOperand side s y
       → Sets D (operator_code side leaves op t d a rest) s rest d (wrap u (binary_on op x y)) 3
   joined_runs {rest = rest} {s = s} (Register c) op leaves t u x y a d j sized la hi takes kept same ex ey =
       subst (λ w. Sets D (operation_code op (is_signed t) d a c (word_code w rest)) s rest d (wrap u (binary_on op x y)) 3) same (set_more 3 (omega arith) (joined_sets D L fit op leaves (is_signed t) u x y a c d j sized hi kept ex ey))
@@ -218,7 +218,7 @@ module _ (D : Laid) (L : Layout) (fit : Assigned L) where
       subst (λ w. Sets D (Put (shift_word op d a kind n r) ∷ word_code w rest) s rest d (wrap u (binary_on op x y)) 3) same (set_more 3 (omega arith) (moved_sets op leaves u x y a kind n r d takes sized hi kept ex ey))
 
   -- one that does not, at values of its type
-  chosen_runs : {rest : List Entry} {s : State} (side : Side) (op : BinaryOp) (t : Ty) (x y : ℤ) (a d : ℕ) → binary_leaves op ≡ false → length s.x ≡ 31 → a ≤ 25 → d ≤ 25 → IsTaken op side → IsOf t x → IsOf t y → x_at s a ≡ word x → IsOperand side s y
+  chosen_runs : {rest : List DraftEntry} {s : State} (side : Side) (op : BinaryOp) (t : Ty) (x y : ℤ) (a d : ℕ) → binary_leaves op ≡ false → length s.x ≡ 31 → a ≤ 25 → d ≤ 25 → IsTaken op side → IsOf t x → IsOf t y → x_at s a ≡ word x → IsOperand side s y
       → Sets D (operator_code side (binary_leaves op) op t d a rest) s rest d (wrap t (binary_on op x y)) 3
   chosen_runs (Register c) op t x y a d un sized la hi takes rx ry ex ey = binary_sets D L fit op t x y a c d sized hi rx ry ex ey
   chosen_runs side binary.Add t x y a d un sized la hi takes rx ry ex ey = absurd cc
@@ -235,11 +235,11 @@ module _ (D : Laid) (L : Layout) (fit : Assigned L) where
   chosen_runs (Moved kind n r) binary.Max t x y a d un sized la hi takes rx ry ex ey = absurd cc
 
   -- the value of a result, in other words
-  pub set_as : {c rest : List Entry} {s : State} {d most : ℕ} {v z : ℤ} → word v ≡ word z → Sets D c s rest d v most → Sets D c s rest d z most
+  pub set_as : {c rest : List DraftEntry} {s : State} {d most : ℕ} {v z : ℤ} → word v ≡ word z → Sets D c s rest d v most → Sets D c s rest d z most
   set_as e g = record { end = g.end; goes = g.goes; changes = g.changes; value = g.value ∙ e; shaped = g.shaped }
 
   -- an operator of which so much is asked for, and whose result is known to stay in the extended form or not
-  operation_few : {rest : List Entry} {s : State} (side : Side) (op : BinaryOp) (leaves : Bool) (w : Extent) (t : Ty) (x y : ℤ) (a d : ℕ) → length s.x ≡ 31 → a ≤ 25 → d ≤ 25 → (leaves ≡ true → binary_leaves op ≡ true)
+  operation_few : {rest : List DraftEntry} {s : State} (side : Side) (op : BinaryOp) (leaves : Bool) (w : Extent) (t : Ty) (x y : ℤ) (a d : ℕ) → length s.x ≡ 31 → a ≤ 25 → d ≤ 25 → (leaves ≡ true → binary_leaves op ≡ true)
       → (asked_extent (binary_joins op) leaves w (Some t) ≡ Whole → IsOf t x × IsOf t y) → (asked_extent (binary_joins op) leaves w (Some t) ≡ Whole → leaves ≡ false → word (wrap t (binary_on op x y)) ≡ word (binary_on op x y))
       → IsTaken op side → x_at s a ≡ word x → IsOperand side s y
       → Sets D (operator_code side (settles (within_type w t) (binary_joins op) leaves) op t d a rest) s rest d (loose_binary op w (Some t) x y) 3
@@ -255,32 +255,32 @@ module _ (D : Laid) (L : Layout) (fit : Assigned L) where
       by true false false el ej f r k = let in_type = r refl in let un = unjoined op ej in subst (λ b. Sets D (operator_code side b op t d a rest) s rest d (wrap t (binary_on op x y)) 3) un (chosen_runs side op t x y a d un sized la hi takes in_type.0 in_type.1 ex ey)
       by false false false el ej f r k = let in_type = r refl in let un = unjoined op ej in subst (λ b. Sets D (operator_code side b op t d a rest) s rest d (wrap t (binary_on op x y)) 3) un (chosen_runs side op t x y a d un sized la hi takes in_type.0 in_type.1 ex ey)
 
-  pub operation_runs : {rest : List Entry} {s : State} (side : Side) (op : BinaryOp) (leaves : Bool) (w : Extent) (t : Ty) (x y : ℤ) (a d : ℕ) → length s.x ≡ 31 → a ≤ 25 → d ≤ 25 → (leaves ≡ true → binary_leaves op ≡ true)
+  pub operation_runs : {rest : List DraftEntry} {s : State} (side : Side) (op : BinaryOp) (leaves : Bool) (w : Extent) (t : Ty) (x y : ℤ) (a d : ℕ) → length s.x ≡ 31 → a ≤ 25 → d ≤ 25 → (leaves ≡ true → binary_leaves op ≡ true)
       → (asked_extent (binary_joins op) leaves w (Some t) ≡ Whole → IsOf t x × IsOf t y) → (asked_extent (binary_joins op) leaves w (Some t) ≡ Whole → leaves ≡ false → word (wrap t (binary_on op x y)) ≡ word (binary_on op x y))
       → IsTaken op side → x_at s a ≡ word x → IsOperand side s y
       → Sets D (operator_code side (settles (within_type w t) (binary_joins op) leaves) op t d a rest) s rest d (loose_binary op w (Some t) x y) 4
   operation_runs side op leaves w t x y a d sized la hi only range kept takes ex ey = set_more 4 (omega arith) (operation_few side op leaves w t x y a d sized la hi only range kept takes ex ey)
 
   -- one of whose operands nothing is known but their type
-  pub operator_runs : {rest : List Entry} {s : State} (side : Side) (op : BinaryOp) (w : Extent) (t : Ty) (x y : ℤ) (a d : ℕ) → length s.x ≡ 31 → a ≤ 25 → d ≤ 25 → (binary_extent op w (Some t) ≡ Whole → IsOf t x × IsOf t y) → IsTaken op side → x_at s a ≡ word x → IsOperand side s y
+  pub operator_runs : {rest : List DraftEntry} {s : State} (side : Side) (op : BinaryOp) (w : Extent) (t : Ty) (x y : ℤ) (a d : ℕ) → length s.x ≡ 31 → a ≤ 25 → d ≤ 25 → (binary_extent op w (Some t) ≡ Whole → IsOf t x × IsOf t y) → IsTaken op side → x_at s a ≡ word x → IsOperand side s y
       → Sets D (operator_code side (settles (within_type w t) (binary_joins op) (binary_leaves op)) op t d a rest) s rest d (loose_binary op w (Some t) x y) 3
   operator_runs side op w t x y a d sized la hi range takes ex ey = operation_few side op (binary_leaves op) w t x y a d sized la hi (λ e. e) range (λ e out. let k = range e in binary-kept op t x y k.0 k.1 out) takes ex ey
 
   -- the negative, and the complement, of any integer
-  neg_sets : {rest : List Entry} {s : State} (leaves : Bool) (t : Ty) (x : ℤ) (a d : ℕ) → length s.x ≡ 31 → d ≤ 25 → (leaves ≡ false → word (wrap t (neg_ℤ x)) ≡ word (neg_ℤ x)) → x_at s a ≡ word x → Sets D (unary_code leaves unary.Neg t d a rest) s rest d (wrap t (neg_ℤ x)) 2
+  neg_sets : {rest : List DraftEntry} {s : State} (leaves : Bool) (t : Ty) (x : ℤ) (a d : ℕ) → length s.x ≡ 31 → d ≤ 25 → (leaves ≡ false → word (wrap t (neg_ℤ x)) ≡ word (neg_ℤ x)) → x_at s a ≡ word x → Sets D (unary_code leaves unary.Neg t d a rest) s rest d (wrap t (neg_ℤ x)) 2
   neg_sets {s = s} leaves t x a d sized hi kept ex =
       let z : x_at s 31 ≡ 0 = get_or_past s.x 31 0 (omega (arith, sized)) in
       settle_sets D L fit leaves t d (difference (x_at s 31) (shifted_word 0 (x_at s a) 0)) (neg_ℤ x) sized hi refl
       (ap₂ (λ m n. difference m (shifted_word 0 n 0)) z ex ∙ ap (λ n. difference 0 n) (plain (word x) (word-below x)) ∙ sym (word-negated x)) kept
 
-  flip_sets : {rest : List Entry} {s : State} (leaves : Bool) (t : Ty) (x : ℤ) (a d : ℕ) → length s.x ≡ 31 → d ≤ 25 → (leaves ≡ false → word (wrap t (neg_ℤ x -ℤ pos 1)) ≡ word (neg_ℤ x -ℤ pos 1)) → x_at s a ≡ word x → Sets D (unary_code leaves unary.Flip t d a rest) s rest d (wrap t (neg_ℤ x -ℤ pos 1)) 2
+  flip_sets : {rest : List DraftEntry} {s : State} (leaves : Bool) (t : Ty) (x : ℤ) (a d : ℕ) → length s.x ≡ 31 → d ≤ 25 → (leaves ≡ false → word (wrap t (neg_ℤ x -ℤ pos 1)) ≡ word (neg_ℤ x -ℤ pos 1)) → x_at s a ≡ word x → Sets D (unary_code leaves unary.Flip t d a rest) s rest d (wrap t (neg_ℤ x -ℤ pos 1)) 2
   flip_sets {s = s} leaves t x a d sized hi kept ex =
       let z : x_at s 31 ≡ 0 = get_or_past s.x 31 0 (omega (arith, sized)) in
       settle_sets D L fit leaves t d (bit_or (x_at s 31) (inverted (shifted_word 0 (x_at s a) 0))) (neg_ℤ x -ℤ pos 1) sized hi refl
       (ap₂ (λ m n. bit_or m (inverted (shifted_word 0 n 0))) z ex ∙ ap (λ n. bit_or 0 (inverted n)) (plain (word x) (word-below x)) ∙ or_zero_l (inverted (word x)) ∙ sym (word-flipped x)) kept
 
   -- code that extends nothing is that of a type with 64 bits
-  pub unary_runs : {rest : List Entry} {s : State} (op : UnaryOp) (leaves : Bool) (w : Extent) (t : Ty) (x : ℤ) (a d : ℕ) → length s.x ≡ 31 → a ≤ 25 → d ≤ 25
+  pub unary_runs : {rest : List DraftEntry} {s : State} (op : UnaryOp) (leaves : Bool) (w : Extent) (t : Ty) (x : ℤ) (a d : ℕ) → length s.x ≡ 31 → a ≤ 25 → d ≤ 25
       → (asked_extent (unary_joins op) leaves w (Some t) ≡ Whole → IsOf t x) → (asked_extent (unary_joins op) leaves w (Some t) ≡ Whole → leaves ≡ false → word (wrap t (unary_on op x)) ≡ word (unary_on op x)) → x_at s a ≡ word x
       → Sets D (unary_code (settles (within_type w t) (unary_joins op) leaves) op t d a rest) s rest d (loose_unary op w (Some t) x) 4
   unary_runs {rest = rest} {s = s} unary.Neg leaves w t x a d sized la hi range kept ex = by (within_type w t) kept
@@ -301,7 +301,7 @@ module _ (D : Laid) (L : Layout) (fit : Assigned L) where
       by false r k = let rx = r refl in abs_sets {rest = rest} leaves (is_signed t) t x a d sized la hi (in_range t x rx) (unary-kept unary.Abs t x rx) (k refl) ex
 
   -- a shift to the left of any integer, and one to the right of a value
-  left_sets : {rest : List Entry} {s : State} (leaves : Bool) (n : ℤ) (t u : Ty) (x : ℤ) (a d : ℕ) → length s.x ≡ 31 → d ≤ 25 → (leaves ≡ false → word (wrap u (shift_on true (shift_count n) x)) ≡ word (shift_on true (shift_count n) x)) → settle_word leaves u d ≡ settle_word leaves t d → x_at s a ≡ word x
+  left_sets : {rest : List DraftEntry} {s : State} (leaves : Bool) (n : ℤ) (t u : Ty) (x : ℤ) (a d : ℕ) → length s.x ≡ 31 → d ≤ 25 → (leaves ≡ false → word (wrap u (shift_on true (shift_count n) x)) ≡ word (shift_on true (shift_count n) x)) → settle_word leaves u d ≡ settle_word leaves t d → x_at s a ≡ word x
       → Sets D (shift_code leaves true n t d a rest) s rest d (wrap u (shift_on true (shift_count n) x)) 2
   left_sets {rest = rest} {s = s} leaves n t u x a d sized hi kept same ex =
       let z : x_at s 31 ≡ 0 = get_or_past s.x 31 0 (omega (arith, sized)) in
@@ -310,7 +310,7 @@ module _ (D : Laid) (L : Layout) (fit : Assigned L) where
       (settle_sets D L fit leaves u d (bit_or (x_at s 31) (shifted_word 0 (x_at s a) k)) (shift_on true k x) sized hi refl
       (ap₂ (λ m n. bit_or m (shifted_word 0 n k)) z ex ∙ or_zero_l (shifted_word 0 (word x) k) ∙ word-shl x k) kept)
 
-  right_sets : {rest : List Entry} {s : State} (n : ℤ) (t : Ty) (x : ℤ) (a d : ℕ) → length s.x ≡ 31 → d ≤ 25 → IsOf t x → x_at s a ≡ word x → Sets D (shift_code false false n t d a rest) s rest d (wrap t (shift_on false (shift_count n) x)) 2
+  right_sets : {rest : List DraftEntry} {s : State} (n : ℤ) (t : Ty) (x : ℤ) (a d : ℕ) → length s.x ≡ 31 → d ≤ 25 → IsOf t x → x_at s a ≡ word x → Sets D (shift_code false false n t d a rest) s rest d (wrap t (shift_on false (shift_count n) x)) 2
   right_sets {s = s} n t x a d sized hi rx ex =
       let z : x_at s 31 ≡ 0 = get_or_past s.x 31 0 (omega (arith, sized)) in
       let k = shift_count n in
@@ -318,7 +318,7 @@ module _ (D : Laid) (L : Layout) (fit : Assigned L) where
       settle_sets D L fit false t d (bit_or (x_at s 31) (shifted_word kind (x_at s a) k)) (shift_on false k x) sized hi refl
       (ap₂ (λ m n. bit_or m (shifted_word kind n k)) z ex ∙ or_zero_l (shifted_word kind (word x) k) ∙ shifted-word false (is_signed t) k x (in_range t x rx)) (shift-kept false k t x rx)
 
-  pub shift_runs : {rest : List Entry} {s : State} (left leaves : Bool) (n : ℤ) (w : Extent) (t : Ty) (x : ℤ) (a d : ℕ) → length s.x ≡ 31 → d ≤ 25 → (leaves ≡ true → left ≡ true)
+  pub shift_runs : {rest : List DraftEntry} {s : State} (left leaves : Bool) (n : ℤ) (w : Extent) (t : Ty) (x : ℤ) (a d : ℕ) → length s.x ≡ 31 → d ≤ 25 → (leaves ≡ true → left ≡ true)
       → (asked_extent left leaves w (Some t) ≡ Whole → IsOf t x) → (asked_extent left leaves w (Some t) ≡ Whole → leaves ≡ false → word (wrap t (shift_on left (shift_count n) x)) ≡ word (shift_on left (shift_count n) x)) → x_at s a ≡ word x
       → Sets D (shift_code (settles (within_type w t) left leaves) left n t d a rest) s rest d (loose_shift left n w (Some t) x) 4
   shift_runs {rest = rest} {s = s} true leaves n w t x a d sized hi only range kept ex = by (within_type w t) kept
@@ -334,7 +334,7 @@ module _ (D : Laid) (L : Layout) (fit : Assigned L) where
       by false r = set_more 4 (omega arith) (right_sets n t x a d sized hi (r refl) ex)
 
   -- a cast of which so much is asked for
-  pub cast_runs : {rest : List Entry} {s : State} (low : Bool) (from t : Ty) (x : ℤ) (a p b e : ℕ) → length s.x ≡ 31 → b ≤ p → p < e → IsMade L p → x_at s a ≡ word x → Gets D L (word_code (convert_word low from t (reg_of L p) a) rest) s rest b e (reg_of L p) (loose_cast low (fits from t) t x) 4
+  pub cast_runs : {rest : List DraftEntry} {s : State} (low : Bool) (from t : Ty) (x : ℤ) (a p b e : ℕ) → length s.x ≡ 31 → b ≤ p → p < e → IsMade L p → x_at s a ≡ word x → Gets D L (word_code (convert_word low from t (reg_of L p) a) rest) s rest b e (reg_of L p) (loose_cast low (fits from t) t x) 4
   cast_runs {rest = rest} {s = s} low from t x a p b e sized le lt made ex = more D L 4 (omega arith) (gets D L p b e le lt made (by low (fits from t) refl))
     where
       top : reg_of L p < 31

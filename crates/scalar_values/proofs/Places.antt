@@ -12,12 +12,12 @@ use Rattle.kernel_tree.specs.Typing.{Local}
 use Rattle.kernel_meaning.specs.Operators.{word}
 use Rattle.kernel_meaning.specs.Eval.{Names, value_at, iteration, byte_count, address, element_number, read_element, read_value}
 use Rattle.kernel_meaning.proofs.Residues.{word-below}
-use Rattle.label_fix.specs.DraftRun.{Entry, Laid}
+use Rattle.label_fix.specs.DraftRun.{DraftEntry, Laid}
 use Rattle.label_fix.proofs.StretchSteps.{Resolves}
 use Rattle.scalar_values.specs.Fits.{IndexAt, FitsIndex}
 use Rattle.scalar_values.specs.HeldNumbers.{element_words}
 use Rattle.scalar_words.specs.Layout.{OfAddress, Loose, loose_in, Layout, Homes, reg_of, constant_at, register_at, IsMade, NameLasts}
-use Rattle.scalar_words.proofs.LayoutStates.{Assigned, Held, Fixed, Told, name_held}
+use Rattle.scalar_words.proofs.LayoutStates.{Assigned, AreInRegisters, Fixed, Told, name_held}
 use Rattle.scalar_words.proofs.Told.{Standing}
 use Rattle.scalar_values.specs.Covers.{index_form, stands_together, index_covers}
 pub use Rattle.scalar_values.proofs.WholeNames.{name_less, index_is}
@@ -75,7 +75,7 @@ place_at {L = L} {w = w} {hs = hs} {stand = stand} {p = p} {s = s} fit a T o r e
     }
 
 -- the address of an element with a place, by what that register and the loop variable's hold
-pub placed_address : (ls : List Loose) (count : ℕ) (hs : Homes) (i : Option (List ℕ)) (a : List ℕ) (T : Ty) (stand names : Names) (c d : ℤ) (p q r : ℕ) (st : State) → Some c ≡ Some d → stands_together (loose_in ls a) (index_form ls i) (Some T) ≡ true → NameLasts hs a q → IndexAt hs i r → Held hs stand p st → Told ls count stand names
+pub placed_address : (ls : List Loose) (count : ℕ) (hs : Homes) (i : Option (List ℕ)) (a : List ℕ) (T : Ty) (stand names : Names) (c d : ℤ) (p q r : ℕ) (st : State) → Some c ≡ Some d → stands_together (loose_in ls a) (index_form ls i) (Some T) ≡ true → NameLasts hs a q → IndexAt hs i r → AreInRegisters hs stand p st → Told ls count stand names
     → address T (value_at stand a +ℤ pos (byte_count T) *ℤ d) (iteration i stand) ≡ address T (value_at names a) (iteration i names +ℤ c)
 placed_address ls count hs i a T stand names c d p q r st e h lasts at held told =
     let same : d ≡ c = cc in
@@ -83,13 +83,13 @@ placed_address ls count hs i a T stand names c d p q r st e h lasts at held told
 
 module _ (D : Laid) (L : Layout) (fit : Assigned L) where
   -- a read, by whether a register has its place
-  pub element_with : {st : State} {rest : List Entry} {b e r q x : ℕ} {m : Memory} {most : ℕ} {o : Option ℤ} (place : Option ℕ) (inner : List Entry → List Entry) (load : ℕ → ℕ → List Entry) → Resolves D (right_code place inner (load (unwrap_or place q) (placed_index place x)))
+  pub element_with : {st : State} {rest : List DraftEntry} {b e r q x : ℕ} {m : Memory} {most : ℕ} {o : Option ℤ} (place : Option ℕ) (inner : List DraftEntry → List DraftEntry) (load : ℕ → ℕ → List DraftEntry) → Resolves D (right_code place inner (load (unwrap_or place q) (placed_index place x)))
       → (Resolves D (inner (load q x)) → Gives D L (inner (load q x)) st rest b e r m most o) → ((p : ℕ) → place ≡ Some p → Gives D L (load p 9) st rest b e r m most o)
       → Gives D L (right_code place inner (load (unwrap_or place q) (placed_index place x))) st rest b e r m most o
   element_with None inner load res f g = f res
   element_with (Some p) inner load res f g = g p refl
 
-  pub placed_runs : {w : Fixed L} {hs : Homes} {ls : List Local} {stand names : Names} {m : Memory} {st : State} {rest : List Entry} (i : Option (List ℕ)) (a : List ℕ) (T : Ty) (ot : Option Ty) (o computed : Option ℤ) (covered : Bool) (A : Type 0) (r p b : ℕ) → index_covers L.loose i (loose_in L.loose a) ot o covered ≡ true → ot ≡ Some T → place_of L (register_at hs a) ot o ≡ Some r → NameLasts hs a b → FitsIndex o (IndexAt hs i p) A → b ≤ p → IsMade L p → Standing w hs ls stand names m b st
+  pub placed_runs : {w : Fixed L} {hs : Homes} {ls : List Local} {stand names : Names} {m : Memory} {st : State} {rest : List DraftEntry} (i : Option (List ℕ)) (a : List ℕ) (T : Ty) (ot : Option Ty) (o computed : Option ℤ) (covered : Bool) (A : Type 0) (r p b : ℕ) → index_covers L.loose i (loose_in L.loose a) ot o covered ≡ true → ot ≡ Some T → place_of L (register_at hs a) ot o ≡ Some r → NameLasts hs a b → FitsIndex o (IndexAt hs i p) A → b ≤ p → IsMade L p → Standing w hs ls stand names m b st
       → Gives D L (load_code ot (reg_of L p) r 9 rest) st rest b (p + 1) (reg_of L p) m 1 (option_and_then (read_element ot m (value_at names a)) (element_number o (iteration i names) computed))
   placed_runs i a T None None computed covered A r p b h type e lasts fits le made at = absurd cc
   placed_runs i a T (Some t) None computed covered A r p b h type e lasts fits le made at = absurd cc

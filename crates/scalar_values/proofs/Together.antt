@@ -10,7 +10,7 @@ use Rattle.kernel_tree.specs.declared.ops.Ty.TheVariants as ty
 use Rattle.kernel_meaning.specs.Operators.{word}
 use Rattle.kernel_meaning.specs.Eval.{Names, value_at, iteration, byte_count, address, read_element, read_value}
 use Rattle.scalar_words.specs.Layout.{Form, LowBits, Ahead, Behind, Loose, loose_in, Homes, NameLasts}
-use Rattle.scalar_words.proofs.LayoutStates.{Held, Tells, Told}
+use Rattle.scalar_words.proofs.LayoutStates.{AreInRegisters, Tells, Told}
 use Rattle.scalar_words.proofs.Told.{told_found}
 use Rattle.scalar_values.specs.Fits.{IndexAt}
 use Rattle.scalar_values.specs.Covers.{index_form, stands_together}
@@ -34,17 +34,17 @@ together_by count (Some (Ahead t)) (Some Behind) T z v y i k h p q = ahead t T c
 together_by count (Some Behind) index T z v y i k h p q = absurd cc
 
 -- the loop variable
-index_tells : (ls : List Loose) (count : ℕ) (hs : Homes) (i : Option (List ℕ)) (stand names : Names) (p q : ℕ) (st : State) → Held hs stand p st → IndexAt hs i q → Told ls count stand names → Tells count (index_form ls i) (iteration i stand) (iteration i names)
+index_tells : (ls : List Loose) (count : ℕ) (hs : Homes) (i : Option (List ℕ)) (stand names : Names) (p q : ℕ) (st : State) → AreInRegisters hs stand p st → IndexAt hs i q → Told ls count stand names → Tells count (index_form ls i) (iteration i stand) (iteration i names)
 index_tells ls count hs None stand names p q st held at told = absurd at
 index_tells ls count hs (Some x) stand names p q st held at told = told_found ls count hs stand names x p q st held at.1 told
 
-pub together_address : (ls : List Loose) (count : ℕ) (hs : Homes) (i : Option (List ℕ)) (a : List ℕ) (T : Ty) (stand names : Names) (k : ℤ) (p q r : ℕ) (st : State) → stands_together (loose_in ls a) (index_form ls i) (Some T) ≡ true → NameLasts hs a q → IndexAt hs i r → Held hs stand p st → Told ls count stand names
+pub together_address : (ls : List Loose) (count : ℕ) (hs : Homes) (i : Option (List ℕ)) (a : List ℕ) (T : Ty) (stand names : Names) (k : ℤ) (p q r : ℕ) (st : State) → stands_together (loose_in ls a) (index_form ls i) (Some T) ≡ true → NameLasts hs a q → IndexAt hs i r → AreInRegisters hs stand p st → Told ls count stand names
     → address T (value_at stand a) (iteration i stand +ℤ k) ≡ address T (value_at names a) (iteration i names +ℤ k)
 together_address ls count hs i a T stand names k p q r st h lasts at held told =
     together_by count (loose_in ls a) (index_form ls i) T (value_at stand a) (value_at names a) (iteration i stand) (iteration i names) k h (told_found ls count hs stand names a p q st held lasts told) (index_tells ls count hs i stand names p r st held at told)
 
 -- a read of the element
-pub together_read : (ls : List Loose) (count : ℕ) (hs : Homes) (i : Option (List ℕ)) (a : List ℕ) (want : Option Ty) (T : Ty) (m : Memory) (stand names : Names) (k : ℤ) (p q r : ℕ) (st : State) → want ≡ Some T → stands_together (loose_in ls a) (index_form ls i) want ≡ true → NameLasts hs a q → IndexAt hs i r → Held hs stand p st → Told ls count stand names
+pub together_read : (ls : List Loose) (count : ℕ) (hs : Homes) (i : Option (List ℕ)) (a : List ℕ) (want : Option Ty) (T : Ty) (m : Memory) (stand names : Names) (k : ℤ) (p q r : ℕ) (st : State) → want ≡ Some T → stands_together (loose_in ls a) (index_form ls i) want ≡ true → NameLasts hs a q → IndexAt hs i r → AreInRegisters hs stand p st → Told ls count stand names
     → read_element want m (value_at stand a) (iteration i stand +ℤ k) ≡ read_element want m (value_at names a) (iteration i names +ℤ k)
 together_read ls count hs i a want T m stand names k p q r st type h lasts at held told =
     let same = together_address ls count hs i a T stand names k p q r st (subst (λ t. stands_together (loose_in ls a) (index_form ls i) t ≡ true) type h) lasts at held told in

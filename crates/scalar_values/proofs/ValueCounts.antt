@@ -12,7 +12,7 @@ use Rattle.kernel_meaning.specs.Operators.{word, wrapped}
 use Rattle.scalar_values.specs.declared.extent.Extent.{Extent}
 use Rattle.scalar_values.specs.Extents.{Whole, within_type, converted_extent}
 use Rattle.scalar_values.specs.Leaving.{unary_asks, binary_asks, shift_asks, unary_settles, binary_settles, shift_settles}
-use Rattle.label_fix.specs.DraftRun.{Entry, Place}
+use Rattle.label_fix.specs.DraftRun.{DraftEntry, Place}
 use Rattle.label_fix.specs.Finished.{size}
 use Rattle.scalar_words.specs.Layout.{OfNumber, Layout, Homes, reg_of, constant_at, register_at}
 use Rattle.scalar_words.specs.Words.{copy_word, settle_word, word_code, condition, at_type}
@@ -22,62 +22,62 @@ use Rattle.scalar_words.proofs.WordCounts.{within, one_word, operation_words, co
 use Rattle.kernel_tree.specs.declared.ops.UnaryOp.TheVariants as unary
 
 -- by what its word takes as its right side
-pub operator_code_words : (side : Side) (leaves : Bool) (want : Option Ty) (op : BinaryOp) (d a : ℕ) (rest : List Entry) (k : ℕ) → size rest ≤ k → size (at_type want (λ t. operator_code side leaves op t d a rest) rest) ≤ 3 + k
+pub operator_code_words : (side : Side) (leaves : Bool) (want : Option Ty) (op : BinaryOp) (d a : ℕ) (rest : List DraftEntry) (k : ℕ) → size rest ≤ k → size (at_type want (λ t. operator_code side leaves op t d a rest) rest) ≤ 3 + k
 operator_code_words side leaves None op d a rest k h = omega (arith, h)
 operator_code_words (Number v) leaves (Some t) op d a rest k h = let w = one_word (settle_word leaves t d) rest k h in omega (arith, w)
 operator_code_words (Register c) leaves (Some t) op d a rest k h = within (omega arith) (operation_words op (is_signed t) d a c _ (1 + k) (one_word (settle_word leaves t d) rest k h))
 operator_code_words (Product p q) leaves (Some t) op d a rest k h = let w = one_word (settle_word leaves t d) rest k h in omega (arith, w)
 operator_code_words (Moved kind n r) leaves (Some t) op d a rest k h = let w = one_word (settle_word leaves t d) rest k h in omega (arith, w)
 
-pub side_words : (number : Option ℕ) (fused : Bool) (m : ℕ) (whole parts : List Entry → List Entry) (rest : List Entry) (k : ℕ) → size rest ≤ k → (size rest ≤ k → size (whole rest) ≤ m + k) → (size rest ≤ k → size (parts rest) ≤ m + k) → size (side_code number fused whole parts rest) ≤ m + k
+pub side_words : (number : Option ℕ) (fused : Bool) (m : ℕ) (whole parts : List DraftEntry → List DraftEntry) (rest : List DraftEntry) (k : ℕ) → size rest ≤ k → (size rest ≤ k → size (whole rest) ≤ m + k) → (size rest ≤ k → size (parts rest) ≤ m + k) → size (side_code number fused whole parts rest) ≤ m + k
 side_words (Some v) fused m whole parts rest k h f g = omega (arith, h)
 side_words None true m whole parts rest k h f g = g h
 side_words None false m whole parts rest k h f g = f h
 
-right_words : (number : Option ℕ) (m : ℕ) (inner : List Entry → List Entry) (rest : List Entry) (k : ℕ) → size rest ≤ k → (size rest ≤ k → size (inner rest) ≤ m + k) → size (right_code number inner rest) ≤ m + k
+right_words : (number : Option ℕ) (m : ℕ) (inner : List DraftEntry → List DraftEntry) (rest : List DraftEntry) (k : ℕ) → size rest ≤ k → (size rest ≤ k → size (inner rest) ≤ m + k) → size (right_code number inner rest) ≤ m + k
 right_words (Some v) m inner rest k h f = omega (arith, h)
 right_words None m inner rest k h f = f h
 
-tested_words : (o : Option Bool) (sense : Bool) (number : Option ℕ) (a c c2 to : ℕ) (rest : List Entry) (k : ℕ) → size rest ≤ k → size (tested_code o sense number a c c2 to rest) ≤ 2 + k
+tested_words : (o : Option Bool) (sense : Bool) (number : Option ℕ) (a c c2 to : ℕ) (rest : List DraftEntry) (k : ℕ) → size rest ≤ k → size (tested_code o sense number a c c2 to rest) ≤ 2 + k
 tested_words (Some is) sense number a c c2 to rest k h = omega (arith, h)
 tested_words None sense number a c c2 to rest k h = omega (arith, h)
 
-placed_words : (wanted : Bool) (n : ℕ) (rest : List Entry) (k : ℕ) → size rest ≤ k → size (placed_code wanted n rest) ≤ k
+placed_words : (wanted : Bool) (n : ℕ) (rest : List DraftEntry) (k : ℕ) → size rest ≤ k → size (placed_code wanted n rest) ≤ k
 placed_words true n rest k h = h
 placed_words false n rest k h = h
 
-pick_words : (d p q n : ℕ) (rest : List Entry) (k : ℕ) → size rest ≤ k → size (pick_code d p q n rest) ≤ 3 + k
+pick_words : (d p q n : ℕ) (rest : List DraftEntry) (k : ℕ) → size rest ≤ k → size (pick_code d p q n rest) ≤ 3 + k
 pick_words d p q n rest k h =
     let w = one_word (copy_word d q) (Place (n + 1) ∷ rest) k h in
     within (omega arith) (one_word (copy_word d p) _ (2 + k) (omega (arith, w)))
 
-choice_words : (o : Option ℕ) (m : ℕ) (flags jump : List Entry → List Entry) (d p q n : ℕ) (rest : List Entry) (k : ℕ) → size rest ≤ k → ((rest : List Entry) (k : ℕ) → size rest ≤ k → size (flags rest) ≤ m + k) → ((rest : List Entry) (k : ℕ) → size rest ≤ k → size (jump rest) ≤ m + k) → size (choice_code o flags jump d p q n rest) ≤ m + 3 + k
+choice_words : (o : Option ℕ) (m : ℕ) (flags jump : List DraftEntry → List DraftEntry) (d p q n : ℕ) (rest : List DraftEntry) (k : ℕ) → size rest ≤ k → ((rest : List DraftEntry) (k : ℕ) → size rest ≤ k → size (flags rest) ≤ m + k) → ((rest : List DraftEntry) (k : ℕ) → size rest ≤ k → size (jump rest) ≤ m + k) → size (choice_code o flags jump d p q n rest) ≤ m + 3 + k
 choice_words (Some c) m flags jump d p q n rest k h f g = within (omega arith) (f _ (1 + k) (omega (arith, h)))
 choice_words None m flags jump d p q n rest k h f g = within (omega arith) (g _ (3 + k) (pick_words d p q n rest k h))
 
-abs_words : (leaves b : Bool) (t : Ty) (d a : ℕ) (rest : List Entry) (k : ℕ) → size rest ≤ k → size (abs_code leaves b t d a rest) ≤ 3 + k
+abs_words : (leaves b : Bool) (t : Ty) (d a : ℕ) (rest : List DraftEntry) (k : ℕ) → size rest ≤ k → size (abs_code leaves b t d a rest) ≤ 3 + k
 abs_words leaves true t d a rest k h = let w = one_word (settle_word leaves t d) rest k h in omega (arith, w)
 abs_words leaves false t d a rest k h = let w = one_word (copy_word d a) rest k h in omega (arith, w)
 
-cast_words : (low : Bool) (from : Option Ty) (t : Ty) (d a : ℕ) (rest : List Entry) (k : ℕ) → size rest ≤ k → size (at_type from (λ u. word_code (convert_word low u t d a) rest) rest) ≤ 1 + k
+cast_words : (low : Bool) (from : Option Ty) (t : Ty) (d a : ℕ) (rest : List DraftEntry) (k : ℕ) → size rest ≤ k → size (at_type from (λ u. word_code (convert_word low u t d a) rest) rest) ≤ 1 + k
 cast_words low None t d a rest k h = omega (arith, h)
 cast_words low (Some u) t d a rest k h = one_word (convert_word low u t d a) rest k h
 
-unary_words : (leaves : Bool) (want : Option Ty) (op : UnaryOp) (d a : ℕ) (rest : List Entry) (k : ℕ) → size rest ≤ k → size (at_type want (λ t. unary_code leaves op t d a rest) rest) ≤ 3 + k
+unary_words : (leaves : Bool) (want : Option Ty) (op : UnaryOp) (d a : ℕ) (rest : List DraftEntry) (k : ℕ) → size rest ≤ k → size (at_type want (λ t. unary_code leaves op t d a rest) rest) ≤ 3 + k
 unary_words leaves None op d a rest k h = omega (arith, h)
 unary_words leaves (Some t) unary.Neg d a rest k h = let w = one_word (settle_word leaves t d) rest k h in omega (arith, w)
 unary_words leaves (Some t) unary.Flip d a rest k h = let w = one_word (settle_word leaves t d) rest k h in omega (arith, w)
 unary_words leaves (Some t) unary.Abs d a rest k h = abs_words leaves (is_signed t) t d a rest k h
 
-shift_words : (leaves : Bool) (want : Option Ty) (left : Bool) (n : ℤ) (d a : ℕ) (rest : List Entry) (k : ℕ) → size rest ≤ k → size (at_type want (λ t. shift_code leaves left n t d a rest) rest) ≤ 2 + k
+shift_words : (leaves : Bool) (want : Option Ty) (left : Bool) (n : ℤ) (d a : ℕ) (rest : List DraftEntry) (k : ℕ) → size rest ≤ k → size (at_type want (λ t. shift_code leaves left n t d a rest) rest) ≤ 2 + k
 shift_words leaves None left n d a rest k h = omega (arith, h)
 shift_words leaves (Some t) left n d a rest k h = let w = one_word (settle_word leaves t d) rest k h in omega (arith, w)
 
-load_words : (o : Option Ty) (d p r : ℕ) (rest : List Entry) (k : ℕ) → size rest ≤ k → size (load_code o d p r rest) ≤ 1 + k
+load_words : (o : Option Ty) (d p r : ℕ) (rest : List DraftEntry) (k : ℕ) → size rest ≤ k → size (load_code o d p r rest) ≤ 1 + k
 load_words None d p r rest k h = omega (arith, h)
 load_words (Some t) d p r rest k h = omega (arith, h)
 
-number_words : (o : Option ℤ) (m : ℕ) (inner : List Entry → List Entry) (rest : List Entry) (k : ℕ) → size rest ≤ k → (size rest ≤ k → size (inner rest) ≤ 4 * m + k) → size (number_code o inner rest) ≤ 4 * index_size o m + 1 + k
+number_words : (o : Option ℤ) (m : ℕ) (inner : List DraftEntry → List DraftEntry) (rest : List DraftEntry) (k : ℕ) → size rest ≤ k → (size rest ≤ k → size (inner rest) ≤ 4 * m + k) → size (number_code o inner rest) ≤ 4 * index_size o m + 1 + k
 number_words (Some c) m inner rest k h f = one_word (index_word c) rest k h
 number_words None m inner rest k h f = let g = f h in omega (arith, g)
 
@@ -85,7 +85,7 @@ number_words None m inner rest k h f = let g = f h in omega (arith, g)
 
 module _ (L : Layout) (hs : Homes) where
   mutual
-    pub loose_words : (e : Term) (s : Scope) (w : Extent) (want : Option Ty) (b n : ℕ) (rest : List Entry) (k : ℕ) → size rest ≤ k → size (loose_code L hs s w want b n e rest) ≤ 4 * term_size s.index e + k
+    pub loose_words : (e : Term) (s : Scope) (w : Extent) (want : Option Ty) (b n : ℕ) (rest : List DraftEntry) (k : ℕ) → size rest ≤ k → size (loose_code L hs s w want b n e rest) ≤ 4 * term_size s.index e + k
     loose_words (Literal z) s w want b n rest k h = within (omega arith) (right_words (constant_at L (OfNumber z)) 4 _ rest k h (λ g. const_words (reg_of L b) (word (wrapped want z)) rest k g))
     loose_words (Variable x) s w want b n rest k h = omega (arith, h)
     loose_words (Element a j) s w want b n rest k h =
@@ -106,7 +106,7 @@ module _ (L : Layout) (hs : Homes) where
     loose_words (Either x y) s w want b n rest k h = omega (arith, h)
     loose_words (Not x) s w want b n rest k h = omega (arith, h)
 
-    pub parts_words : (e : Term) (s : Scope) (w : Extent) (want : Option Ty) (b n : ℕ) (rest : List Entry) (k : ℕ) → size rest ≤ k → size (parts_code L hs s w want b n e rest) ≤ 4 * term_size s.index e + k
+    pub parts_words : (e : Term) (s : Scope) (w : Extent) (want : Option Ty) (b n : ℕ) (rest : List DraftEntry) (k : ℕ) → size rest ≤ k → size (parts_code L hs s w want b n e rest) ≤ 4 * term_size s.index e + k
     parts_words (Operation op x y) s w want b n rest k h = within (omega arith) (loose_words x s (binary_asks s want op x y w) want b n _ _ (loose_words y s (binary_asks s want op x y w) want _ _ _ _ h))
     parts_words (Shift left x z) s w want b n rest k h = within (omega arith) (loose_words x s (shift_asks s want left x z w) want b n _ _ h)
     parts_words (Literal z) s w want b n rest k h = omega (arith, h)
@@ -120,7 +120,7 @@ module _ (L : Layout) (hs : Homes) where
     parts_words (Either x y) s w want b n rest k h = omega (arith, h)
     parts_words (Not e) s w want b n rest k h = omega (arith, h)
 
-    flags_words : (e : Term) (s : Scope) (b n : ℕ) (rest : List Entry) (k : ℕ) → size rest ≤ k → size (flags_code L hs s b n e rest) ≤ 4 * term_size s.index e + k
+    flags_words : (e : Term) (s : Scope) (b n : ℕ) (rest : List DraftEntry) (k : ℕ) → size rest ≤ k → size (flags_code L hs s b n e rest) ≤ 4 * term_size s.index e + k
     flags_words (Comparison op x y) s b n rest k h =
         within (omega arith) (loose_words x s Whole (side_type s x y) b n _ _ (right_words (compared_number (side_type s x y) y) (4 * term_size s.index y) _ _ (1 + k) (omega (arith, h)) (λ g. loose_words y s Whole (side_type s x y) _ _ _ _ g)))
     flags_words (Literal z) s b n rest k h = omega (arith, h)
@@ -135,7 +135,7 @@ module _ (L : Layout) (hs : Homes) where
     flags_words (Either x y) s b n rest k h = omega (arith, h)
     flags_words (Not e) s b n rest k h = omega (arith, h)
 
-    pub jump_words : (e : Term) (s : Scope) (sense : Bool) (to b n : ℕ) (rest : List Entry) (k : ℕ) → size rest ≤ k → size (jump_code L hs s sense to b n e rest) ≤ 4 * term_size s.index e + k
+    pub jump_words : (e : Term) (s : Scope) (sense : Bool) (to b n : ℕ) (rest : List DraftEntry) (k : ℕ) → size rest ≤ k → size (jump_code L hs s sense to b n e rest) ≤ 4 * term_size s.index e + k
     jump_words (Comparison op x y) s sense to b n rest k h =
         let number = compared_number (side_type s x y) y in
         within (omega arith) (loose_words x s Whole (side_type s x y) b n _ _ (right_words number (4 * term_size s.index y) _ _ _ (tested_words (zero_test op number) sense number _ _ (condition op (signed_side (side_type s x y))) to rest k h) (λ g. loose_words y s Whole (side_type s x y) _ _ _ _ g)))

@@ -18,7 +18,7 @@ use Rattle.kernel_meaning.specs.TypeValues.{IsOf, binary_leaves}
 use Rattle.kernel_meaning.proofs.Residues.{word-mul}
 use Rattle.kernel_meaning.specs.Eval.{Names, value_at, iteration, element_number, read_element, on_both, chosen, choose_value, value, holds}
 use Rattle.a64_code.specs.Table.{csel}
-use Rattle.label_fix.specs.DraftRun.{Entry, Put, Branch, Place, Always, Laid, following, address_of, word_of, ins}
+use Rattle.label_fix.specs.DraftRun.{DraftEntry, Put, Branch, Place, Always, Laid, following, address_of, word_of, ins}
 use Rattle.label_fix.proofs.StretchSteps.{Goes, Stops, Resolves, stay, chain, go_more, put_goes, stop_after, stop_more, taken_goes, pass}
 use Rattle.scalar_values.specs.HeldNumbers.{element_words, coded_words}
 use Rattle.scalar_values.proofs.WholeNames.{name_less, index_is, whole_at, computed_covers}
@@ -56,17 +56,17 @@ use Rattle.kernel_tree.specs.declared.ops.Ty.TheVariants as ty
 use Rattle.kernel_tree.specs.declared.ops.BinaryOp.TheVariants as binary
 
 -- what the code of an expression does where a type is wanted of it
-abbrev pub Runs : Laid → Layout → Term → Homes → Scope → Names → Memory → State → (b user n : ℕ) → List Entry → Option Ty → Type 0
+abbrev pub Runs : Laid → Layout → Term → Homes → Scope → Names → Memory → State → (b user n : ℕ) → List DraftEntry → Option Ty → Type 0
 Runs D L e hs s names m st b user n rest want =
     Fits L hs s want b user e → Resolves D (value_code L hs s want b n e rest) → Gives D L (value_code L hs s want b n e rest) st rest b (b + term_size s.index e) (home L hs s.index b e) m (coded_words L.constants s.index e) (value s want e m names)
 
 -- the same where so much is asked for, by what stands in the registers of names
-abbrev pub LooseRuns : Laid → Layout → Term → Homes → Scope → (stand names : Names) → Memory → State → Extent → (b user n : ℕ) → List Entry → Option Ty → Type 0
+abbrev pub LooseRuns : Laid → Layout → Term → Homes → Scope → (stand names : Names) → Memory → State → Extent → (b user n : ℕ) → List DraftEntry → Option Ty → Type 0
 LooseRuns D L e hs s stand names m st w b user n rest want =
     Fits L hs s want b user e → Resolves D (loose_code L hs s w want b n e rest) → Gives D L (loose_code L hs s w want b n e rest) st rest b (b + term_size s.index e) (home L hs s.index b e) m (coded_words L.constants s.index e) (loose s w want e m stand names)
 
 -- where the whole value is asked for, it is the value
-exact : {D : Laid} {L : Layout} {st : State} {rest : List Entry} (count : ℕ) (hs : Homes) (b user n : ℕ) (e : Term) (s : Scope) (stand names : Names) (m : Memory) (want : Option Ty) → AreRanged s.visible names → Told L.loose count stand names → covers L.loose s Whole want e ≡ true → LooseRuns D L e hs s stand names m st Whole b user n rest want → Runs D L e hs s names m st b user n rest want
+exact : {D : Laid} {L : Layout} {st : State} {rest : List DraftEntry} (count : ℕ) (hs : Homes) (b user n : ℕ) (e : Term) (s : Scope) (stand names : Names) (m : Memory) (want : Option Ty) → AreRanged s.visible names → Told L.loose count stand names → covers L.loose s Whole want e ≡ true → LooseRuns D L e hs s stand names m st Whole b user n rest want → Runs D L e hs s names m st b user n rest want
 exact {D = D} {L = L} {st = st} {rest = rest} count hs b user n e s stand names m want ranged told cov k fits res =
     subst (λ o. Gives D L (value_code L hs s want b n e rest) st rest b (b + term_size s.index e) (home L hs s.index b e) m (coded_words L.constants s.index e) o) (whole_is s m names ranged L.loose count stand told e want cov (fits_types e L hs s want b user fits)) (k fits res)
 
@@ -97,7 +97,7 @@ first_some (Some u) t = tt
 index_some : (s : Scope) (i : Term) → IsSome (index_type s i)
 index_some s i = first_some (own s i) ty.U64
 
-pub give_more : (D : Laid) (L : Layout) {c rest : List Entry} {s : State} {b e r m1 : ℕ} {m : Memory} {o : Option ℤ} (most : ℕ) → m1 ≤ most → Gives D L c s rest b e r m m1 o → Gives D L c s rest b e r m most o
+pub give_more : (D : Laid) (L : Layout) {c rest : List DraftEntry} {s : State} {b e r m1 : ℕ} {m : Memory} {o : Option ℤ} (most : ℕ) → m1 ≤ most → Gives D L c s rest b e r m m1 o → Gives D L c s rest b e r m most o
 give_more D L most le (no_value k) = no_value (stop_more most le k)
 give_more D L most le (a_value k) = a_value (more D L most le k)
 
@@ -110,7 +110,7 @@ chosen_second x None = refl
 chosen_second x (Some v) = refl
 
 -- the flags of a comparison, or a fault of a read
-data Flagged (D : Laid) (L : Layout) (c : List Entry) (s : State) (rest : List Entry) (b e k : ℕ) (m : Memory) (most : ℕ) : Option Bool → Type 0 where
+data Flagged (D : Laid) (L : Layout) (c : List DraftEntry) (s : State) (rest : List DraftEntry) (b e k : ℕ) (m : Memory) (most : ℕ) : Option Bool → Type 0 where
   no_flags : Stops D c s Read m most → Flagged D L c s rest b e k m most None
   a_flag : {v : Bool} (end : State) → Goes D c s rest end most → Kept L s end b e → flags_hold k end.flags ≡ v → Flagged D L c s rest b e k m most (Some v)
 
@@ -125,7 +125,7 @@ which false x y = refl
 
 module _ (D : Laid) (L : Layout) (fit : Assigned L) where
   -- a right side, by whether a word holds it
-  pub right_runs : (inner : List Entry → List Entry) {t : State} {rest : List Entry} {b e r : ℕ} {m : Memory} {most : ℕ} (o : Option ℤ) (number : Option ℕ) → ((v : ℕ) → number ≡ Some v → (y : ℤ) × ((o ≡ Some y) × (v ≡ word y))) → Resolves D (right_code number inner rest)
+  pub right_runs : (inner : List DraftEntry → List DraftEntry) {t : State} {rest : List DraftEntry} {b e r : ℕ} {m : Memory} {most : ℕ} (o : Option ℤ) (number : Option ℕ) → ((v : ℕ) → number ≡ Some v → (y : ℤ) × ((o ≡ Some y) × (v ≡ word y))) → Resolves D (right_code number inner rest)
       → (Resolves D (inner rest) → Gives D L (inner rest) t rest b e r m most o) → Sided D L (right_code number inner rest) t rest b e (IsSide number r) m most o
   right_runs inner {t = t} {rest = rest} {b = b} {e = e} {r = r} {m = m} {most = most} o None is res run = sided (run res)
     where
@@ -137,7 +137,7 @@ module _ (D : Laid) (L : Layout) (fit : Assigned L) where
       subst (λ o. Sided D L rest t rest b e (IsSide (Some v) r) m most o) (sym q.1.0) (a_side t (stay most) (kept_none L t b e) q.1.1)
 
   -- what two operands give
-  pair_runs : {c c2 d : List Entry} {s : State} {m : Memory} {b b1 e hx m1 m2 : ℕ} {Q : State → ℤ → Type 0} {o1 o2 : Option ℤ} (most : ℕ) → m1 + m2 ≤ most → b ≤ b1 → b1 ≤ e → hx ≤ 25 → ((p : ℕ) → b1 ≤ p → p < e → IsMade L p → reg_of L p ≢ hx)
+  pair_runs : {c c2 d : List DraftEntry} {s : State} {m : Memory} {b b1 e hx m1 m2 : ℕ} {Q : State → ℤ → Type 0} {o1 o2 : Option ℤ} (most : ℕ) → m1 + m2 ≤ most → b ≤ b1 → b1 ≤ e → hx ≤ 25 → ((p : ℕ) → b1 ≤ p → p < e → IsMade L p → reg_of L p ≢ hx)
       → Gives D L c s c2 b b1 hx m m1 o1 → ((t : State) → Kept L s t b b1 → Sided D L c2 t d b1 e Q m m2 o2) → Pairs D L c s d b e hx Q m most o1 o2
   pair_runs most le l1 l2 hi apart (no_value g) right = no_left (stop_more most (omega arith) g)
   pair_runs {c = c} {c2 = c2} {d = d} {s = s} {m = m} {b = b} {b1 = b1} {e = e} {hx = hx} {m2 = m2} {Q = Q} most le l1 l2 hi apart (a_value {v = x} g) right = second (right g.end g.kept)
@@ -147,7 +147,7 @@ module _ (D : Laid) (L : Layout) (fit : Assigned L) where
       second (a_side end goes kept side) = pair end (chain most le g.goes goes) (kept_on L b e (omega arith) (omega arith) (omega arith) (omega arith) g.kept kept) (kept.others hx hi apart ∙ g.value) side
 
   -- an operation on them
-  op_runs : {c d rest : List Entry} {s : State} {m : Memory} {b e1 e2 hx r m1 : ℕ} {Q : State → ℤ → Type 0} {o1 o2 : Option ℤ} (f : ℤ → ℤ → ℤ) (most : ℕ) → m1 + 4 ≤ most → b ≤ e1 → e1 ≤ e2 → Pairs D L c s d b e1 hx Q m m1 o1 o2
+  op_runs : {c d rest : List DraftEntry} {s : State} {m : Memory} {b e1 e2 hx r m1 : ℕ} {Q : State → ℤ → Type 0} {o1 o2 : Option ℤ} (f : ℤ → ℤ → ℤ) (most : ℕ) → m1 + 4 ≤ most → b ≤ e1 → e1 ≤ e2 → Pairs D L c s d b e1 hx Q m m1 o1 o2
       → ((t : State) (x y : ℤ) → o1 ≡ Some x → o2 ≡ Some y → Kept L s t b e1 → x_at t hx ≡ word x → Q t y → Gets D L d t rest e1 e2 r (f x y) 4) → Gives D L c s rest b e2 r m most (on_both f o1 o2)
   op_runs f most le l1 l2 (no_left g) op = no_value (stop_more most (omega arith) g)
   op_runs f most le l1 l2 (no_right g) op = no_value (stop_more most (omega arith) g)
@@ -161,24 +161,24 @@ module _ (D : Laid) (L : Layout) (fit : Assigned L) where
       })
 
   -- a value in a register as a right side
-  plain_sided : {c rest : List Entry} {s : State} {b e r : ℕ} {m : Memory} {most : ℕ} {o : Option ℤ} → Gives D L c s rest b e r m most o → Sided D L c s rest b e (IsOperand (Register r)) m most o
+  plain_sided : {c rest : List DraftEntry} {s : State} {b e r : ℕ} {m : Memory} {most : ℕ} {o : Option ℤ} → Gives D L c s rest b e r m most o → Sided D L c s rest b e (IsOperand (Register r)) m most o
   plain_sided (no_value g) = no_side g
   plain_sided (a_value g) = a_side g.end g.goes g.kept g.value
 
   -- two values as a product, which is not extended
-  product_sided : {c rest : List Entry} {s : State} {b e hp hq : ℕ} {m : Memory} {m1 : ℕ} {o1 o2 : Option ℤ} (leaves : Bool) (w : Extent) (T : Ty) (e2 most : ℕ) → e ≤ e2 → m1 ≤ most → stays (settles (within_type w T) true leaves) (Some T) ≡ true → ((u v : ℤ) → o1 ≡ Some u → o2 ≡ Some v → asked_extent true leaves w (Some T) ≡ Whole → leaves ≡ false → word (wrap T (u *ℤ v)) ≡ word (u *ℤ v)) → Pairs D L c s rest b e hp (IsOperand (Register hq)) m m1 o1 o2 → Sided D L c s rest b e2 (IsOperand (Product hp hq)) m most (on_both (loose_binary binary.Mul w (Some T)) o1 o2)
+  product_sided : {c rest : List DraftEntry} {s : State} {b e hp hq : ℕ} {m : Memory} {m1 : ℕ} {o1 o2 : Option ℤ} (leaves : Bool) (w : Extent) (T : Ty) (e2 most : ℕ) → e ≤ e2 → m1 ≤ most → stays (settles (within_type w T) true leaves) (Some T) ≡ true → ((u v : ℤ) → o1 ≡ Some u → o2 ≡ Some v → asked_extent true leaves w (Some T) ≡ Whole → leaves ≡ false → word (wrap T (u *ℤ v)) ≡ word (u *ℤ v)) → Pairs D L c s rest b e hp (IsOperand (Register hq)) m m1 o1 o2 → Sided D L c s rest b e2 (IsOperand (Product hp hq)) m most (on_both (loose_binary binary.Mul w (Some T)) o1 o2)
   product_sided leaves w T e2 most le l1 still kept (no_left g) = no_side (stop_more most l1 g)
   product_sided leaves w T e2 most le l1 still kept (no_right g) = no_side (stop_more most l1 g)
   product_sided leaves w T e2 most le l1 still kept (pair {x = u} {y = v} end goes held left right) =
       a_side end (go_more most l1 goes) (kept_more L e2 le held) (ap₂ (λ p q. p * q % 2 ^ 64) left right ∙ sym (word-mul u v) ∙ sym (settled_same leaves w T (u *ℤ v) still (kept u v refl refl)))
 
   -- the operand of a cast that is no word
-  cast_sided : {c rest : List Entry} {s : State} {b e r : ℕ} {m : Memory} {m1 : ℕ} {o : Option ℤ} (low fit : Bool) (t : Ty) (e2 most : ℕ) → e ≤ e2 → m1 ≤ most → (low || fit) ≡ true → Gives D L c s rest b e r m m1 o → Sided D L c s rest b e2 (IsOperand (Register r)) m most (option_map (loose_cast low fit t) o)
+  cast_sided : {c rest : List DraftEntry} {s : State} {b e r : ℕ} {m : Memory} {m1 : ℕ} {o : Option ℤ} (low fit : Bool) (t : Ty) (e2 most : ℕ) → e ≤ e2 → m1 ≤ most → (low || fit) ≡ true → Gives D L c s rest b e r m m1 o → Sided D L c s rest b e2 (IsOperand (Register r)) m most (option_map (loose_cast low fit t) o)
   cast_sided low fit t e2 most le l1 bare (no_value g) = no_side (stop_more most l1 g)
   cast_sided low fit t e2 most le l1 bare (a_value {v = x} g) = a_side g.end (go_more most l1 g.goes) (kept_more L e2 le g.kept) (g.value ∙ ap word (bare_same low fit t x bare))
 
   -- a value as one that the word shifts
-  moved_sided : {c rest : List Entry} {s : State} {b e r : ℕ} {m : Memory} {m1 : ℕ} {o : Option ℤ} (left leaves : Bool) (z : ℤ) (w : Extent) (T : Ty) (e2 most : ℕ) → e ≤ e2 → m1 ≤ most → (leaves ≡ true → left ≡ true) → stays (settles (within_type w T) left leaves) (Some T) ≡ true → ((x : ℤ) → o ≡ Some x → asked_extent left leaves w (Some T) ≡ Whole → IsOf T x)
+  moved_sided : {c rest : List DraftEntry} {s : State} {b e r : ℕ} {m : Memory} {m1 : ℕ} {o : Option ℤ} (left leaves : Bool) (z : ℤ) (w : Extent) (T : Ty) (e2 most : ℕ) → e ≤ e2 → m1 ≤ most → (leaves ≡ true → left ≡ true) → stays (settles (within_type w T) left leaves) (Some T) ≡ true → ((x : ℤ) → o ≡ Some x → asked_extent left leaves w (Some T) ≡ Whole → IsOf T x)
       → ((x : ℤ) → o ≡ Some x → asked_extent left leaves w (Some T) ≡ Whole → leaves ≡ false → word (wrap T (shift_on left (shift_count z) x)) ≡ word (shift_on left (shift_count z) x)) → Gives D L c s rest b e r m m1 o
       → Sided D L c s rest b e2 (IsOperand (Moved (shift_kind left (is_signed T)) (shift_count z) r)) m most (option_map (loose_shift left z w (Some T)) o)
   moved_sided left leaves z w T e2 most le l1 only still range kept (no_value g) = no_side (stop_more most l1 g)
@@ -186,7 +186,7 @@ module _ (D : Laid) (L : Layout) (fit : Assigned L) where
       a_side g.end (go_more most l1 g.goes) (kept_more L e2 le g.kept) (ap (λ k. shifted_word (shift_kind left (is_signed T)) k (shift_count z)) g.value ∙ moved_same left leaves z w T x only still (range x refl) (kept x refl))
 
   -- a right side, by what the word takes of it
-  sided_by : (whole parts : List Entry → List Entry) {t : State} {rest : List Entry} {b e : ℕ} {m : Memory} {most : ℕ} (o : Option ℤ) (number : Option ℕ) (fused : Bool) (r : ℕ) (part : Side) → ((v : ℕ) → number ≡ Some v → (y : ℤ) × ((o ≡ Some y) × (v ≡ word y))) → Resolves D (side_code number fused whole parts rest)
+  sided_by : (whole parts : List DraftEntry → List DraftEntry) {t : State} {rest : List DraftEntry} {b e : ℕ} {m : Memory} {most : ℕ} (o : Option ℤ) (number : Option ℕ) (fused : Bool) (r : ℕ) (part : Side) → ((v : ℕ) → number ≡ Some v → (y : ℤ) × ((o ≡ Some y) × (v ≡ word y))) → Resolves D (side_code number fused whole parts rest)
       → (Resolves D (whole rest) → Gives D L (whole rest) t rest b e r m most o) → (fused ≡ true → Resolves D (parts rest) → Sided D L (parts rest) t rest b e (IsOperand part) m most o)
       → Sided D L (side_code number fused whole parts rest) t rest b e (IsOperand (side_by number fused r part)) m most o
   sided_by whole parts o None false r part is res run fuse = plain_sided (run res)
@@ -196,7 +196,7 @@ module _ (D : Laid) (L : Layout) (fit : Assigned L) where
       subst (λ o. Sided D L rest t rest b e (IsOperand (Number v)) m most o) (sym q.1.0) (a_side t (stay most) (kept_none L t b e) q.1.1)
 
   -- a comparison of them, and a branch
-  op_turns : {c d rest : List Entry} {s : State} {m : Memory} {to b e1 e2 hx m1 : ℕ} {Q : State → ℤ → Type 0} {sense : Bool} {o1 o2 : Option ℤ} (f : ℤ → ℤ → Bool) (most : ℕ) → m1 + 4 ≤ most → b ≤ e1 → e1 ≤ e2 → Pairs D L c s d b e1 hx Q m m1 o1 o2
+  op_turns : {c d rest : List DraftEntry} {s : State} {m : Memory} {to b e1 e2 hx m1 : ℕ} {Q : State → ℤ → Type 0} {sense : Bool} {o1 o2 : Option ℤ} (f : ℤ → ℤ → Bool) (most : ℕ) → m1 + 4 ≤ most → b ≤ e1 → e1 ≤ e2 → Pairs D L c s d b e1 hx Q m m1 o1 o2
       → ((t : State) (x y : ℤ) → o1 ≡ Some x → o2 ≡ Some y → x_at t hx ≡ word x → Q t y → Turned D L d t (led D to rest sense (f x y)) e1 e2 2) → Turns D L c s to rest b e2 m most sense (on_both f o1 o2)
   op_turns f most le l1 l2 (no_left g) op = no_turn (stop_more most (omega arith) g)
   op_turns f most le l1 l2 (no_right g) op = no_turn (stop_more most (omega arith) g)
@@ -205,7 +205,7 @@ module _ (D : Laid) (L : Layout) (fit : Assigned L) where
       turns (record { end = last.end; goes = chain most (omega arith) goes last.goes; kept = kept_on L b e2 (omega arith) (omega arith) (omega arith) (omega arith) kept last.kept })
 
   -- a comparison of them
-  op_flags : {c rest : List Entry} {s : State} {m : Memory} {b e1 e2 hx m1 : ℕ} {o1 o2 : Option ℤ} (number : Option ℕ) (hy : ℕ) (op : CompareOp) (sg : Bool) (most : ℕ) → m1 + 1 ≤ most → b ≤ e1 → e1 ≤ e2 → hx ≤ 25 → ((v : ℕ) → number ≡ Some v → v < 4096) → Pairs D L c s (Put (compare_word number hx hy) ∷ rest) b e1 hx (IsSide number hy) m m1 o1 o2
+  op_flags : {c rest : List DraftEntry} {s : State} {m : Memory} {b e1 e2 hx m1 : ℕ} {o1 o2 : Option ℤ} (number : Option ℕ) (hy : ℕ) (op : CompareOp) (sg : Bool) (most : ℕ) → m1 + 1 ≤ most → b ≤ e1 → e1 ≤ e2 → hx ≤ 25 → ((v : ℕ) → number ≡ Some v → v < 4096) → Pairs D L c s (Put (compare_word number hx hy) ∷ rest) b e1 hx (IsSide number hy) m m1 o1 o2
       → ((x y : ℤ) → o1 ≡ Some x → o2 ≡ Some y → InRange sg x × InRange sg y) → Flagged D L c s rest b e2 (condition op sg) m most (on_both (compare_on op) o1 o2)
   op_flags number hy op sg most le l1 l2 hi few (no_left g) range = no_flags (stop_more most (omega arith) g)
   op_flags number hy op sg most le l1 l2 hi few (no_right g) range = no_flags (stop_more most (omega arith) g)
@@ -215,7 +215,7 @@ module _ (D : Laid) (L : Layout) (fit : Assigned L) where
       a_flag last.end (chain most le goes last.goes) (kept_on L b e2 (omega arith) (omega arith) (omega arith) (omega arith) kept (last.kept L b e2)) (ap (flags_hold (condition op sg)) last.flags ∙ compared op sg x y r.0 r.1)
 
   -- a choice by the flags
-  flag_picks : {c rest : List Entry} {s : State} {m : Memory} {b p e hx hy k m1 : ℕ} {o : Option Bool} (x y : ℤ) (most : ℕ) → m1 + 1 ≤ most → b ≤ p → p < e → IsMade L p → length s.x ≡ 31 → hx ≤ 25 → hy ≤ 25 → ((q : ℕ) → b ≤ q → q < p → IsMade L q → reg_of L q ≢ hx) → ((q : ℕ) → b ≤ q → q < p → IsMade L q → reg_of L q ≢ hy) → x_at s hx ≡ word x → x_at s hy ≡ word y
+  flag_picks : {c rest : List DraftEntry} {s : State} {m : Memory} {b p e hx hy k m1 : ℕ} {o : Option Bool} (x y : ℤ) (most : ℕ) → m1 + 1 ≤ most → b ≤ p → p < e → IsMade L p → length s.x ≡ 31 → hx ≤ 25 → hy ≤ 25 → ((q : ℕ) → b ≤ q → q < p → IsMade L q → reg_of L q ≢ hx) → ((q : ℕ) → b ≤ q → q < p → IsMade L q → reg_of L q ≢ hy) → x_at s hx ≡ word x → x_at s hy ≡ word y
       → Flagged D L c s (ins csel (reg_of L p ∷ hx ∷ k ∷ hy ∷ []) ∷ rest) b p k m m1 o → Gives D L c s rest b e (reg_of L p) m most (chosen (Some x) (Some y) o)
   flag_picks x y most le l1 l2 made sized ix iy ax ay ex ey (no_flags g) = no_value (stop_more most (omega arith) g)
   flag_picks {rest = rest} {b = b} {p = p} {e = e} {hx = hx} {hy = hy} {k = k} x y most le l1 l2 made sized ix iy ax ay ex ey (a_flag {v = v} end goes kept told) =
@@ -231,7 +231,7 @@ module _ (D : Laid) (L : Layout) (fit : Assigned L) where
       })
 
   -- a choice by a jump
-  jump_picks : {c rest : List Entry} {s : State} {m : Memory} {b p e hx hy n m1 : ℕ} {o : Option Bool} (x y : ℤ) (most : ℕ) → m1 + 2 ≤ most → b ≤ p → p < e → IsMade L p → length s.x ≡ 31 → hx ≤ 25 → hy ≤ 25 → ((q : ℕ) → b ≤ q → q < p → IsMade L q → reg_of L q ≢ hx) → ((q : ℕ) → b ≤ q → q < p → IsMade L q → reg_of L q ≢ hy) → x_at s hx ≡ word x → x_at s hy ≡ word y
+  jump_picks : {c rest : List DraftEntry} {s : State} {m : Memory} {b p e hx hy n m1 : ℕ} {o : Option Bool} (x y : ℤ) (most : ℕ) → m1 + 2 ≤ most → b ≤ p → p < e → IsMade L p → length s.x ≡ 31 → hx ≤ 25 → hy ≤ 25 → ((q : ℕ) → b ≤ q → q < p → IsMade L q → reg_of L q ≢ hx) → ((q : ℕ) → b ≤ q → q < p → IsMade L q → reg_of L q ≢ hy) → x_at s hx ≡ word x → x_at s hy ≡ word y
       → following D n ≡ word_code (copy_word (reg_of L p) hy) (Place (n + 1) ∷ rest) → following D (n + 1) ≡ rest
       → Turns D L c s n (pick_code (reg_of L p) hx hy n rest) b p m m1 false o → Gives D L c s rest b e (reg_of L p) m most (chosen (Some x) (Some y) o)
   jump_picks x y most le l1 l2 made sized ix iy ax ay ex ey at1 at2 (no_turn g) = no_value (stop_more most (omega arith) g)
@@ -254,7 +254,7 @@ module _ (D : Laid) (L : Layout) (fit : Assigned L) where
       })
 
   -- two values, and a choice
-  choose_runs : {c c2 c3 rest : List Entry} {s : State} {m : Memory} {b b1 b2 e hx hy r m1 m2 m3 : ℕ} {o1 o2 : Option ℤ} (o3 : Option Bool) (most : ℕ) → m1 + m2 + m3 ≤ most → b ≤ b1 → b1 ≤ b2 → b2 ≤ e → hx ≤ 25 → ((p : ℕ) → b1 ≤ p → p < b2 → IsMade L p → reg_of L p ≢ hx)
+  choose_runs : {c c2 c3 rest : List DraftEntry} {s : State} {m : Memory} {b b1 b2 e hx hy r m1 m2 m3 : ℕ} {o1 o2 : Option ℤ} (o3 : Option Bool) (most : ℕ) → m1 + m2 + m3 ≤ most → b ≤ b1 → b1 ≤ b2 → b2 ≤ e → hx ≤ 25 → ((p : ℕ) → b1 ≤ p → p < b2 → IsMade L p → reg_of L p ≢ hx)
       → Gives D L c s c2 b b1 hx m m1 o1 → ((t : State) → Kept L s t b b1 → Gives D L c2 t c3 b1 b2 hy m m2 o2)
       → ((t : State) (x y : ℤ) → Kept L s t b b2 → x_at t hx ≡ word x → x_at t hy ≡ word y → Gives D L c3 t rest b2 e r m m3 (chosen (Some x) (Some y) o3)) → Gives D L c s rest b e r m most (chosen o1 o2 o3)
   choose_runs {c = c} {rest = rest} {s = s} {m = m} {b = b} {e = e} {r = r} {o2 = o2} o3 most le l1 l2 l3 ix ax (no_value g) right pick =
@@ -277,7 +277,7 @@ module _ (D : Laid) (L : Layout) (fit : Assigned L) where
           third k.end (chain (m1 + m2) (omega arith) g.goes k.goes) kept (pick k.end x y kept (k.kept.others hx ix ax ∙ g.value) k.value)
 
   -- what an operand gives, and then an operation
-  map_runs : {c d rest : List Entry} {s : State} {m : Memory} {b e1 e2 h r m1 : ℕ} {o : Option ℤ} (f : ℤ → ℤ) (most : ℕ) → m1 + 4 ≤ most → b ≤ e1 → e1 ≤ e2 → Gives D L c s d b e1 h m m1 o → ((t : State) (x : ℤ) → o ≡ Some x → Kept L s t b e1 → x_at t h ≡ word x → Gets D L d t rest e1 e2 r (f x) 4) → Gives D L c s rest b e2 r m most (option_map f o)
+  map_runs : {c d rest : List DraftEntry} {s : State} {m : Memory} {b e1 e2 h r m1 : ℕ} {o : Option ℤ} (f : ℤ → ℤ) (most : ℕ) → m1 + 4 ≤ most → b ≤ e1 → e1 ≤ e2 → Gives D L c s d b e1 h m m1 o → ((t : State) (x : ℤ) → o ≡ Some x → Kept L s t b e1 → x_at t h ≡ word x → Gets D L d t rest e1 e2 r (f x) 4) → Gives D L c s rest b e2 r m most (option_map f o)
   map_runs f most le l1 l2 (no_value g) op = no_value (stop_more most (omega arith) g)
   map_runs {b = b} {e2 = e2} f most le l1 l2 (a_value {v = x} g) op =
       let last = op g.end x refl g.kept g.value in
@@ -340,7 +340,7 @@ module _ (D : Laid) (L : Layout) (fit : Assigned L) where
   some_type (Some T) h = (T, refl)
 
   -- the rest of a read after its index, by what stands in the register of the array
-  read_runs : {w : Fixed L} {c rest : List Entry} {st t : State} {m : Memory} {hs : Homes} {ls : List Local} {stand names : Names} {b most : ℕ} (T : Ty) (ot : Option Ty) (a : List ℕ) (p r : ℕ) (x : ℤ) → ot ≡ Some T → NameLasts hs a p → b ≤ p → AreSafe L b hs → IsMade L p → Standing w hs ls stand names m b st → Goes D c st (load_code ot (reg_of L p) (register_at hs a) r rest) t most → Kept L st t b p → x_at t r ≡ word x → Gives D L c st rest b (p + 1) (reg_of L p) m (most + 1) (read_element ot m (value_at stand a) x)
+  read_runs : {w : Fixed L} {c rest : List DraftEntry} {st t : State} {m : Memory} {hs : Homes} {ls : List Local} {stand names : Names} {b most : ℕ} (T : Ty) (ot : Option Ty) (a : List ℕ) (p r : ℕ) (x : ℤ) → ot ≡ Some T → NameLasts hs a p → b ≤ p → AreSafe L b hs → IsMade L p → Standing w hs ls stand names m b st → Goes D c st (load_code ot (reg_of L p) (register_at hs a) r rest) t most → Kept L st t b p → x_at t r ≡ word x → Gives D L c st rest b (p + 1) (reg_of L p) m (most + 1) (read_element ot m (value_at stand a) x)
   read_runs {c = c} {rest = rest} {st = st} {t = t} {m = m} {hs = hs} {stand = stand} {b = b} {most = most} T ot a p r x e lasts le safe made at g kept is =
       let d = reg_of L p in
       let q = register_at hs a in
@@ -350,14 +350,14 @@ module _ (D : Laid) (L : Layout) (fit : Assigned L) where
       subst (λ o. Gives D L c st rest b (p + 1) d m (most + 1) (read_element o m (value_at stand a) x)) (sym e)
       (on (subst (λ o. Goes D c st (load_code o d q r rest) t most) e g) load)
     where
-      on : {o : Option ℤ} {e2 : List Entry} → Goes D c st e2 t most → Gives D L e2 t rest b (p + 1) (reg_of L p) m 1 o → Gives D L c st rest b (p + 1) (reg_of L p) m (most + 1) o
+      on : {o : Option ℤ} {e2 : List DraftEntry} → Goes D c st e2 t most → Gives D L e2 t rest b (p + 1) (reg_of L p) m 1 o → Gives D L c st rest b (p + 1) (reg_of L p) m (most + 1) o
       on g (no_value k) = no_value (stop_after (most + 1) (omega arith) g k)
       on g (a_value k) = a_value (record { end = k.end; goes = chain (most + 1) (omega arith) g k.goes; kept = kept_on L b (p + 1) (omega arith) (omega arith) (omega arith) (omega arith) kept k.kept; value = k.value })
 
   -- an index, and a read of the element
-  element_runs : {w : Fixed L} {hs : Homes} (s : Scope) {stand names : Names} {m : Memory} {st : State} (a : List ℕ) (i : Term) (T : Ty) (b n : ℕ) (rest : List Entry) (o : Option ℤ) (computed : Bool) → index_covers L.loose s.index (loose_in L.loose a) (option_and_then element_type (lookup s a)) o computed ≡ true → option_and_then element_type (lookup s a) ≡ Some T → FitsIndex o (IndexAt hs s.index (b + index_size o (term_size s.index i))) (Fits L hs s (index_type s i) b (b + index_size o (term_size s.index i)) i) → NameLasts hs a (b + index_size o (term_size s.index i)) → IsMade L (b + index_size o (term_size s.index i)) → AreSafe L b hs → Standing w hs s.visible stand names m b st
+  element_runs : {w : Fixed L} {hs : Homes} (s : Scope) {stand names : Names} {m : Memory} {st : State} (a : List ℕ) (i : Term) (T : Ty) (b n : ℕ) (rest : List DraftEntry) (o : Option ℤ) (computed : Bool) → index_covers L.loose s.index (loose_in L.loose a) (option_and_then element_type (lookup s a)) o computed ≡ true → option_and_then element_type (lookup s a) ≡ Some T → FitsIndex o (IndexAt hs s.index (b + index_size o (term_size s.index i))) (Fits L hs s (index_type s i) b (b + index_size o (term_size s.index i)) i) → NameLasts hs a (b + index_size o (term_size s.index i)) → IsMade L (b + index_size o (term_size s.index i)) → AreSafe L b hs → Standing w hs s.visible stand names m b st
       → Resolves D (number_code o (value_code L hs s (index_type s i) b n i) (load_code (option_and_then element_type (lookup s a)) (reg_of L (b + index_size o (term_size s.index i))) (register_at hs a) (number_register o (home L hs s.index b i)) rest))
-      → (o ≡ None → (rest : List Entry) → Runs D L i hs s names m st b (b + term_size s.index i) n rest (index_type s i))
+      → (o ≡ None → (rest : List DraftEntry) → Runs D L i hs s names m st b (b + term_size s.index i) n rest (index_type s i))
       → Gives D L (number_code o (value_code L hs s (index_type s i) b n i) (load_code (option_and_then element_type (lookup s a)) (reg_of L (b + index_size o (term_size s.index i))) (register_at hs a) (number_register o (home L hs s.index b i)) rest)) st rest b (b + (index_size o (term_size s.index i) + 1)) (reg_of L (b + index_size o (term_size s.index i))) m ((element_words o (coded_words L.constants s.index i)))
       (option_and_then (read_element (option_and_then element_type (lookup s a)) m (value_at names a)) (element_number o (iteration s.index names) (value s (index_type s i) i m names)))
   element_runs {w = w} {hs = hs} s {stand = stand} {names = names} {m = m} {st = st} a i T b n rest (Some c) computed cov type fits lasts made safe at res inner =
@@ -373,7 +373,7 @@ module _ (D : Laid) (L : Layout) (fit : Assigned L) where
   element_runs {w = w} {hs = hs} s {stand = stand} {names = names} {m = m} {st = st} a i T b n rest None computed cov type fits lasts made safe at res inner =
       found (value s (index_type s i) i m names) (inner refl last fits res)
     where
-      last : List Entry
+      last : List DraftEntry
       last = load_code (option_and_then element_type (lookup s a)) (reg_of L (b + term_size s.index i)) (register_at hs a) (home L hs s.index b i) rest
 
       base : value_at stand a ≡ value_at names a
@@ -404,9 +404,9 @@ module _ (D : Laid) (L : Layout) (fit : Assigned L) where
       )
 
   -- the two sides of a comparison
-  sides_run : (x y : Term) (hs : Homes) (s : Scope) (names : Names) {m : Memory} {st : State} (b n : ℕ) (rest : List Entry) → AreSafe L b hs
+  sides_run : (x y : Term) (hs : Homes) (s : Scope) (names : Names) {m : Memory} {st : State} (b n : ℕ) (rest : List DraftEntry) → AreSafe L b hs
       → IsSome (side_type s x y) × Fits L hs s (side_type s x y) b (b + term_size s.index x + term_size s.index y) x × Fits L hs s (side_type s x y) (b + term_size s.index x) (b + term_size s.index x + term_size s.index y) y
-      → ((T : Ty) (rest : List Entry) → side_type s x y ≡ Some T → Runs D L x hs s names m st b (b + term_size s.index x + term_size s.index y) n rest (Some T))
+      → ((T : Ty) (rest : List DraftEntry) → side_type s x y ≡ Some T → Runs D L x hs s names m st b (b + term_size s.index x + term_size s.index y) n rest (Some T))
       → ((T : Ty) (t : State) → side_type s x y ≡ Some T → Kept L st t b (b + term_size s.index x) → Runs D L y hs s names m t (b + term_size s.index x) (b + term_size s.index x + term_size s.index y) (n + labels s.index x) rest (Some T))
       → Resolves D (value_code L hs s (side_type s x y) b n x (right_code (compared_number (side_type s x y) y) (value_code L hs s (side_type s x y) (b + term_size s.index x) (n + labels s.index x) y) rest))
       → Pairs D L (value_code L hs s (side_type s x y) b n x (right_code (compared_number (side_type s x y) y) (value_code L hs s (side_type s x y) (b + term_size s.index x) (n + labels s.index x) y) rest)) st rest b (b + term_size s.index x + term_size s.index y)
@@ -425,10 +425,10 @@ module _ (D : Laid) (L : Layout) (fit : Assigned L) where
       (λ r. subst (λ w. Runs D L y hs s names m t b1 c (n + labels s.index x) rest w) (sym q.1) (right q.0 t q.1 k) h.2 r))
 
   -- one of two registers, by a condition
-  pick_runs : (c : Term) (hs : Homes) (s : Scope) (names : Names) {m : Memory} {st : State} (x y : ℤ) (n b e hx hy : ℕ) (rest : List Entry) (o : Option ℕ) → b + term_size s.index c < e → length st.x ≡ 31 → IsMade L (b + term_size s.index c) → hx ≤ 25 → hy ≤ 25
+  pick_runs : (c : Term) (hs : Homes) (s : Scope) (names : Names) {m : Memory} {st : State} (x y : ℤ) (n b e hx hy : ℕ) (rest : List DraftEntry) (o : Option ℕ) → b + term_size s.index c < e → length st.x ≡ 31 → IsMade L (b + term_size s.index c) → hx ≤ 25 → hy ≤ 25
       → ((q : ℕ) → b ≤ q → q < b + term_size s.index c → IsMade L q → reg_of L q ≢ hx) → ((q : ℕ) → b ≤ q → q < b + term_size s.index c → IsMade L q → reg_of L q ≢ hy) → x_at st hx ≡ word x → x_at st hy ≡ word y
-      → ((k : ℕ) (rest : List Entry) → o ≡ Some k → Resolves D (flags_code L hs s b (n + 2) c rest) → Flagged D L (flags_code L hs s b (n + 2) c rest) st rest b (b + term_size s.index c) k m (coded_words L.constants s.index c) (holds s c m names))
-      → ((rest : List Entry) → Resolves D (jump_code L hs s false n b (n + 2) c rest) → Turns D L (jump_code L hs s false n b (n + 2) c rest) st n rest b (b + term_size s.index c) m (coded_words L.constants s.index c) false (holds s c m names))
+      → ((k : ℕ) (rest : List DraftEntry) → o ≡ Some k → Resolves D (flags_code L hs s b (n + 2) c rest) → Flagged D L (flags_code L hs s b (n + 2) c rest) st rest b (b + term_size s.index c) k m (coded_words L.constants s.index c) (holds s c m names))
+      → ((rest : List DraftEntry) → Resolves D (jump_code L hs s false n b (n + 2) c rest) → Turns D L (jump_code L hs s false n b (n + 2) c rest) st n rest b (b + term_size s.index c) m (coded_words L.constants s.index c) false (holds s c m names))
       → Resolves D (choice_code o (flags_code L hs s b (n + 2) c) (jump_code L hs s false n b (n + 2) c) (reg_of L (b + term_size s.index c)) hx hy n rest)
       → Gives D L (choice_code o (flags_code L hs s b (n + 2) c) (jump_code L hs s false n b (n + 2) c) (reg_of L (b + term_size s.index c)) hx hy n rest) st rest b e (reg_of L (b + term_size s.index c)) m ((coded_words L.constants s.index c + 4)) (chosen (Some x) (Some y) (holds s c m names))
   pick_runs c hs s names x y n b e hx hy rest (Some k) lt sized made ix iy ax ay ex ey flags turn res =
@@ -439,7 +439,7 @@ module _ (D : Laid) (L : Layout) (fit : Assigned L) where
 
   -- what the code of an expression does
   mutual
-    pub loose_standing : (e : Term) {W : Fixed L} {hs : Homes} (s : Scope) {stand names : Names} {m : Memory} {st : State} (w : Extent) (T : Ty) (b user n : ℕ) (rest : List Entry) → b + term_size s.index e ≤ user → covers L.loose s w (Some T) e ≡ true → AreSafe L b hs → Standing W hs s.visible stand names m b st → LooseRuns D L e hs s stand names m st w b user n rest (Some T)
+    pub loose_standing : (e : Term) {W : Fixed L} {hs : Homes} (s : Scope) {stand names : Names} {m : Memory} {st : State} (w : Extent) (T : Ty) (b user n : ℕ) (rest : List DraftEntry) → b + term_size s.index e ≤ user → covers L.loose s w (Some T) e ≡ true → AreSafe L b hs → Standing W hs s.visible stand names m b st → LooseRuns D L e hs s stand names m st w b user n rest (Some T)
     loose_standing (Literal z) {W = W} s w T b user n rest le cov safe at h res = literal_runs D L fit (constant_at L (OfNumber z)) {W = W} z T b user refl (omega arith) at h.0 h.1
     loose_standing (Variable x) {hs = hs} s {stand = stand} {st = st} w T b user n rest le cov safe at h res =
         a_value (record { end = st; goes = stay 4; kept = kept_none L st b (b + 1); value = name_held hs stand x b st at.sized at.held (name_less hs x user b (omega arith) h.0) })
@@ -545,7 +545,7 @@ module _ (D : Laid) (L : Layout) (fit : Assigned L) where
     loose_standing (Not e) s w T b user n rest le cov safe at h res = absurd h
 
     -- the parts of a right side that stands in the operator's word
-    pub parts_standing : (e : Term) {W : Fixed L} {hs : Homes} (s : Scope) {stand names : Names} {m : Memory} {st : State} (op : BinaryOp) (w : Extent) (T : Ty) (b user n : ℕ) (rest : List Entry) → b + term_size s.index e ≤ user → covers L.loose s w (Some T) e ≡ true → is_fused s op w (Some T) e ≡ true → AreSafe L b hs → Standing W hs s.visible stand names m b st → Fits L hs s (Some T) b user e
+    pub parts_standing : (e : Term) {W : Fixed L} {hs : Homes} (s : Scope) {stand names : Names} {m : Memory} {st : State} (op : BinaryOp) (w : Extent) (T : Ty) (b user n : ℕ) (rest : List DraftEntry) → b + term_size s.index e ≤ user → covers L.loose s w (Some T) e ≡ true → is_fused s op w (Some T) e ≡ true → AreSafe L b hs → Standing W hs s.visible stand names m b st → Fits L hs s (Some T) b user e
         → Resolves D (parts_code L hs s w (Some T) b n e rest)
         → Sided D L (parts_code L hs s w (Some T) b n e rest) st rest b (b + term_size s.index e) (IsOperand (part_side L hs s.index (Some T) b e)) m (coded_words L.constants s.index e) (loose s w (Some T) e m stand names)
     parts_standing (Operation binary.Mul x y) {hs = hs} s {stand = stand} {names = names} {m = m} op w T b user n rest le cov f safe at h res =
@@ -588,7 +588,7 @@ module _ (D : Laid) (L : Layout) (fit : Assigned L) where
     parts_standing (Not e) s op w T b user n rest le cov f safe at h res = absurd cc
 
     -- a comparison, whose truth is in the flags
-    flags_standing : (e : Term) {w : Fixed L} {hs : Homes} (s : Scope) {stand names : Names} {m : Memory} {st : State} (b n k : ℕ) (rest : List Entry) → flag_condition s e ≡ Some k → covers_truth L.loose s e ≡ true → AreSafe L b hs → Standing w hs s.visible stand names m b st → FitsTruth L hs s b e → Resolves D (flags_code L hs s b n e rest)
+    flags_standing : (e : Term) {w : Fixed L} {hs : Homes} (s : Scope) {stand names : Names} {m : Memory} {st : State} (b n k : ℕ) (rest : List DraftEntry) → flag_condition s e ≡ Some k → covers_truth L.loose s e ≡ true → AreSafe L b hs → Standing w hs s.visible stand names m b st → FitsTruth L hs s b e → Resolves D (flags_code L hs s b n e rest)
         → Flagged D L (flags_code L hs s b n e rest) st rest b (b + term_size s.index e) k m (coded_words L.constants s.index e) (holds s e m names)
     flags_standing (Comparison op x y) {hs = hs} s {stand = stand} {names = names} {m = m} {st = st} b n k rest is cov safe at h res =
         let want = side_type s x y in
@@ -614,7 +614,7 @@ module _ (D : Laid) (L : Layout) (fit : Assigned L) where
     flags_standing (Not e) s b n k rest is cov safe at h res = absurd cc
 
     -- what the code of a condition does
-    pub jump_standing : (e : Term) {w : Fixed L} {hs : Homes} (s : Scope) {stand names : Names} {m : Memory} {st : State} (sense : Bool) (to b n : ℕ) (rest : List Entry) → covers_truth L.loose s e ≡ true → AreSafe L b hs → Standing w hs s.visible stand names m b st → FitsTruth L hs s b e → Resolves D (jump_code L hs s sense to b n e rest)
+    pub jump_standing : (e : Term) {w : Fixed L} {hs : Homes} (s : Scope) {stand names : Names} {m : Memory} {st : State} (sense : Bool) (to b n : ℕ) (rest : List DraftEntry) → covers_truth L.loose s e ≡ true → AreSafe L b hs → Standing w hs s.visible stand names m b st → FitsTruth L hs s b e → Resolves D (jump_code L hs s sense to b n e rest)
         → Turns D L (jump_code L hs s sense to b n e rest) st to rest b (b + term_size s.index e) m (coded_words L.constants s.index e) sense (holds s e m names)
     jump_standing (Comparison op x y) {hs = hs} s {stand = stand} {names = names} {m = m} {st = st} sense to b n rest cov safe at h res =
         let want = side_type s x y in
@@ -672,21 +672,21 @@ module _ (D : Laid) (L : Layout) (fit : Assigned L) where
   -- ---- the same of registers that have what stands of the names
 
   -- what the code of an expression does
-  pub loose_runs : (e : Term) {W : Fixed L} {hs : Homes} (s : Scope) {names : Names} {m : Memory} {st : State} (w : Extent) (T : Ty) (b user n : ℕ) (rest : List Entry) → b + term_size s.index e ≤ user → covers L.loose s w (Some T) e ≡ true → AreSafe L b hs → (at : At W hs s.visible names m b st) → LooseRuns D L e hs s at.stand names m st w b user n rest (Some T)
+  pub loose_runs : (e : Term) {W : Fixed L} {hs : Homes} (s : Scope) {names : Names} {m : Memory} {st : State} (w : Extent) (T : Ty) (b user n : ℕ) (rest : List DraftEntry) → b + term_size s.index e ≤ user → covers L.loose s w (Some T) e ≡ true → AreSafe L b hs → (at : At W hs s.visible names m b st) → LooseRuns D L e hs s at.stand names m st w b user n rest (Some T)
   loose_runs e s w T b user n rest le cov safe at = loose_standing e s w T b user n rest le cov safe (standing at)
 
-  pub parts_runs : (e : Term) {W : Fixed L} {hs : Homes} (s : Scope) {names : Names} {m : Memory} {st : State} (op : BinaryOp) (w : Extent) (T : Ty) (b user n : ℕ) (rest : List Entry) → b + term_size s.index e ≤ user → covers L.loose s w (Some T) e ≡ true → is_fused s op w (Some T) e ≡ true → AreSafe L b hs → (at : At W hs s.visible names m b st) → Fits L hs s (Some T) b user e
+  pub parts_runs : (e : Term) {W : Fixed L} {hs : Homes} (s : Scope) {names : Names} {m : Memory} {st : State} (op : BinaryOp) (w : Extent) (T : Ty) (b user n : ℕ) (rest : List DraftEntry) → b + term_size s.index e ≤ user → covers L.loose s w (Some T) e ≡ true → is_fused s op w (Some T) e ≡ true → AreSafe L b hs → (at : At W hs s.visible names m b st) → Fits L hs s (Some T) b user e
       → Resolves D (parts_code L hs s w (Some T) b n e rest)
       → Sided D L (parts_code L hs s w (Some T) b n e rest) st rest b (b + term_size s.index e) (IsOperand (part_side L hs s.index (Some T) b e)) m (coded_words L.constants s.index e) (loose s w (Some T) e m at.stand names)
   parts_runs e s op w T b user n rest le cov f safe at h res = parts_standing e s op w T b user n rest le cov f safe (standing at) h res
 
   -- what the code of a condition does
-  pub jump_runs : (e : Term) {w : Fixed L} {hs : Homes} (s : Scope) {names : Names} {m : Memory} {st : State} (sense : Bool) (to b n : ℕ) (rest : List Entry) → covers_truth L.loose s e ≡ true → AreSafe L b hs → At w hs s.visible names m b st → FitsTruth L hs s b e → Resolves D (jump_code L hs s sense to b n e rest)
+  pub jump_runs : (e : Term) {w : Fixed L} {hs : Homes} (s : Scope) {names : Names} {m : Memory} {st : State} (sense : Bool) (to b n : ℕ) (rest : List DraftEntry) → covers_truth L.loose s e ≡ true → AreSafe L b hs → At w hs s.visible names m b st → FitsTruth L hs s b e → Resolves D (jump_code L hs s sense to b n e rest)
       → Turns D L (jump_code L hs s sense to b n e rest) st to rest b (b + term_size s.index e) m (coded_words L.constants s.index e) sense (holds s e m names)
   jump_runs e s sense to b n rest cov safe at h res = jump_standing e s sense to b n rest cov safe (standing at) h res
 
   -- the right side of an operator
-  pub side_runs : (e : Term) {W : Fixed L} {hs : Homes} (s : Scope) {names : Names} {m : Memory} {st : State} (op : BinaryOp) (w : Extent) (T : Ty) (b user n : ℕ) (rest : List Entry) → b + term_size s.index e ≤ user → covers L.loose s w (Some T) e ≡ true → AreSafe L b hs → (at : At W hs s.visible names m b st) → Fits L hs s (Some T) b user e
+  pub side_runs : (e : Term) {W : Fixed L} {hs : Homes} (s : Scope) {names : Names} {m : Memory} {st : State} (op : BinaryOp) (w : Extent) (T : Ty) (b user n : ℕ) (rest : List DraftEntry) → b + term_size s.index e ≤ user → covers L.loose s w (Some T) e ≡ true → AreSafe L b hs → (at : At W hs s.visible names m b st) → Fits L hs s (Some T) b user e
       → Resolves D (side_code (added_number op (Some T) e) (is_fused s op w (Some T) e) (loose_code L hs s w (Some T) b n e) (parts_code L hs s w (Some T) b n e) rest)
       → Sided D L (side_code (added_number op (Some T) e) (is_fused s op w (Some T) e) (loose_code L hs s w (Some T) b n e) (parts_code L hs s w (Some T) b n e) rest) st rest b (b + term_size s.index e) (IsOperand (right_side L hs s op w (Some T) b e)) m (coded_words L.constants s.index e) (loose s w (Some T) e m at.stand names)
   side_runs e {hs = hs} s {names = names} {m = m} op w T b user n rest le cov safe at h res =
@@ -694,5 +694,5 @@ module _ (D : Laid) (L : Layout) (fit : Assigned L) where
       (λ r. loose_runs e s w T b user n rest le cov safe at h r) (λ f r. parts_runs e s op w T b user n rest le cov f safe at h r)
 
   -- a value itself
-  pub value_runs : (e : Term) {w : Fixed L} {hs : Homes} (s : Scope) {names : Names} {m : Memory} {st : State} (T : Ty) (b user n : ℕ) (rest : List Entry) → b + term_size s.index e ≤ user → covers L.loose s Whole (Some T) e ≡ true → AreSafe L b hs → At w hs s.visible names m b st → Runs D L e hs s names m st b user n rest (Some T)
+  pub value_runs : (e : Term) {w : Fixed L} {hs : Homes} (s : Scope) {names : Names} {m : Memory} {st : State} (T : Ty) (b user n : ℕ) (rest : List DraftEntry) → b + term_size s.index e ≤ user → covers L.loose s Whole (Some T) e ≡ true → AreSafe L b hs → At w hs s.visible names m b st → Runs D L e hs s names m st b user n rest (Some T)
   value_runs e {hs = hs} s {names = names} {m = m} T b user n rest le cov safe at = exact _ hs b user n e s at.stand names m (Some T) at.ranged at.told cov (loose_runs e s Whole T b user n rest le cov safe at)

@@ -8,7 +8,7 @@ use Rattle.kernel_tree.specs.declared.ops.Ty.{Ty}
 use Rattle.kernel_meaning.specs.Operators.{word}
 use Rattle.kernel_meaning.specs.Eval.{Names, value_at, iteration}
 use Rattle.scalar_words.specs.Layout.{Form, Loose, loose_in, Home, Homes, is_home, LastsAt, NameLasts}
-use Rattle.scalar_words.proofs.LayoutStates.{Held, Tells, Told, lasts_less, name_held}
+use Rattle.scalar_words.proofs.LayoutStates.{AreInRegisters, Tells, Told, lasts_less, name_held}
 use Rattle.scalar_words.proofs.Told.{tells_itself, told_at}
 use Rattle.scalar_values.specs.Fits.{IndexAt}
 use Rattle.scalar_values.specs.Covers.{is_whole, index_covers}
@@ -32,7 +32,7 @@ pub name_less : (hs : Homes) (x : List ℕ) (p q : ℕ) → q ≤ p → NameLast
 name_less hs x p q le h = name_less_in (find (is_home x) hs) p q le h
 
 -- the loop variable
-pub index_is : (hs : Homes) (i : Option (List ℕ)) (names : Names) (p b : ℕ) (st : State) → b ≤ p → IndexAt hs i p → length st.x ≡ 31 → Held hs names b st → x_at st 9 ≡ word (iteration i names)
+pub index_is : (hs : Homes) (i : Option (List ℕ)) (names : Names) (p b : ℕ) (st : State) → b ≤ p → IndexAt hs i p → length st.x ≡ 31 → AreInRegisters hs names b st → x_at st 9 ≡ word (iteration i names)
 index_is hs None names p b st le h sized held = absurd h
 index_is hs (Some x) names p b st le h sized held = ap (x_at st) (sym h.0) ∙ name_held hs names x b st sized held (name_less hs x p b le h.1)
 

@@ -9,7 +9,7 @@ use Rattle.kernel_tree.specs.Items.{literal_value, term_size, index_items, strea
 use Rattle.kernel_tree.specs.Wrap.{is_signed}
 use Rattle.kernel_tree.specs.Typing.{Scope, lookup, own, element_type, index_type, side_type}
 use Rattle.kernel_meaning.specs.Operators.{word, wrapped, shift_count}
-use Rattle.label_fix.specs.DraftRun.{Entry, Put, ins}
+use Rattle.label_fix.specs.DraftRun.{DraftEntry, Put, ins}
 use Rattle.scalar_words.specs.Layout.{Key, OfNumber, OfAddress, Layout, Homes, reg_of, last_use_at, constant_at, register_at}
 use Rattle.kernel_meaning.specs.Eval.{byte_count}
 use Rattle.scalar_values.specs.ValueRegisters.{home}
@@ -39,7 +39,7 @@ labels i (Either a b) = 1 + labels i a + labels i b
 labels i (Not e) = labels i e
 
 -- the code of an index, which is an offset from the loop variable or a computed number, and the register that holds it
-abbrev pub number_code : Option ℤ → (List Entry → List Entry) → List Entry → List Entry
+abbrev pub number_code : Option ℤ → (List DraftEntry → List DraftEntry) → List DraftEntry → List DraftEntry
 number_code (Some c) inner rest = word_code (index_word c) rest
 number_code None inner rest = inner rest
 
@@ -130,7 +130,7 @@ right_side L homes s op w want b y = side_by (added_number op want y) (is_fused 
 
 -- the code of a right side: none where the word holds it as a number, that of its parts where it stands in the word, and else
 -- its own
-abbrev pub side_code : Option ℕ → (fused : Bool) → (whole parts : List Entry → List Entry) → List Entry → List Entry
+abbrev pub side_code : Option ℕ → (fused : Bool) → (whole parts : List DraftEntry → List DraftEntry) → List DraftEntry → List DraftEntry
 side_code (Some v) fused whole parts rest = rest
 side_code None true whole parts rest = parts rest
 side_code None false whole parts rest = whole rest
@@ -183,11 +183,11 @@ abbrev pub other_home : Layout → Homes → Scope → BinaryOp → Extent → O
 other_home L homes s op w want b x y = if is_led L homes s op w want b x y then home L homes s.index (b + term_size s.index x) y else home L homes s.index b x
 
 -- no code for a right side that a word holds, and none for a literal whose number a register holds
-abbrev pub right_code : Option ℕ → (List Entry → List Entry) → List Entry → List Entry
+abbrev pub right_code : Option ℕ → (List DraftEntry → List DraftEntry) → List DraftEntry → List DraftEntry
 right_code (Some v) inner rest = rest
 right_code None inner rest = inner rest
 
-abbrev pub literal_code : Layout → Option Ty → (b : ℕ) → ℤ → List Entry → List Entry
+abbrev pub literal_code : Layout → Option Ty → (b : ℕ) → ℤ → List DraftEntry → List DraftEntry
 literal_code L want b z rest = right_code (constant_at L (OfNumber z)) (const_code (reg_of L b) (word (wrapped want z))) rest
 
 -- a small offset
@@ -223,13 +223,13 @@ flag_condition s (Comparison op x y) = Some (condition op (signed_side (side_typ
 flag_condition s _ = None
 
 -- p or q into d: by the flags after a comparison, and else by a jump to label n
-abbrev pub choice_code : Option ℕ → (flags jump : List Entry → List Entry) → (d p q n : ℕ) → List Entry → List Entry
+abbrev pub choice_code : Option ℕ → (flags jump : List DraftEntry → List DraftEntry) → (d p q n : ℕ) → List DraftEntry → List DraftEntry
 choice_code (Some k) flags jump d p q n rest = flags (ins csel (d ∷ p ∷ k ∷ q ∷ []) ∷ rest)
 choice_code None flags jump d p q n rest = jump (pick_code d p q n rest)
 
 abbrev mutual
   -- a value into its register, of which so much is asked for
-  pub loose_code : Layout → Homes → Scope → Extent → Option Ty → (b n : ℕ) → Term → List Entry → List Entry
+  pub loose_code : Layout → Homes → Scope → Extent → Option Ty → (b n : ℕ) → Term → List DraftEntry → List DraftEntry
   loose_code L homes scope w want b n (Literal z) rest = literal_code L want b z rest
   loose_code L homes scope w want b n (Variable x) rest = rest
   loose_code L homes scope w want b n (Element a e) rest =
@@ -263,7 +263,7 @@ abbrev mutual
   loose_code L homes scope w want b n (Not e) rest = rest
 
   -- the operands of a value of which so much is asked for, where it stands in the word of its user
-  pub parts_code : Layout → Homes → Scope → Extent → Option Ty → (b n : ℕ) → Term → List Entry → List Entry
+  pub parts_code : Layout → Homes → Scope → Extent → Option Ty → (b n : ℕ) → Term → List DraftEntry → List DraftEntry
   parts_code L homes scope w want b n (Operation op p q) rest =
       loose_code L homes scope (binary_asks scope want op p q w) want b n p (loose_code L homes scope (binary_asks scope want op p q w) want (b + term_size scope.index p) (n + labels scope.index p) q rest)
   parts_code L homes scope w want b n (Shift left e z) rest = loose_code L homes scope (shift_asks scope want left e z w) want b n e rest
@@ -271,14 +271,14 @@ abbrev mutual
   parts_code L homes scope w want b n _ rest = rest
 
   -- a comparison, whose truth is in the flags
-  pub flags_code : Layout → Homes → Scope → (b n : ℕ) → Term → List Entry → List Entry
+  pub flags_code : Layout → Homes → Scope → (b n : ℕ) → Term → List DraftEntry → List DraftEntry
   flags_code L homes scope b n (Comparison op x y) rest =
       loose_code L homes scope Whole (side_type scope x y) b n x (right_code (compared_number (side_type scope x y) y) (loose_code L homes scope Whole (side_type scope x y) (b + term_size scope.index x) (n + labels scope.index x) y)
       (Put (compare_word (compared_number (side_type scope x y) y) (home L homes scope.index b x) (home L homes scope.index (b + term_size scope.index x) y)) ∷ rest))
   flags_code L homes scope b n _ rest = rest
 
   -- to the label `to` where the truth of a condition is `sense`, and else on
-  pub jump_code : Layout → Homes → Scope → (sense : Bool) → (to b n : ℕ) → Term → List Entry → List Entry
+  pub jump_code : Layout → Homes → Scope → (sense : Bool) → (to b n : ℕ) → Term → List DraftEntry → List DraftEntry
   jump_code L homes scope sense to b n (Comparison op x y) rest =
       loose_code L homes scope Whole (side_type scope x y) b n x (right_code (compared_number (side_type scope x y) y) (loose_code L homes scope Whole (side_type scope x y) (b + term_size scope.index x) (n + labels scope.index x) y)
       (branch_code op sense (signed_side (side_type scope x y)) (compared_number (side_type scope x y) y) (home L homes scope.index b x) (home L homes scope.index (b + term_size scope.index x) y) to rest))
@@ -290,16 +290,16 @@ abbrev mutual
   jump_code L homes scope sense to b n _ rest = rest
 
 -- a value itself into its register
-abbrev pub value_code : Layout → Homes → Scope → Option Ty → (b n : ℕ) → Term → List Entry → List Entry
+abbrev pub value_code : Layout → Homes → Scope → Option Ty → (b n : ℕ) → Term → List DraftEntry → List DraftEntry
 value_code L homes scope want b n e rest = loose_code L homes scope Whole want b n e rest
 
 -- one of two registers, by a condition whose items begin at b
-abbrev pub one_of_code : Layout → Homes → Scope → (b n : ℕ) → Term → (p q : ℕ) → List Entry → List Entry
+abbrev pub one_of_code : Layout → Homes → Scope → (b n : ℕ) → Term → (p q : ℕ) → List DraftEntry → List DraftEntry
 one_of_code L homes scope b n c p q rest =
     choice_code (flag_condition scope c) (flags_code L homes scope b (n + 2) c) (jump_code L homes scope false n b (n + 2) c) (reg_of L (b + term_size scope.index c)) p q n rest
 
 -- both sides of an operator, of which so much is asked for
-abbrev pub sides_code : Layout → Homes → Scope → Extent → Option Ty → (b n : ℕ) → BinaryOp → (x y : Term) → List Entry → List Entry
+abbrev pub sides_code : Layout → Homes → Scope → Extent → Option Ty → (b n : ℕ) → BinaryOp → (x y : Term) → List DraftEntry → List DraftEntry
 sides_code L homes scope w want b n op x y rest =
     side_code None (is_led L homes scope op w want b x y) (loose_code L homes scope w want b n x) (parts_code L homes scope w want b n x)
     (side_code (added_number op want y) (not (is_led L homes scope op w want b x y) && is_fused scope op w want y) (loose_code L homes scope w want (b + term_size scope.index x) (n + labels scope.index x) y) (parts_code L homes scope w want (b + term_size scope.index x) (n + labels scope.index x) y) rest)
@@ -308,7 +308,7 @@ sides_code L homes scope w want b n op x y rest =
 abbrev pub index_labels : Option (List ℕ) → Term → ℕ
 index_labels i e = inner_labels (stream_offset i e) (labels i e)
 
-abbrev pub index_code : Layout → Homes → Scope → (b n : ℕ) → Term → List Entry → List Entry
+abbrev pub index_code : Layout → Homes → Scope → (b n : ℕ) → Term → List DraftEntry → List DraftEntry
 index_code L homes scope b n e rest = number_code (stream_offset scope.index e) (loose_code L homes scope Whole (index_type scope e) b n e) rest
 
 abbrev pub index_home : Layout → Homes → Scope → (b : ℕ) → Term → ℕ

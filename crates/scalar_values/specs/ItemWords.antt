@@ -10,7 +10,7 @@ use Rattle.kernel_tree.specs.declared.ops.CompareOp.{CompareOp}
 use Rattle.kernel_tree.specs.Wrap.{is_signed}
 use Rattle.kernel_meaning.specs.Operators.{shift_count}
 use Rattle.kernel_meaning.specs.TypeValues.{fits}
-use Rattle.label_fix.specs.DraftRun.{Kind, Always, If, Zero, NotZero, Entry, Put, Branch, Place, word_of, ins}
+use Rattle.label_fix.specs.DraftRun.{Kind, Always, If, Zero, NotZero, DraftEntry, Put, Branch, Place, word_of, ins}
 use Rattle.label_fix.specs.Finished.{is_plain}
 use Rattle.scalar_words.specs.Words.{word_code, copy_word, extend_word, settle_word, condition, operation_code, contrary}
 use Rattle.kernel_tree.specs.declared.ops.Ty.TheVariants as ty
@@ -70,20 +70,20 @@ store ty.U32 d p r = word_of str_w_register (d ∷ p ∷ 1 ∷ r ∷ [])
 store ty.I64 d p r = word_of str_x_register (d ∷ p ∷ 1 ∷ r ∷ [])
 store ty.U64 d p r = word_of str_x_register (d ∷ p ∷ 1 ∷ r ∷ [])
 
-abbrev pub load_code : Option Ty → (d p r : ℕ) → List Entry → List Entry
+abbrev pub load_code : Option Ty → (d p r : ℕ) → List DraftEntry → List DraftEntry
 load_code None d p r rest = rest
 load_code (Some t) d p r rest = Put (load t d p r) ∷ rest
 
-abbrev pub store_code : Option Ty → (d p r : ℕ) → List Entry → List Entry
+abbrev pub store_code : Option Ty → (d p r : ℕ) → List DraftEntry → List DraftEntry
 store_code None d p r rest = rest
 store_code (Some t) d p r rest = Put (store t d p r) ∷ rest
 
 -- the absolute value, by whether the type is signed
-abbrev pub abs_code : (leaves signed : Bool) → Ty → ℕ → ℕ → List Entry → List Entry
+abbrev pub abs_code : (leaves signed : Bool) → Ty → ℕ → ℕ → List DraftEntry → List DraftEntry
 abs_code leaves true t d a rest = ins subs (26 ∷ 31 ∷ 0 ∷ a ∷ 0 ∷ []) ∷ ins csel (d ∷ 26 ∷ 10 ∷ a ∷ []) ∷ word_code (settle_word leaves t d) rest
 abs_code leaves false t d a rest = word_code (copy_word d a) rest
 
-abbrev pub unary_code : (leaves : Bool) → UnaryOp → Ty → ℕ → ℕ → List Entry → List Entry
+abbrev pub unary_code : (leaves : Bool) → UnaryOp → Ty → ℕ → ℕ → List DraftEntry → List DraftEntry
 unary_code leaves unary.Neg t d a rest = ins sub (d ∷ 31 ∷ 0 ∷ a ∷ 0 ∷ []) ∷ word_code (settle_word leaves t d) rest
 unary_code leaves unary.Flip t d a rest = ins orn (d ∷ 31 ∷ 0 ∷ a ∷ 0 ∷ []) ∷ word_code (settle_word leaves t d) rest
 unary_code leaves unary.Abs t d a rest = abs_code leaves (is_signed t) t d a rest
@@ -93,7 +93,7 @@ shift_kind true signed = 0
 shift_kind false true = 2
 shift_kind false false = 1
 
-abbrev pub shift_code : (leaves left : Bool) → ℤ → Ty → ℕ → ℕ → List Entry → List Entry
+abbrev pub shift_code : (leaves left : Bool) → ℤ → Ty → ℕ → ℕ → List DraftEntry → List DraftEntry
 shift_code leaves left n t d a rest = ins orr (d ∷ 31 ∷ shift_count n ∷ a ∷ shift_kind left (is_signed t) ∷ []) ∷ word_code (settle_word leaves t d) rest
 
 -- ---- numbers that a word holds
@@ -146,7 +146,7 @@ shift_word binary.Xor d a kind n r = word_of eor (d ∷ a ∷ n ∷ r ∷ kind �
 shift_word _ d a kind n r = word_of add (d ∷ a ∷ n ∷ r ∷ kind ∷ [])
 
 -- an operator of a and its right side
-abbrev pub operator_code : Side → (leaves : Bool) → BinaryOp → Ty → (d a : ℕ) → List Entry → List Entry
+abbrev pub operator_code : Side → (leaves : Bool) → BinaryOp → Ty → (d a : ℕ) → List DraftEntry → List DraftEntry
 operator_code (Number v) leaves op t d a rest = Put (sum_word op v d a) ∷ word_code (settle_word leaves t d) rest
 operator_code (Register c) leaves op t d a rest = operation_code op (is_signed t) d a c (word_code (settle_word leaves t d) rest)
 operator_code (Product p q) leaves op t d a rest = Put (product_word op d a p q) ∷ word_code (settle_word leaves t d) rest
@@ -181,20 +181,20 @@ zero_test compare.Ne (Some zero) = Some false
 zero_test _ _ = None
 
 -- to a label where the truth of a comparison is `sense`
-abbrev pub tested_code : Option Bool → (sense : Bool) → Option ℕ → (a c k to : ℕ) → List Entry → List Entry
+abbrev pub tested_code : Option Bool → (sense : Bool) → Option ℕ → (a c k to : ℕ) → List DraftEntry → List DraftEntry
 tested_code (Some is) sense number a c k to rest = Branch (zero_kind (same_sense sense is) a) to ∷ rest
 tested_code None sense number a c k to rest = Put (compare_word number a c) ∷ Branch (If (turned sense k)) to ∷ rest
 
-abbrev pub branch_code : CompareOp → (sense signed : Bool) → Option ℕ → (a c to : ℕ) → List Entry → List Entry
+abbrev pub branch_code : CompareOp → (sense signed : Bool) → Option ℕ → (a c to : ℕ) → List DraftEntry → List DraftEntry
 branch_code op sense signed number a c to rest = tested_code (zero_test op number) sense number a c (condition op signed) to rest
 
 -- ---- choices
 
 -- p into d where the code before goes on, and q where it goes to label n
-abbrev pub pick_code : (d p q n : ℕ) → List Entry → List Entry
+abbrev pub pick_code : (d p q n : ℕ) → List DraftEntry → List DraftEntry
 pick_code d p q n rest = word_code (copy_word d p) (Branch Always (n + 1) ∷ Place n ∷ word_code (copy_word d q) (Place (n + 1) ∷ rest))
 
 -- the place of a label, where it is wanted
-abbrev pub placed_code : Bool → ℕ → List Entry → List Entry
+abbrev pub placed_code : Bool → ℕ → List DraftEntry → List DraftEntry
 placed_code true n rest = Place n ∷ rest
 placed_code false n rest = rest

@@ -16,7 +16,7 @@ use Rattle.kernel_meaning.proofs.ExtendedForm.{binary-kept}
 use Rattle.a64_code.specs.Table.{subs, csel}
 use Rattle.scalar_words.proofs.Truths.{tested, tested_goes, tested_flags, tested_sized, tested_all, tested_changes, tested_shaped}
 use Rattle.scalar_words.proofs.Compare.{compared}
-use Rattle.label_fix.specs.DraftRun.{Entry, Laid, ins, word_of}
+use Rattle.label_fix.specs.DraftRun.{DraftEntry, Laid, ins, word_of}
 use Rattle.label_fix.proofs.StretchSteps.{chain}
 use Rattle.scalar_words.specs.Layout.{Layout}
 use Rattle.scalar_words.specs.Words.{binary_code, operation_code, word_code, settle_word, condition}
@@ -40,7 +40,7 @@ word-difference x y = word-add x (neg_ℤ y) ∙ ap (λ n. (word x + n) % 2 ^ 64
 
 module _ (D : Laid) (L : Layout) (fit : Assigned L) where
   -- a comparison, and one of two registers by whether the first is the greater
-  choice_sets : {rest : List Entry} {s : State} (t : Ty) (a c p q d : ℕ) (x y u v : ℤ) → length s.x ≡ 31 → d ≤ 25 → InRange (is_signed t) x → InRange (is_signed t) y → x_at s a ≡ word x → x_at s c ≡ word y → x_at s p ≡ word u → x_at s q ≡ word v
+  choice_sets : {rest : List DraftEntry} {s : State} (t : Ty) (a c p q d : ℕ) (x y u v : ℤ) → length s.x ≡ 31 → d ≤ 25 → InRange (is_signed t) x → InRange (is_signed t) y → x_at s a ≡ word x → x_at s c ≡ word y → x_at s p ≡ word u → x_at s q ≡ word v
       → word (wrap t (cond (int_lt y x) u v)) ≡ word (cond (int_lt y x) u v)
       → Sets D (ins subs (31 ∷ a ∷ 0 ∷ c ∷ 0 ∷ []) ∷ (ins csel (d ∷ p ∷ condition compare.Gt (is_signed t) ∷ q ∷ []) ∷ word_code (settle_word false t d) rest)) s rest d (wrap t (cond (int_lt y x) u v)) 3
   choice_sets {rest = rest} {s = s} t a c p q d x y u v sized hi rx ry ex ey eu ev kept =
@@ -64,7 +64,7 @@ module _ (D : Laid) (L : Layout) (fit : Assigned L) where
       which false = refl
 
   -- an operator that joins low bits, of any two integers
-  pub joined_sets : {rest : List Entry} {s : State} (op : BinaryOp) (leaves sg : Bool) (t : Ty) (x y : ℤ) (a c d : ℕ) → binary_joins op ≡ true → length s.x ≡ 31 → d ≤ 25 → (leaves ≡ false → word (wrap t (binary_on op x y)) ≡ word (binary_on op x y)) → x_at s a ≡ word x → x_at s c ≡ word y
+  pub joined_sets : {rest : List DraftEntry} {s : State} (op : BinaryOp) (leaves sg : Bool) (t : Ty) (x y : ℤ) (a c d : ℕ) → binary_joins op ≡ true → length s.x ≡ 31 → d ≤ 25 → (leaves ≡ false → word (wrap t (binary_on op x y)) ≡ word (binary_on op x y)) → x_at s a ≡ word x → x_at s c ≡ word y
       → Sets D (operation_code op sg d a c (word_code (settle_word leaves t d) rest)) s rest d (wrap t (binary_on op x y)) 2
   joined_sets {s = s} binary.Add leaves sg t x y a c d j sized hi kept ex ey = settle_sets D L fit leaves t d (sum (x_at s a) (shifted_word 0 (x_at s c) 0)) (x +ℤ y) sized hi refl (ap₂ (λ m n. sum m (shifted_word 0 n 0)) ex ey ∙ ap (λ n. sum (word x) n) (plain (word y) (word-below y)) ∙ sym (word-add x y)) kept
   joined_sets {s = s} binary.Sub leaves sg t x y a c d j sized hi kept ex ey = settle_sets D L fit leaves t d (difference (x_at s a) (shifted_word 0 (x_at s c) 0)) (x -ℤ y) sized hi refl (ap₂ (λ m n. difference m (shifted_word 0 n 0)) ex ey ∙ ap (λ n. difference (word x) n) (plain (word y) (word-below y)) ∙ sym (word-difference x y)) kept
@@ -78,7 +78,7 @@ module _ (D : Laid) (L : Layout) (fit : Assigned L) where
   joined_sets binary.Min leaves sg t x y a c d j sized hi kept ex ey = absurd cc
   joined_sets binary.Max leaves sg t x y a c d j sized hi kept ex ey = absurd cc
 
-  pub binary_sets : {rest : List Entry} {s : State} (op : BinaryOp) (t : Ty) (x y : ℤ) (a c d : ℕ) → length s.x ≡ 31 → d ≤ 25 → IsOf t x → IsOf t y → x_at s a ≡ word x → x_at s c ≡ word y → Sets D (binary_code op t d a c rest) s rest d (wrap t (binary_on op x y)) 3
+  pub binary_sets : {rest : List DraftEntry} {s : State} (op : BinaryOp) (t : Ty) (x y : ℤ) (a c d : ℕ) → length s.x ≡ 31 → d ≤ 25 → IsOf t x → IsOf t y → x_at s a ≡ word x → x_at s c ≡ word y → Sets D (binary_code op t d a c rest) s rest d (wrap t (binary_on op x y)) 3
   binary_sets binary.Add t x y a c d sized hi rx ry ex ey = set_more 3 (omega arith) (joined_sets binary.Add true (is_signed t) t x y a c d refl sized hi (binary-kept binary.Add t x y rx ry) ex ey)
   binary_sets binary.Sub t x y a c d sized hi rx ry ex ey = set_more 3 (omega arith) (joined_sets binary.Sub true (is_signed t) t x y a c d refl sized hi (binary-kept binary.Sub t x y rx ry) ex ey)
   binary_sets binary.Mul t x y a c d sized hi rx ry ex ey = set_more 3 (omega arith) (joined_sets binary.Mul true (is_signed t) t x y a c d refl sized hi (binary-kept binary.Mul t x y rx ry) ex ey)

@@ -8,7 +8,7 @@ use Rattle.machine_model.specs.Arithmetic.{replaced, inverted}
 use Rattle.machine_model.specs.States.{IsState}
 use Rattle.kernel_meaning.specs.Operators.{word}
 use Rattle.kernel_meaning.proofs.Residues.{word-below}
-use Rattle.label_fix.specs.DraftRun.{Entry, Laid}
+use Rattle.label_fix.specs.DraftRun.{DraftEntry, Laid}
 use Rattle.label_fix.proofs.StretchSteps.{Goes, Resolves, put_goes, chain, go_more, stay}
 use Rattle.scalar_words.specs.Layout.{Layout, reg_of, IsMade}
 use Rattle.scalar_words.specs.Words.{filler, has_ones, start_code, half_word, word_code, filled_code, halves_code, const_code}
@@ -17,30 +17,30 @@ use Rattle.scalar_words.proofs.WordsRuns.{Gets}
 
 -- labels after a constant
 module _ (D : Laid) where
-  pub word_back : (o : Option Listed) (rest : List Entry) → Resolves D (word_code o rest) → Resolves D rest
+  pub word_back : (o : Option Listed) (rest : List DraftEntry) → Resolves D (word_code o rest) → Resolves D rest
   word_back None rest h = h
   word_back (Some i) rest h = h
 
-  start_back : (o : Bool) (d h p : ℕ) (rest : List Entry) → Resolves D (start_code o d h p rest) → Resolves D rest
+  start_back : (o : Bool) (d h p : ℕ) (rest : List DraftEntry) → Resolves D (start_code o d h p rest) → Resolves D rest
   start_back true d h p rest r = r
   start_back false d h p rest r = r
 
-  filled_back : (e0 e1 e2 e3 o : Bool) (d h0 h1 h2 h3 : ℕ) (rest : List Entry) → Resolves D (filled_code e0 e1 e2 e3 o d h0 h1 h2 h3 rest) → Resolves D rest
+  filled_back : (e0 e1 e2 e3 o : Bool) (d h0 h1 h2 h3 : ℕ) (rest : List DraftEntry) → Resolves D (filled_code e0 e1 e2 e3 o d h0 h1 h2 h3 rest) → Resolves D rest
   filled_back false e1 e2 e3 o d h0 h1 h2 h3 rest h = word_back (half_word d (filler o) h3 3) rest (word_back (half_word d (filler o) h2 2) _ (word_back (half_word d (filler o) h1 1) _ (start_back o d h0 0 _ h)))
   filled_back true false e2 e3 o d h0 h1 h2 h3 rest h = word_back (half_word d (filler o) h3 3) rest (word_back (half_word d (filler o) h2 2) _ (start_back o d h1 1 _ h))
   filled_back true true false e3 o d h0 h1 h2 h3 rest h = word_back (half_word d (filler o) h3 3) rest (start_back o d h2 2 _ h)
   filled_back true true true false o d h0 h1 h2 h3 rest h = start_back o d h3 3 rest h
   filled_back true true true true o d h0 h1 h2 h3 rest h = start_back o d h0 0 rest h
 
-  halves_back : (o : Bool) (d h0 h1 h2 h3 : ℕ) (rest : List Entry) → Resolves D (halves_code o d h0 h1 h2 h3 rest) → Resolves D rest
+  halves_back : (o : Bool) (d h0 h1 h2 h3 : ℕ) (rest : List DraftEntry) → Resolves D (halves_code o d h0 h1 h2 h3 rest) → Resolves D rest
   halves_back o d h0 h1 h2 h3 rest h = filled_back (nat_eq h0 (filler o)) (nat_eq h1 (filler o)) (nat_eq h2 (filler o)) (nat_eq h3 (filler o)) o d h0 h1 h2 h3 rest h
 
-  pub const_back : (d n : ℕ) (rest : List Entry) → Resolves D (const_code d n rest) → Resolves D rest
+  pub const_back : (d n : ℕ) (rest : List DraftEntry) → Resolves D (const_code d n rest) → Resolves D rest
   const_back d n rest h =
       halves_back (has_ones (n % 65536) (n / 65536 % 65536) (n / 4294967296 % 65536) (n / 281474976710656 % 65536)) d (n % 65536) (n / 65536 % 65536) (n / 4294967296 % 65536) (n / 281474976710656 % 65536) rest h
 
 -- a number in a register, and every other register as it was
-pub record Fills (D : Laid) (c : List Entry) (s : State) (rest : List Entry) (d n most : ℕ) : Type 0 where
+pub record Fills (D : Laid) (c : List DraftEntry) (s : State) (rest : List DraftEntry) (d n most : ℕ) : Type 0 where
   pub end : State
   pub goes : Goes D c s rest end most
   pub value : x_at end d ≡ n
@@ -71,7 +71,7 @@ filler_below true = omega arith
 filler_below false = omega arith
 
 module _ (D : Laid) (d : ℕ) (low : d < 31) where
-  after : {c c2 rest : List Entry} {s : State} {n n2 m m2 : ℕ} (most : ℕ) → m + m2 ≤ most → (f : Fills D c s c2 d n m) → Fills D c2 f.end rest d n2 m2 → Fills D c s rest d n2 most
+  after : {c c2 rest : List DraftEntry} {s : State} {n n2 m m2 : ℕ} (most : ℕ) → m + m2 ≤ most → (f : Fills D c s c2 d n m) → Fills D c2 f.end rest d n2 m2 → Fills D c s rest d n2 most
   after most le f g = record {
     end = g.end;
     goes = chain most le f.goes g.goes;
@@ -84,7 +84,7 @@ module _ (D : Laid) (d : ℕ) (low : d < 31) where
   }
 
   -- the first word
-  starts : (o : Bool) (h p n : ℕ) (s : State) (rest : List Entry) → length s.x ≡ 31 → (if o then inverted ((65535 - h) * 2 ^ (16 * p)) else h * 2 ^ (16 * p)) ≡ n → n < 2 ^ 64 → Fills D (start_code o d h p rest) s rest d n 1
+  starts : (o : Bool) (h p n : ℕ) (s : State) (rest : List DraftEntry) → length s.x ≡ 31 → (if o then inverted ((65535 - h) * 2 ^ (16 * p)) else h * 2 ^ (16 * p)) ≡ n → n < 2 ^ 64 → Fills D (start_code o d h p rest) s rest d n 1
   starts true h p n s rest size e small =
       let v = inverted ((65535 - h) * 2 ^ (16 * p)) in
       record { end = wrote s d v; goes = put_goes refl; value = wrote_same s d v (omega (arith, low, size)) ∙ e; others = λ r ne. wrote_other s d v r ne; sized = wrote_sized s d v; memory = refl; frame = refl; shaped = λ h. wrote_shaped s d v (omega (arith, e, small)) h }
@@ -93,7 +93,7 @@ module _ (D : Laid) (d : ℕ) (low : d < 31) where
       record { end = wrote s d v; goes = put_goes refl; value = wrote_same s d v (omega (arith, low, size)) ∙ e; others = λ r ne. wrote_other s d v r ne; sized = wrote_sized s d v; memory = refl; frame = refl; shaped = λ h. wrote_shaped s d v (omega (arith, e, small)) h }
 
   -- a further half, where it is not there
-  module _ (f h p n n2 : ℕ) (s : State) (rest : List Entry) (size : length s.x ≡ 31) (is : x_at s d ≡ n) (e : replaced n (16 * p) h ≡ n2) (same : h ≡ f → n ≡ n2) (small : n2 < 2 ^ 64) where
+  module _ (f h p n n2 : ℕ) (s : State) (rest : List DraftEntry) (size : length s.x ≡ 31) (is : x_at s d ≡ n) (e : replaced n (16 * p) h ≡ n2) (same : h ≡ f → n ≡ n2) (small : n2 < 2 ^ 64) where
     further : Fills D (word_code (half_word d f h p) rest) s rest d n2 1
     further = by (nat_eq h f) refl
       where
@@ -104,7 +104,7 @@ module _ (D : Laid) (d : ℕ) (low : d < 31) where
             let w : v ≡ n2 = ap (λ n. replaced n (16 * p) h) is ∙ e in
             rw q (record { end = wrote s d v; goes = put_goes refl; value = wrote_same s d v (omega (arith, low, size)) ∙ w; others = λ r ne. wrote_other s d v r ne; sized = wrote_sized s d v; memory = refl; frame = refl; shaped = λ h. wrote_shaped s d v (omega (arith, w, small)) h })
 
-  module _ (o : Bool) (h0 h1 h2 h3 : ℕ) (b0 : h0 < 65536) (b1 : h1 < 65536) (b2 : h2 < 65536) (b3 : h3 < 65536) (rest : List Entry) where
+  module _ (o : Bool) (h0 h1 h2 h3 : ℕ) (b0 : h0 < 65536) (b1 : h1 < 65536) (b2 : h2 < 65536) (b3 : h3 < 65536) (rest : List DraftEntry) where
     abbrev f : ℕ
     f = filler o
 
@@ -142,7 +142,7 @@ module _ (D : Laid) (d : ℕ) (low : d < 31) where
   start_3 true h b = omega (arith, b)
   start_3 false h b = omega arith
 
-  module _ (o : Bool) (h0 h1 h2 h3 : ℕ) (b0 : h0 < 65536) (b1 : h1 < 65536) (b2 : h2 < 65536) (b3 : h3 < 65536) (s : State) (rest : List Entry) (size : length s.x ≡ 31) where
+  module _ (o : Bool) (h0 h1 h2 h3 : ℕ) (b0 : h0 < 65536) (b1 : h1 < 65536) (b2 : h2 < 65536) (b3 : h3 < 65536) (s : State) (rest : List DraftEntry) (size : length s.x ≡ 31) where
     abbrev g : ℕ
     g = filler o
 
@@ -178,7 +178,7 @@ module _ (D : Laid) (d : ℕ) (low : d < 31) where
   halves_whole n h = omega (arith, h)
 
   -- a constant
-  pub const_fills : (n : ℕ) (s : State) (rest : List Entry) → length s.x ≡ 31 → n < 2 ^ 64 → Fills D (const_code d n rest) s rest d n 4
+  pub const_fills : (n : ℕ) (s : State) (rest : List DraftEntry) → length s.x ≡ 31 → n < 2 ^ 64 → Fills D (const_code d n rest) s rest d n 4
   const_fills n s rest size small =
       let h0 = n % 65536 in
       let h1 = n / 65536 % 65536 in
@@ -188,7 +188,7 @@ module _ (D : Laid) (d : ℕ) (low : d < 31) where
       let k = filled o h0 h1 h2 h3 (omega arith) (omega arith) (omega arith) (omega arith) s rest size (nat_eq h0 (filler o)) (nat_eq h1 (filler o)) (nat_eq h2 (filler o)) (nat_eq h3 (filler o)) refl refl refl refl in
       record { end = k.end; goes = k.goes; value = k.value ∙ halves_whole n small; others = k.others; sized = k.sized; memory = k.memory; frame = k.frame; shaped = k.shaped }
 
-pub const_runs : (D : Laid) (L : Layout) (fit : Assigned L) {rest : List Entry} {s : State} (p n : ℕ) (z : ℤ) (b e : ℕ) → length s.x ≡ 31 → b ≤ p → p < e → IsMade L p → n ≡ word z → Gets D L (const_code (reg_of L p) n rest) s rest b e (reg_of L p) z 4
+pub const_runs : (D : Laid) (L : Layout) (fit : Assigned L) {rest : List DraftEntry} {s : State} (p n : ℕ) (z : ℤ) (b e : ℕ) → length s.x ≡ 31 → b ≤ p → p < e → IsMade L p → n ≡ word z → Gets D L (const_code (reg_of L p) n rest) s rest b e (reg_of L p) z 4
 const_runs D L fit {rest = rest} {s = s} p n z b e sized le lt made is =
     let hi = fit.high p made in
     let k = const_fills D (reg_of L p) (omega (arith, hi)) n s rest sized (let h = word-below z in omega (arith, h, is)) in

@@ -15,15 +15,15 @@ use Rattle.scalar_words.proofs.AssignedOf.{counted-low}
 use Rattle.scalar_words.proofs.NameHomes.{IsParam, next_number, numbers, HomeIs, AreHomes, homes_on}
 use Rattle.kernel_tree.specs.Plain.{PlainLoop}
 use Rattle.kernel_tree.specs.Items.{loop_start}
-use Rattle.kernel_tree.specs.Typing.{lookup, bound_faults, turns_faults, check_fault}
+use Rattle.kernel_tree.specs.Typing.{lookup, bound_faults, for_loop_faults, check_fault}
 use Rattle.kernel_tree.specs.declared.ops.Ty.TheVariants.{U64}
-use Rattle.kernel_tree.proofs.Faultless.{nil-left, turns_faultless}
+use Rattle.kernel_tree.proofs.Faultless.{nil-left, for_loop_faultless}
 use Rattle.kernel_tree.proofs.NoFault.{bound_known}
 use Rattle.loop_form.specs.Entries.{entries_of}
 use Rattle.scalar_words.specs.Safe.{AreSafe}
 use Rattle.scalar_words.specs.KernelRegisters.{layout_of_kernel, AreChosen, IsBound}
 use Rattle.scalar_words.proofs.NameHomes.{is_at, register_is, are_safe}
-use Rattle.scalar_words.proofs.SpreadOf.{spread_of}
+use Rattle.scalar_words.proofs.AccumulatorRegisters.{accumulator_registers}
 use Rattle.kernel_tree.specs.declared.ast.Shape.TheVariants as shape
 use Rattle.kernel_tree.specs.declared.fault.Binding.TheVariants as binding
 
@@ -121,9 +121,9 @@ pub record NamesFit (R : ℕ → ℕ) (k : Program) : Type 0 where
   pub steady : AreSteady (kernel_homes R k)
   pub safe : (b : ℕ) → AreSafe (layout_of_kernel R k) b (kernel_homes R k)
   pub nine : (b : ℕ) → Others (kernel_homes R k) 9 b
-  pub bound : (l : PlainLoop) → k.turns ≡ Some l → IsBound R k l
+  pub bound : (l : PlainLoop) → k.for_loop ≡ Some l → IsBound R k l
 
-bound_is : (R : ℕ → ℕ) (k : Program) (l : PlainLoop) (b : ℕ) (tk : List (List ℕ)) → turns_faults (scope_at k (locals_of k.params ++ accs_of k.vars) tk false) b (Some l) ≡ [] → IsBound R k l
+bound_is : (R : ℕ → ℕ) (k : Program) (l : PlainLoop) (b : ℕ) (tk : List (List ℕ)) → for_loop_faults (scope_at k (locals_of k.params ++ accs_of k.vars) tk false) b (Some l) ≡ [] → IsBound R k l
 bound_is R k l b tk f =
     let v = locals_of k.params ++ accs_of k.vars in
     let hs = kernel_homes R k in
@@ -138,7 +138,7 @@ bound_is R k l b tk f =
 pub names_fit : (R : ℕ → ℕ) (k : Program) → check_fault k ≡ None → length k.params ≤ 8 → AreChosen R k → NamesFit R k
 names_fit R k checked few c = record {
   steady = steady-append (param_homes 0 k.params) (var_homes R 0 k.vars) (params_steady 0 k.params) (vars_steady R 0 k.vars);
-  safe = λ b. are_safe k R (layout_of_kernel R k) (entries_of k) few (spread_of R k c) b 0 b (locals_of k.params ++ accs_of k.vars) (kernel_homes R k) (kernel_are R k (layout_of_kernel R k) (entries_of k) b) (omega arith);
+  safe = λ b. are_safe k R (layout_of_kernel R k) (entries_of k) few (accumulator_registers R k c) b 0 b (locals_of k.params ++ accs_of k.vars) (kernel_homes R k) (kernel_are R k (layout_of_kernel R k) (entries_of k) b) (omega arith);
   nine = λ b. others-append (param_homes 0 k.params) (var_homes R 0 k.vars) 9 b (params_nine 0 b k.params (omega (arith, few))) (vars_nine R 0 b k.vars);
-  bound = λ l e. bound_is R k l (loop_start k) (var_scope k).taken (subst (λ s. turns_faults s (loop_start k) (Some l) ≡ []) (var_scope_is k) (turns_faultless k l checked e));
+  bound = λ l e. bound_is R k l (loop_start k) (var_scope k).taken (subst (λ s. for_loop_faults s (loop_start k) (Some l) ≡ []) (var_scope_is k) (for_loop_faultless k l checked e));
 }

@@ -52,11 +52,11 @@ pub changes_own : (s : State) (d v : ℕ) → Changes s (wrote s d v) d
 changes_own s d v = record { memory = refl; sized = wrote_sized s d v; frame = refl; others = λ q hi ne. wrote_other s d v q ne }
 
 -- the names that are needed at item p or after it have their values in their registers
-abbrev pub Held : Homes → Names → ℕ → State → Type 0
-Held [] [] p s = Unit {0}
-Held [] (n ∷ ns) p s = ⊥
-Held (h ∷ hs) [] p s = ⊥
-Held (h ∷ hs) (n ∷ ns) p s = (n.name ≡ h.name) × (Lasts h.last_use p → x_at s h.register ≡ word n.value) × Held hs ns p s
+abbrev pub AreInRegisters : Homes → Names → ℕ → State → Type 0
+AreInRegisters [] [] p s = Unit {0}
+AreInRegisters [] (n ∷ ns) p s = ⊥
+AreInRegisters (h ∷ hs) [] p s = ⊥
+AreInRegisters (h ∷ hs) (n ∷ ns) p s = (n.name ≡ h.name) × (Lasts h.last_use p → x_at s h.register ≡ word n.value) × AreInRegisters hs ns p s
 
 -- the word of what is held, by the arguments
 abbrev pub key_word : List ℕ → Key → ℕ
@@ -99,7 +99,7 @@ pub record At {L : Layout} (w : Fixed L) (homes : Homes) (ls : List Local) (name
   pub good : IsMemory m
   pub stand : Names
   pub told : Told L.loose w.count stand names
-  pub held : Held homes stand p s
+  pub held : AreInRegisters homes stand p s
 
 pub lasts_less : (o : Option ℕ) (p q : ℕ) → q ≤ p → Lasts o p → Lasts o q
 lasts_less None p q le h = tt
@@ -116,7 +116,7 @@ find_step false h n hs ns x p s e same is rest lasts =
     rw (e, f) (rest (subst (λ b. LastsAt (cond b (Some h) (find (is_home x) hs)) p) e lasts))
 
 -- the register of a name has its value
-pub name_held : (hs : Homes) (ns : Names) (x : List ℕ) (p : ℕ) (s : State) → length s.x ≡ 31 → Held hs ns p s → NameLasts hs x p → x_at s (register_at hs x) ≡ word (value_at ns x)
+pub name_held : (hs : Homes) (ns : Names) (x : List ℕ) (p : ℕ) (s : State) → length s.x ≡ 31 → AreInRegisters hs ns p s → NameLasts hs x p → x_at s (register_at hs x) ≡ word (value_at ns x)
 name_held [] [] x p s sized h lasts = absurd lasts
 name_held [] (n ∷ ns) x p s sized h lasts = absurd h
 name_held (h ∷ hs) [] x p s sized k lasts = absurd k
@@ -160,7 +160,7 @@ module _ (L : Layout) where
   safe_later (h ∷ hs) p q le k = (record { high = λ l. k.0.high (lasts_less h.last_use q p le l); apart = λ r lo. k.0.apart r (omega arith) }, safe_later hs p q le k.1)
 
   -- names over code of the items from b until e
-  pub held_kept : (hs : Homes) (ns : Names) (b e : ℕ) (s t : State) → b ≤ e → AreSafe L b hs → Kept L s t b e → Held hs ns b s → Held hs ns e t
+  pub held_kept : (hs : Homes) (ns : Names) (b e : ℕ) (s t : State) → b ≤ e → AreSafe L b hs → Kept L s t b e → AreInRegisters hs ns b s → AreInRegisters hs ns e t
   held_kept [] [] b e s t le safe k h = tt
   held_kept [] (n ∷ ns) b e s t le safe k h = absurd h
   held_kept (x ∷ hs) [] b e s t le safe k h = absurd h

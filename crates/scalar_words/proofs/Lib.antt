@@ -12,7 +12,7 @@ pub mod AssignedOf
 pub mod ChosenOf
 pub mod Layouts
 pub mod Present
-pub mod SpreadOf
+pub mod AccumulatorRegisters
 pub mod NameHomes
 pub mod KernelNames
 pub mod Binary

@@ -77,7 +77,7 @@ numbers_more j [] = omega arith
 numbers_more j (l ∷ ls) = let m = next_more j l.binding in let r = numbers_more (next_number j l.binding) ls in omega (arith, m, r)
 
 -- what the registers of accumulators are to each other and to those of items
-pub record Spread (R : ℕ → ℕ) (L : Layout) (accs : ℕ) : Type 0 where
+pub record AccumulatorRegisters (R : ℕ → ℕ) (L : Layout) (accs : ℕ) : Type 0 where
   pub fit : Assigned L
   pub high : (n : ℕ) → n < accs → counted_x (R n) ≤ 25
   pub free : (n q : ℕ) → n < accs → IsMade L q → reg_of L q ≢ counted_x (R n)
@@ -173,7 +173,7 @@ module _ (k : Program) (R : ℕ → ℕ) (L : Layout) (all : List Entry) where
 
   -- ---- registers that differ
 
-  module _ (few : length k.params ≤ 8) (spread : Spread R L (length k.vars)) where
+  module _ (few : length k.params ≤ 8) (accumulators : AccumulatorRegisters R L (length k.vars)) where
     param_low : (n : ℕ) (x : List ℕ) (s : Shape) → IsParam k n x s → n < 8
     param_low n x s e = let w = slice_get_within k.params n _ e in omega (arith, w, few)
 
@@ -181,11 +181,11 @@ module _ (k : Program) (R : ℕ → ℕ) (L : Layout) (all : List Entry) where
     home_apart : (b j n p : ℕ) (bd : Binding) (h : Home) → HomeIs b j bd h → IsOther j bd n → b ≤ p → n < length k.vars → Lasts h.last_use p → h.register ≢ counted_x (R n)
     home_apart b j n p (binding.Scalar t) h is other le lt l e = absurd (let w = param_low h.register h.name (shape.Scalar t) is.1 in let c = counted-low (R n) in omega (arith, w, c, e))
     home_apart b j n p (binding.Array t) h is other le lt l e = absurd (let w = param_low h.register h.name (shape.Array t) is.1 in let c = counted-low (R n) in omega (arith, w, c, e))
-    home_apart b j n p (binding.Accumulator t) h is other le lt l e = spread.differ j n is.2 lt other (sym is.1 ∙ e)
+    home_apart b j n p (binding.Accumulator t) h is other le lt l e = accumulators.differ j n is.2 lt other (sym is.1 ∙ e)
     home_apart b j n p (binding.Value t) h is other le lt l e =
         let w : p ≤ last_use_at L is.item = subst (λ o. Lasts o p) is.last_use' l in
         let z = is.before in
-        spread.free n is.item lt (omega (arith, w, z, le)) (sym is.register' ∙ e)
+        accumulators.free n is.item lt (omega (arith, w, z, le)) (sym is.register' ∙ e)
     home_apart b j n p binding.Index h is other le lt l e = absurd (let r = is.1 in let c = counted-low (R n) in omega (arith, r, c, e))
 
     pub others_of : (b j n p : ℕ) (ls : List Local) (hs : Homes) → AreHomes b j ls hs → n < j → b ≤ p → n < length k.vars → Others hs (counted_x (R n)) p
@@ -269,23 +269,23 @@ module _ (k : Program) (R : ℕ → ℕ) (L : Layout) (all : List Entry) where
     home_safe : (b j p : ℕ) (bd : Binding) (h : Home) → HomeIs b j bd h → b ≤ p → IsSafe L p h
     home_safe b j p (binding.Scalar t) h is le =
         let w = param_low h.register h.name (shape.Scalar t) is.1 in
-        record { high = λ l. omega (arith, w); apart = λ q lo l made eq. absurd (let f = spread.fit.low q made in omega (arith, w, f, eq)) }
+        record { high = λ l. omega (arith, w); apart = λ q lo l made eq. absurd (let f = accumulators.fit.low q made in omega (arith, w, f, eq)) }
     home_safe b j p (binding.Array t) h is le =
         let w = param_low h.register h.name (shape.Array t) is.1 in
-        record { high = λ l. omega (arith, w); apart = λ q lo l made eq. absurd (let f = spread.fit.low q made in omega (arith, w, f, eq)) }
+        record { high = λ l. omega (arith, w); apart = λ q lo l made eq. absurd (let f = accumulators.fit.low q made in omega (arith, w, f, eq)) }
     home_safe b j p (binding.Accumulator t) h is le =
         let r = is.1 in
-        record { high = λ l. let w = spread.high j is.2 in omega (arith, w, r); apart = λ q lo l made eq. spread.free j q is.2 made (eq ∙ r) }
+        record { high = λ l. let w = accumulators.high j is.2 in omega (arith, w, r); apart = λ q lo l made eq. accumulators.free j q is.2 made (eq ∙ r) }
     home_safe b j p (binding.Value t) h is le =
         let r = is.register' in
         let z = is.before in
         record {
-          high = λ l. let u : p ≤ last_use_at L is.item = subst (λ o. Lasts o p) is.last_use' l in let w = spread.fit.high is.item (omega (arith, u, z, le)) in omega (arith, w, r);
-          apart = λ q lo l made eq. let u : suc q ≤ last_use_at L is.item = subst (λ o. Lasts o (suc q)) is.last_use' l in spread.fit.apart q is.item (omega (arith, z, le, lo)) (omega (arith, u)) made (eq ∙ r);
+          high = λ l. let u : p ≤ last_use_at L is.item = subst (λ o. Lasts o p) is.last_use' l in let w = accumulators.fit.high is.item (omega (arith, u, z, le)) in omega (arith, w, r);
+          apart = λ q lo l made eq. let u : suc q ≤ last_use_at L is.item = subst (λ o. Lasts o (suc q)) is.last_use' l in accumulators.fit.apart q is.item (omega (arith, z, le, lo)) (omega (arith, u)) made (eq ∙ r);
         }
     home_safe b j p binding.Index h is le =
         let r = is.1 in
-        record { high = λ l. omega (arith, r); apart = λ q lo l made eq. absurd (let f = spread.fit.low q made in omega (arith, r, f, eq)) }
+        record { high = λ l. omega (arith, r); apart = λ q lo l made eq. absurd (let f = accumulators.fit.low q made in omega (arith, r, f, eq)) }
 
     pub are_safe : (b j p : ℕ) (ls : List Local) (hs : Homes) → AreHomes b j ls hs → b ≤ p → AreSafe L p hs
     are_safe b j p [] [] h le = tt

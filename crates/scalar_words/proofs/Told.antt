@@ -12,7 +12,7 @@ use Rattle.kernel_meaning.specs.Eval.{Named, Names, is_named, value_at}
 use Rattle.kernel_meaning.specs.Iterate.{named, assigned}
 use Rattle.kernel_meaning.specs.Ranges.{AreRanged}
 use Rattle.scalar_words.specs.Layout.{Form, LowBits, Ahead, Behind, Loose, loose_in, Layout, Homes, is_home, LastsAt, NameLasts}
-use Rattle.scalar_words.proofs.LayoutStates.{Assigned, AreSafe, Kept, Held, Fixed, Tells, Told, At, held_kept}
+use Rattle.scalar_words.proofs.LayoutStates.{Assigned, AreSafe, Kept, AreInRegisters, Fixed, Tells, Told, At, held_kept}
 
 -- a form that the value itself has
 abbrev pub tells_itself : Option Form → Bool
@@ -47,7 +47,7 @@ told_at ls c (z ∷ zs) [] x k h = absurd h
 told_at ls c (z ∷ zs) (n ∷ ns) x k h = told_step (is_named x n) ls c z n zs ns x refl h.0 h.1 (λ e. told_at ls c zs ns x k h.2)
 
 -- the value of a visible name is told by what stands in its register
-pub told_found : (ls : List Loose) (c : ℕ) (hs : Homes) (zs ns : Names) (x : List ℕ) (p q : ℕ) (s : State) → Held hs zs p s → NameLasts hs x q → Told ls c zs ns → Tells c (loose_in ls x) (value_at zs x) (value_at ns x)
+pub told_found : (ls : List Loose) (c : ℕ) (hs : Homes) (zs ns : Names) (x : List ℕ) (p q : ℕ) (s : State) → AreInRegisters hs zs p s → NameLasts hs x q → Told ls c zs ns → Tells c (loose_in ls x) (value_at zs x) (value_at ns x)
 told_found ls c [] zs ns x p q s held lasts h = absurd lasts
 told_found ls c (y ∷ hs) [] ns x p q s held lasts h = absurd held
 told_found ls c (y ∷ hs) (z ∷ zs) [] x p q s held lasts h = absurd h
@@ -111,7 +111,7 @@ pub record Standing {L : Layout} (w : Fixed L) (homes : Homes) (ls : List Local)
   pub memory : s.memory ≡ m
   pub good : IsMemory m
   pub told : Told L.loose w.count stand names
-  pub held : Held homes stand p s
+  pub held : AreInRegisters homes stand p s
 
 pub standing : {L : Layout} {w : Fixed L} {homes : Homes} {ls : List Local} {names : Names} {m : Memory} {p : ℕ} {s : State} → (at : At w homes ls names m p s) → Standing w homes ls at.stand names m p s
 standing at = record { sized = at.sized; nine = at.nine; args = at.args; ranged = at.ranged; memory = at.memory; good = at.good; told = at.told; held = at.held }

@@ -10,7 +10,7 @@ use Rattle.machine_model.specs.Arithmetic.{difference, shifted_word, flags_of}
 use Rattle.a64_code.specs.Table.{subs}
 use Rattle.kernel_meaning.specs.Operators.{word}
 use Rattle.kernel_meaning.proofs.Residues.{word-below}
-use Rattle.label_fix.specs.DraftRun.{Entry, Put, Laid, word_of}
+use Rattle.label_fix.specs.DraftRun.{DraftEntry, Put, Laid, word_of}
 use Rattle.label_fix.proofs.StretchSteps.{Goes, put_goes}
 use Rattle.scalar_words.specs.Layout.{Layout}
 use Rattle.scalar_words.proofs.LayoutStates.{Changes, Kept}
@@ -19,7 +19,7 @@ use Rattle.scalar_words.proofs.LayoutStates.{Changes, Kept}
 abbrev pub tested : State → ℕ → ℕ → State
 tested s a c = next (record (with_x s 31 (difference (x_at s a) (shifted_word 0 (x_at s c) 0))) { flags = flags_of (x_at s a) (shifted_word 0 (x_at s c) 0) })
 
-pub tested_goes : (D : Laid) (rest : List Entry) (s : State) (a c : ℕ) → Goes D (Put (word_of subs (31 ∷ a ∷ 0 ∷ c ∷ 0 ∷ [])) ∷ rest) s rest (tested s a c) 1
+pub tested_goes : (D : Laid) (rest : List DraftEntry) (s : State) (a c : ℕ) → Goes D (Put (word_of subs (31 ∷ a ∷ 0 ∷ c ∷ 0 ∷ [])) ∷ rest) s rest (tested s a c) 1
 tested_goes D rest s a c = put_goes refl
 
 pub tested_other : (s : State) (a c r : ℕ) → r ≢ 31 → x_at (tested s a c) r ≡ x_at s r

@@ -11,7 +11,7 @@ use Rattle.kernel_meaning.specs.Operators.{word}
 use Rattle.kernel_meaning.specs.Ranges.{AreRanged}
 use Rattle.kernel_meaning.specs.Eval.{Names}
 use Rattle.kernel_meaning.specs.ScalarRun.{Run, End, Fault}
-use Rattle.label_fix.specs.DraftRun.{Entry, Laid}
+use Rattle.label_fix.specs.DraftRun.{DraftEntry, Laid}
 use Rattle.label_fix.specs.Stretches.{Stops, Ends}
 use Rattle.scalar_words.specs.Layout.{Homes}
 use Rattle.scalar_words.specs.KernelRegisters.{kernel_homes}
@@ -51,6 +51,6 @@ pub record AtIteration (R : ℕ → ℕ) (k : Program) (i : ℕ) (names : Names)
 -- ---- the loop, and what follows it
 
 -- What code does that ends the run: within K words for each iteration begun from i on, and F more.
-pub data Comes (D : Laid) (c : List Entry) (s : State) (K F i : ℕ) : Run → Type 0 where
+pub data Comes (D : Laid) (c : List DraftEntry) (s : State) (K F i : ℕ) : Run → Type 0 where
   ends_so : {m : Memory} {r bg : ℕ} (n : ℕ) → bg ≡ i + n → Ends D c s m r (K * n + F) → Comes D c s K F i (End m r bg)
   faults_so : {m : Memory} {bg : ℕ} (n : ℕ) (kind : StopKind) → bg ≡ i + n → IsAccess kind → Stops D c s kind m (K * n + F) → Comes D c s K F i (Fault m bg)

@@ -3,13 +3,13 @@ use Rattle.std.specs.Prelude.{ℕ, List, [], ◌∷◌, Bool, true, false}
 use Rattle.a64_code.specs.Table.{add, sub, subs, madd, land, orr, eor, csel}
 use Rattle.machine_model.specs.InstructionTable.{Listed}
 use Rattle.kernel_tree.specs.declared.ops.BinaryOp.{BinaryOp}
-use Rattle.label_fix.specs.DraftRun.{Entry, word_of, ins}
+use Rattle.label_fix.specs.DraftRun.{DraftEntry, word_of, ins}
 use Rattle.scalar_words.specs.Words.{condition}
 use Rattle.kernel_tree.specs.declared.ops.BinaryOp.TheVariants as binary
 use Rattle.kernel_tree.specs.declared.ops.CompareOp.TheVariants as compare
 
 -- the comparison before the word of a minimum or a maximum
-abbrev pub test_code : BinaryOp → ℕ → ℕ → List Entry → List Entry
+abbrev pub test_code : BinaryOp → ℕ → ℕ → List DraftEntry → List DraftEntry
 test_code binary.Add a b rest = rest
 test_code binary.Sub a b rest = rest
 test_code binary.Mul a b rest = rest

@@ -5,9 +5,9 @@ use Rattle.std.proofs.lemmas.Bool.{cond-true, cond-false, eqb-true}
 use Rattle.std.proofs.lemmas.List.Elements.{All-push, All-head, All-tail}
 use Rattle.text_parts.specs.Parts.{is_byte}
 use Rattle.machine_model.specs.Machine.{State}
-use Rattle.sve_debug.specs.Held.{Held, Stands}
+use Rattle.sve_debug.specs.DebuggerState.{DebuggerState, Stands}
 use Rattle.sve_debug.specs.Replies.{Session, after_line, line_text, quits, replies}
-use Rattle.sve_debug.specs.Sessions.{is_end, pending, turn_text, ends, ended_lines, AsItCame}
+use Rattle.sve_debug.specs.Sessions.{is_end, pending, byte_answer, ends, ended_lines, AsItCame}
 use Rattle.sve_debug.proofs.Sessions.{IsPending, LoopIndex, by_quit, replies_none, replies_more, goes, all_put, joined}
 
 abbrev GoesOn : List ℕ → Type 0
@@ -42,7 +42,7 @@ ended_push (l ∷ lines) line rest =
     ∙ sym (append_assoc l (10 ∷ ended_lines lines) (line ++ 10 ∷ rest))
 
 -- Some lines were taken of these bytes, with a part of one more, and answered.
-pub record SoFar (held : Held) (start : State) (d : Session) (bytes line : List ℕ) (input old new : Option (List ℕ)) : Type 0 where
+pub record SoFar (held : DebuggerState) (start : State) (d : Session) (bytes line : List ℕ) (input old new : Option (List ℕ)) : Type 0 where
   pub lines : List (List ℕ)
   pub each : All IsPending lines
   pub go_on : All GoesOn lines
@@ -52,7 +52,7 @@ pub record SoFar (held : Held) (start : State) (d : Session) (bytes line : List 
   pub taken : bytes ≡ ended_lines lines ++ (line ++ left)
   pub put : IfSome old (λ told. new ≡ Some (told ++ replies d lines))
 
-pub so_far_first : (held : Held) (start : State) (d : Session) (line bytes : List ℕ) (input old : Option (List ℕ)) → line ≡ [] → Stands held start d → input ≡ Some bytes → SoFar held start d bytes line input old old
+pub so_far_first : (held : DebuggerState) (start : State) (d : Session) (line bytes : List ℕ) (input old : Option (List ℕ)) → line ≡ [] → Stands held start d → input ≡ Some bytes → SoFar held start d bytes line input old old
 so_far_first held start d line bytes input old empty h is = record {
   lines = [];
   each = λ k x lt. absurd (omega (arith, lt));
@@ -78,7 +78,7 @@ put_by : (old new : Option (List ℕ)) (text more all : List ℕ) → text ++ mo
 put_by old new text more all is put = subst (λ t. IfSome old (λ told. new ≡ Some (told ++ t))) is put
 
 -- after one byte more
-pub so_far_next : (held held' : Held) (start : State) (d : Session) (bytes line line' : List ℕ) (byte : ℕ) (on : Bool) (input input' old mid new : Option (List ℕ)) → IsPending line → IfSome input (λ bytes. Some byte ≡ slice_get bytes 0) → IfSome input (λ bytes. input' ≡ Some (drop 1 bytes)) → line' ≡ pending line byte → on ≡ true → on ≡ not (ends line byte) → LoopIndex held held' start line byte mid new (Ok on) → SoFar held start d bytes line input old mid → SoFar held' start d bytes line' input' old new
+pub so_far_next : (held held' : DebuggerState) (start : State) (d : Session) (bytes line line' : List ℕ) (byte : ℕ) (on : Bool) (input input' old mid new : Option (List ℕ)) → IsPending line → IfSome input (λ bytes. Some byte ≡ slice_get bytes 0) → IfSome input (λ bytes. input' ≡ Some (drop 1 bytes)) → line' ≡ pending line byte → on ≡ true → on ≡ not (ends line byte) → LoopIndex held held' start line byte mid new (Ok on) → SoFar held start d bytes line input old mid → SoFar held' start d bytes line' input' old new
 so_far_next held held' start d bytes line line' byte on input input' old mid new pends next left following is e t u = by_end (is_byte 10 byte) refl
   where
     rest : List ℕ
@@ -96,14 +96,14 @@ so_far_next held held' start d bytes line line' byte on input input' old mid new
     took : bytes ≡ ended_lines u.lines ++ (line ++ byte ∷ rest)
     took = u.taken ∙ ap (λ l. ended_lines u.lines ++ (line ++ l)) here
 
-    said : IfSome old (λ told. new ≡ Some (told ++ (replies d u.lines ++ turn_text line byte before)))
-    said = joined old mid new (replies d u.lines) (turn_text line byte before) u.put (all_put mid new (turn_text line byte before) on (t.told before u.stands))
+    said : IfSome old (λ told. new ≡ Some (told ++ (replies d u.lines ++ byte_answer line byte before)))
+    said = joined old mid new (replies d u.lines) (byte_answer line byte before) u.put (all_put mid new (byte_answer line byte before) on (t.told before u.stands))
 
     by_end : (b : Bool) → is_byte 10 byte ≡ b → SoFar held' start d bytes line' input' old new
     by_end true end =
         let stays : quits line ≡ false = sym (cond-true (is_end byte) _ _ end) ∙ goes on (ends line byte) is e in
         let empty : line' ≡ [] = following ∙ cond-true (is_end byte) _ _ end in
-        let text : turn_text line byte before ≡ line_text line before = cond-true (is_end byte) _ _ end in
+        let text : byte_answer line byte before ≡ line_text line before = cond-true (is_end byte) _ _ end in
         let feed = eqb-true byte 10 end in
         record {
           lines = u.lines ++ line ∷ [];
@@ -117,11 +117,11 @@ so_far_next held held' start d bytes line line' byte on input input' old mid new
               ∙ ap (λ b. ended_lines u.lines ++ (line ++ b ∷ rest)) feed
               ∙ sym (ended_push u.lines line rest)
               ∙ ap (λ l. ended_lines (u.lines ++ line ∷ []) ++ (l ++ rest)) (sym empty);
-          put = put_by old new (replies d u.lines) (turn_text line byte before) (replies d (u.lines ++ line ∷ [])) (ap (λ x. replies d u.lines ++ x) text ∙ sym (replies_push u.lines line d u.go_on stays)) said;
+          put = put_by old new (replies d u.lines) (byte_answer line byte before) (replies d (u.lines ++ line ∷ [])) (ap (λ x. replies d u.lines ++ x) text ∙ sym (replies_push u.lines line d u.go_on stays)) said;
         }
     by_end false end =
         let more : line' ≡ line ++ byte ∷ [] = following ∙ cond-false (is_end byte) _ _ end in
-        let text : turn_text line byte before ≡ [] = cond-false (is_end byte) _ _ end in
+        let text : byte_answer line byte before ≡ [] = cond-false (is_end byte) _ _ end in
         record {
           lines = u.lines;
           each = u.each;
@@ -133,11 +133,11 @@ so_far_next held held' start d bytes line line' byte on input input' old mid new
               took
               ∙ ap (λ l. ended_lines u.lines ++ l) (sym (append_assoc line (byte ∷ []) rest))
               ∙ ap (λ l. ended_lines u.lines ++ (l ++ rest)) (sym more);
-          put = put_by old new (replies d u.lines) (turn_text line byte before) (replies d u.lines) (ap (λ x. replies d u.lines ++ x) text ∙ append-nil (replies d u.lines)) said;
+          put = put_by old new (replies d u.lines) (byte_answer line byte before) (replies d u.lines) (ap (λ x. replies d u.lines ++ x) text ∙ append-nil (replies d u.lines)) said;
         }
 
 -- the input failed, and nothing of it was taken
-pub so_far_failed : (held : Held) (start : State) (d : Session) (bytes line : List ℕ) (input input' old new : Option (List ℕ)) → IsPending line → IfSome input (λ bytes. input' ≡ Some bytes) → SoFar held start d bytes line input old new → AsItCame d bytes input' old new
+pub so_far_failed : (held : DebuggerState) (start : State) (d : Session) (bytes line : List ℕ) (input input' old new : Option (List ℕ)) → IsPending line → IfSome input (λ bytes. input' ≡ Some bytes) → SoFar held start d bytes line input old new → AsItCame d bytes input' old new
 so_far_failed held start d bytes line input input' old new pends same u =
     let left : input' ≡ Some u.left = subst (λ i. IfSome i (λ bytes. input' ≡ Some bytes)) u.input_is same in
     subst (λ i. AsItCame d bytes i old new) (sym left) (told old u.put)

@@ -9,7 +9,7 @@ use Rattle.machine_model.specs.Debugged.{View, Past, now}
 use Rattle.machine_model.specs.Machine.{State}
 use Rattle.debug_history.specs.Kept.{IsLast, counts_of, counted, noted, is_kept, up_to, can_go_back, first_of, last_of}
 use Rattle.debug_history.proofs.Counts.{counts_noted, counts_up_to, noted_all, noted_some, reached_all}
-use Rattle.sve_debug.specs.Held.{Held, Shows, Stands, IsKept, IsTwin, held_by, came_out}
+use Rattle.sve_debug.specs.DebuggerState.{DebuggerState, Shows, Stands, IsKept, IsTwin, held_by, came_out}
 use Rattle.sve_debug.specs.Reaches.{Reaches, ReachesCounted}
 use Rattle.sve_debug.specs.Replies.{Session, started, stepped, steps_to, session_at, is_break, with_counts, counted_over, counted_since, counted_steps, counts_to, back_at, gone_back, after_back, is_too_far}
 use Rattle.sve_debug.proofs.Runs.{at_end, at_break, at_step, no_steps, shows_now}
@@ -71,7 +71,7 @@ counted_none k n counts none = ap (λ j. counted_over k j counts) none
 
 -- ---- many steps
 
-pub counted_first : (held : Held) (start : State) (d : Session) (stops : List ℕ) (n : ℕ) → Stands held start d → ReachesCounted held start d stops n n
+pub counted_first : (held : DebuggerState) (start : State) (d : Session) (stops : List ℕ) (n : ℕ) → Stands held start d → ReachesCounted held start d stops n n
 counted_first held start d stops n h = record {
   session = d;
   stands = h;
@@ -80,7 +80,7 @@ counted_first held start d stops n h = record {
   counts = sym (counted_none d.steps (d.steps - d.steps) d.counts (omega arith));
 }
 
-pub counted_end : (held : Held) (start : State) (d : Session) (stops : List ℕ) (n left : ℕ) → left ≡ 0 → ReachesCounted held start d stops n left → Stands held start (counted_steps stops n d)
+pub counted_end : (held : DebuggerState) (start : State) (d : Session) (stops : List ℕ) (n left : ℕ) → left ≡ 0 → ReachesCounted held start d stops n left → Stands held start (counted_steps stops n d)
 counted_end held start d stops n left none r =
     let e = steps_to stops n d in
     let is : with_counts r.session.counts e ≡ r.session =
@@ -90,7 +90,7 @@ counted_end held start d stops n left none r =
     sym is ∙ ap (λ c. with_counts c e) (r.counts ∙ ap (λ k. counted_over d.steps (k - d.steps) d.counts) (sym steps)) in
     subst (Stands held start) whole r.stands
 
-pub counted_over_end : (held : Held) (start : State) (d : Session) (stops : List ℕ) (n : ℕ) → is_some d.over ≡ true → Stands held start d → Stands held start (counted_steps stops n d)
+pub counted_over_end : (held : DebuggerState) (start : State) (d : Session) (stops : List ℕ) (n : ℕ) → is_some d.over ≡ true → Stands held start d → Stands held start (counted_steps stops n d)
 counted_over_end held start d stops n over h =
     let same = at_end stops n d over in
     let none = counted_none d.steps (d.steps - d.steps) d.counts (omega arith) in
@@ -113,7 +113,7 @@ shown_kept v breaks last start d h =
       };
     }
 
-shows_counts : (shown : Held) (start : State) (d : Session) (counts : List ℕ) → Shows shown start d → Shows shown start (with_counts counts d)
+shows_counts : (shown : DebuggerState) (start : State) (d : Session) (counts : List ℕ) → Shows shown start d → Shows shown start (with_counts counts d)
 shows_counts shown start d counts h = record {
   state = h.state;
   steps = h.steps;
@@ -397,6 +397,6 @@ near_enough count steps target kept counts few is can same =
     let start : first_of (counts_of kept) ≡ first_of counts = ap first_of same in
     ap₂ (λ a b. a || b) (le-ltb steps count few) (le-ltb (steps - count) (first_of counts) (omega (arith, first, start, is)))
 
-pub goes_back : (count target : ℕ) (d : Session) (held : Held) (start : State) → is_too_far count d.steps d.counts ≡ false → target ≡ d.steps - count → Stands held start (gone_back target d) → Stands held start (after_back count d)
+pub goes_back : (count target : ℕ) (d : Session) (held : DebuggerState) (start : State) → is_too_far count d.steps d.counts ≡ false → target ≡ d.steps - count → Stands held start (gone_back target d) → Stands held start (after_back count d)
 goes_back count target d held start near is h =
     subst (Stands held start) (ap (λ n. gone_back n d) is ∙ sym (cond-false (is_too_far count d.steps d.counts) _ _ near)) h

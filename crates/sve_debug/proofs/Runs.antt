@@ -13,7 +13,7 @@ use Rattle.machine_model.specs.Debugged.{View, Past, now, ending_by}
 use Rattle.machine_model.specs.Machine.{State}
 use Rattle.machine_model.specs.OneStep.{step}
 use Rattle.debug_history.specs.Answered.{answer_of}
-use Rattle.sve_debug.specs.Held.{Held, held_by, Shows, came_out}
+use Rattle.sve_debug.specs.DebuggerState.{DebuggerState, held_by, Shows, came_out}
 use Rattle.sve_debug.specs.Reaches.{Reaches}
 use Rattle.sve_debug.specs.Replies.{Session, started, stepped, steps_to, session_at, is_break, left_by, over_by}
 
@@ -179,15 +179,15 @@ told v w breaks last recent start k pc is inside next e h =
 pub reaches_now : (v w : View) (breaks last : List ℕ) (start : State) (d : Session) (stops : List ℕ) (n left : ℕ) → now w ≡ now v → Reaches (held_by v breaks last) start d stops n left → Reaches (held_by w breaks last) start d stops n left
 reaches_now v w breaks last start d stops n left same r = record { session = r.session; stands = shows_now v w breaks last start r.session same r.stands; same = r.same }
 
-pub reaches_first : (held : Held) (start : State) (d : Session) (stops : List ℕ) (n left : ℕ) → left ≡ n → Shows held start d → Reaches held start d stops n left
+pub reaches_first : (held : DebuggerState) (start : State) (d : Session) (stops : List ℕ) (n left : ℕ) → left ≡ n → Shows held start d → Reaches held start d stops n left
 reaches_first held start d stops n left all h = record { session = d; stands = h; same = ap (λ k. steps_to stops k d) (sym all) }
 
-pub reaches_end : (held : Held) (start : State) (d : Session) (stops : List ℕ) (n left : ℕ) → left ≡ 0 → Reaches held start d stops n left → Shows held start (steps_to stops n d)
+pub reaches_end : (held : DebuggerState) (start : State) (d : Session) (stops : List ℕ) (n left : ℕ) → left ≡ 0 → Reaches held start d stops n left → Shows held start (steps_to stops n d)
 reaches_end held start d stops n left none r =
     subst (Shows held start) (sym (r.same ∙ ap (λ k. steps_to stops k r.session) none ∙ no_steps stops r.session)) r.stands
 
 -- some steps, and then others
-pub reaches_on : (held : Held) (start : State) (d : Session) (stops : List ℕ) (n left rest : ℕ) (before : Held) → Reaches before start d stops n left → ((e : Session) → Shows before start e → Reaches held start e stops left rest) → Reaches held start d stops n rest
+pub reaches_on : (held : DebuggerState) (start : State) (d : Session) (stops : List ℕ) (n left rest : ℕ) (before : DebuggerState) → Reaches before start d stops n left → ((e : Session) → Shows before start e → Reaches held start e stops left rest) → Reaches held start d stops n rest
 reaches_on held start d stops n left rest before r next =
     let after = next r.session r.stands in
     record { session = after.session; stands = after.stands; same = r.same ∙ after.same }

@@ -12,10 +12,10 @@ use Rattle.io_edges.specs.Sink.{GainsPart}
 use Rattle.sve_debug.specs.declared.command.Command.{Command}
 use Rattle.sve_debug.specs.declared.command.Command.TheVariants.{Quit}
 use Rattle.sve_debug.specs.declared.session.SessionFault.{SessionFault}
-use Rattle.sve_debug.specs.Held.{Held, Stands}
+use Rattle.sve_debug.specs.DebuggerState.{DebuggerState, Stands}
 use Rattle.sve_debug.specs.Lines.{command_of}
 use Rattle.sve_debug.specs.Replies.{Session, after_line, line_text, command_text, after_command, quits, is_quit, replies}
-use Rattle.sve_debug.specs.Sessions.{Tells, most_input, is_end, pending, turned, turn_text, ends}
+use Rattle.sve_debug.specs.Sessions.{Tells, most_input, is_end, pending, after_byte, byte_answer, ends}
 
 -- ---- lines
 
@@ -58,22 +58,22 @@ last_line line d h = ap (replies d) (slice_split_none (is_byte 10) line h) ∙ b
 -- ---- one byte
 
 -- the session goes on after a byte
-on_by : (b : Bool) (line rest : List ℕ) (byte : ℕ) (d : Session) → is_byte 10 byte ≡ b → IsPending line → ends line byte ≡ false → replies d (lines_of (line ++ byte ∷ rest)) ≡ turn_text line byte d ++ replies (turned line byte d) (lines_of (pending line byte ++ rest))
+on_by : (b : Bool) (line rest : List ℕ) (byte : ℕ) (d : Session) → is_byte 10 byte ≡ b → IsPending line → ends line byte ≡ false → replies d (lines_of (line ++ byte ∷ rest)) ≡ byte_answer line byte d ++ replies (after_byte line byte d) (lines_of (pending line byte ++ rest))
 on_by true line rest byte d is h goes =
     let stays : quits line ≡ false = sym (cond-true (is_end byte) _ _ is) ∙ goes in
     ap (replies d) (slice_split_at (is_byte 10) line byte rest h is)
     ∙ replies_more line (lines_of rest) d stays
     ∙ ap (λ t. t ++ replies (after_line line d) (lines_of rest)) (sym (cond-true (is_end byte) _ _ is))
-    ∙ ap (λ (e : Session). turn_text line byte d ++ replies e (lines_of rest)) (sym (cond-true (is_end byte) _ _ is))
-    ∙ ap (λ l. turn_text line byte d ++ replies (turned line byte d) (lines_of (l ++ rest))) (sym (cond-true (is_end byte) _ _ is))
+    ∙ ap (λ (e : Session). byte_answer line byte d ++ replies e (lines_of rest)) (sym (cond-true (is_end byte) _ _ is))
+    ∙ ap (λ l. byte_answer line byte d ++ replies (after_byte line byte d) (lines_of (l ++ rest))) (sym (cond-true (is_end byte) _ _ is))
 on_by false line rest byte d is h goes =
     ap (λ l. replies d (lines_of l)) (sym (append_assoc line (byte ∷ []) rest))
     ∙ ap (λ t. t ++ replies d (lines_of ((line ++ byte ∷ []) ++ rest))) (sym (cond-false (is_end byte) _ _ is))
-    ∙ ap (λ (e : Session). turn_text line byte d ++ replies e (lines_of ((line ++ byte ∷ []) ++ rest))) (sym (cond-false (is_end byte) _ _ is))
-    ∙ ap (λ l. turn_text line byte d ++ replies (turned line byte d) (lines_of (l ++ rest))) (sym (cond-false (is_end byte) _ _ is))
+    ∙ ap (λ (e : Session). byte_answer line byte d ++ replies e (lines_of ((line ++ byte ∷ []) ++ rest))) (sym (cond-false (is_end byte) _ _ is))
+    ∙ ap (λ l. byte_answer line byte d ++ replies (after_byte line byte d) (lines_of (l ++ rest))) (sym (cond-false (is_end byte) _ _ is))
 
 -- the session ends with a byte
-end_by : (b : Bool) (line rest : List ℕ) (byte : ℕ) (d : Session) → is_byte 10 byte ≡ b → IsPending line → ends line byte ≡ true → replies d (lines_of (line ++ byte ∷ rest)) ≡ turn_text line byte d
+end_by : (b : Bool) (line rest : List ℕ) (byte : ℕ) (d : Session) → is_byte 10 byte ≡ b → IsPending line → ends line byte ≡ true → replies d (lines_of (line ++ byte ∷ rest)) ≡ byte_answer line byte d
 end_by true line rest byte d is h goes =
     let stops : quits line ≡ true = sym (cond-true (is_end byte) _ _ is) ∙ goes in
     ap (replies d) (slice_split_at (is_byte 10) line byte rest h is)
@@ -129,7 +129,7 @@ joined (Some bytes) mid new text x put all =
 -- ---- a session under way
 
 -- a debugger stands for the session after the lines that were taken of these bytes, and the output has gained their text
-pub record Under (held : Held) (start : State) (d : Session) (whole line : List ℕ) (most : ℕ) (input old new : Option (List ℕ)) : Type 0 where
+pub record Under (held : DebuggerState) (start : State) (d : Session) (whole line : List ℕ) (most : ℕ) (input old new : Option (List ℕ)) : Type 0 where
   pub session : Session
   pub stands : Stands held start session
   pub left : List ℕ
@@ -138,7 +138,7 @@ pub record Under (held : Held) (start : State) (d : Session) (whole line : List 
   pub same : replies d (lines_of whole) ≡ text ++ replies session (lines_of (line ++ take most left))
   pub put : IfSome old (λ bytes. new ≡ Some (bytes ++ text))
 
-pub under_first : (held : Held) (start : State) (d : Session) (line bytes : List ℕ) (most : ℕ) (input old : Option (List ℕ)) → line ≡ [] → Stands held start d → input ≡ Some bytes → Under held start d (take most bytes) line (most - 0) input old old
+pub under_first : (held : DebuggerState) (start : State) (d : Session) (line bytes : List ℕ) (most : ℕ) (input old : Option (List ℕ)) → line ≡ [] → Stands held start d → input ≡ Some bytes → Under held start d (take most bytes) line (most - 0) input old old
 under_first held start d line bytes most input old empty h is =
     let all : most ≡ most - 0 = omega arith in
     record {
@@ -177,18 +177,18 @@ stops on true is e = refl
 stops on false is e = absurd cc
 
 -- what a byte and its answer do to a session under way
-pub record LoopIndex (held held' : Held) (start : State) (line : List ℕ) (byte : ℕ) (mid new : Option (List ℕ)) (result : Result Bool SessionFault) : Type 0 where
-  pub stands : (e : Session) → Stands held start e → Stands held' start (turned line byte e)
-  pub told : (e : Session) → Stands held start e → Tells mid new (turn_text line byte e) result
+pub record LoopIndex (held held' : DebuggerState) (start : State) (line : List ℕ) (byte : ℕ) (mid new : Option (List ℕ)) (result : Result Bool SessionFault) : Type 0 where
+  pub stands : (e : Session) → Stands held start e → Stands held' start (after_byte line byte e)
+  pub told : (e : Session) → Stands held start e → Tells mid new (byte_answer line byte e) result
 
-pub under_next : (held held' : Held) (start : State) (d : Session) (whole line line' : List ℕ) (most k byte : ℕ) (on : Bool) (input input' old mid new : Option (List ℕ)) → k + 1 ≤ most → IsPending line → IfSome input (λ bytes. Some byte ≡ slice_get bytes 0) → IfSome input (λ bytes. input' ≡ Some (drop 1 bytes)) → line' ≡ pending line byte → on ≡ true → on ≡ not (ends line byte) → LoopIndex held held' start line byte mid new (Ok on) → Under held start d whole line (most - k) input old mid → Under held' start d whole line' (most - (k + 1)) input' old new
+pub under_next : (held held' : DebuggerState) (start : State) (d : Session) (whole line line' : List ℕ) (most k byte : ℕ) (on : Bool) (input input' old mid new : Option (List ℕ)) → k + 1 ≤ most → IsPending line → IfSome input (λ bytes. Some byte ≡ slice_get bytes 0) → IfSome input (λ bytes. input' ≡ Some (drop 1 bytes)) → line' ≡ pending line byte → on ≡ true → on ≡ not (ends line byte) → LoopIndex held held' start line byte mid new (Ok on) → Under held start d whole line (most - k) input old mid → Under held' start d whole line' (most - (k + 1)) input' old new
 under_next held held' start d whole line line' most k byte on input input' old mid new inside pends next left following is e t u =
     let here : Some byte ≡ slice_get u.left 0 = subst (λ i. IfSome i (λ bytes. Some byte ≡ slice_get bytes 0)) u.input_is next in
     let rest : input' ≡ Some (drop 1 u.left) = subst (λ i. IfSome i (λ bytes. input' ≡ Some (drop 1 bytes))) u.input_is left in
     let after = take (most - (k + 1)) (drop 1 u.left) in
-    let said = turn_text line byte u.session in
+    let said = byte_answer line byte u.session in
     record {
-      session = turned line byte u.session;
+      session = after_byte line byte u.session;
       stands = t.stands u.session u.stands;
       left = drop 1 u.left;
       input_is = rest;
@@ -197,17 +197,17 @@ under_next held held' start d whole line line' most k byte on input input' old m
           u.same
           ∙ ap (λ l. u.text ++ replies u.session (lines_of (line ++ l))) (one_left u.left most k byte inside here)
           ∙ ap (λ r. u.text ++ r) (on_by (is_byte 10 byte) line after byte u.session refl pends (goes on (ends line byte) is e))
-          ∙ sym (append_assoc u.text said (replies (turned line byte u.session) (lines_of (pending line byte ++ after))))
-          ∙ ap (λ l. (u.text ++ said) ++ replies (turned line byte u.session) (lines_of (l ++ after))) (sym following);
+          ∙ sym (append_assoc u.text said (replies (after_byte line byte u.session) (lines_of (pending line byte ++ after))))
+          ∙ ap (λ l. (u.text ++ said) ++ replies (after_byte line byte u.session) (lines_of (l ++ after))) (sym following);
       put = joined old mid new u.text said u.put (all_put mid new said on (t.told u.session u.stands));
     }
 
 -- a line ends the session
-pub under_quit : {T : Type 0} (held held' : Held) (start : State) (d : Session) (whole line : List ℕ) (most k byte : ℕ) (on : Bool) (input old mid new : Option (List ℕ)) (value : T) → k + 1 ≤ most → IsPending line → IfSome input (λ bytes. Some byte ≡ slice_get bytes 0) → on ≡ false → on ≡ not (ends line byte) → LoopIndex held held' start line byte mid new (Ok on) → Under held start d whole line (most - k) input old mid → Tells {T = T} old new (replies d (lines_of whole)) (Ok value)
+pub under_quit : {T : Type 0} (held held' : DebuggerState) (start : State) (d : Session) (whole line : List ℕ) (most k byte : ℕ) (on : Bool) (input old mid new : Option (List ℕ)) (value : T) → k + 1 ≤ most → IsPending line → IfSome input (λ bytes. Some byte ≡ slice_get bytes 0) → on ≡ false → on ≡ not (ends line byte) → LoopIndex held held' start line byte mid new (Ok on) → Under held start d whole line (most - k) input old mid → Tells {T = T} old new (replies d (lines_of whole)) (Ok value)
 under_quit held held' start d whole line most k byte on input old mid new value inside pends next is e t u =
     let here : Some byte ≡ slice_get u.left 0 = subst (λ i. IfSome i (λ bytes. Some byte ≡ slice_get bytes 0)) u.input_is next in
     let after = take (most - (k + 1)) (drop 1 u.left) in
-    let said = turn_text line byte u.session in
+    let said = byte_answer line byte u.session in
     let same : replies d (lines_of whole) ≡ u.text ++ said =
     u.same
     ∙ ap (λ l. u.text ++ replies u.session (lines_of (line ++ l))) (one_left u.left most k byte inside here)
@@ -215,11 +215,11 @@ under_quit held held' start d whole line most k byte on input old mid new value 
     tells_all old mid new u.text said (replies d (lines_of whole)) value same u.put (all_put mid new said on (t.told u.session u.stands))
 
 -- the output failed at a byte, or memory was short
-pub under_cut : {T : Type 0} (held held' : Held) (start : State) (d : Session) (whole line : List ℕ) (most k byte : ℕ) (input old mid new : Option (List ℕ)) (first : Result Bool SessionFault) (result : Result T SessionFault) → k + 1 ≤ most → IsPending line → IfSome input (λ bytes. Some byte ≡ slice_get bytes 0) → IsErr result → LoopIndex held held' start line byte mid new first → Under held start d whole line (most - k) input old mid → Tells old new (replies d (lines_of whole)) result
+pub under_cut : {T : Type 0} (held held' : DebuggerState) (start : State) (d : Session) (whole line : List ℕ) (most k byte : ℕ) (input old mid new : Option (List ℕ)) (first : Result Bool SessionFault) (result : Result T SessionFault) → k + 1 ≤ most → IsPending line → IfSome input (λ bytes. Some byte ≡ slice_get bytes 0) → IsErr result → LoopIndex held held' start line byte mid new first → Under held start d whole line (most - k) input old mid → Tells old new (replies d (lines_of whole)) result
 under_cut held held' start d whole line most k byte input old mid new first result inside pends next err t u =
     let here : Some byte ≡ slice_get u.left 0 = subst (λ i. IfSome i (λ bytes. Some byte ≡ slice_get bytes 0)) u.input_is next in
     let after = take (most - (k + 1)) (drop 1 u.left) in
-    let said = turn_text line byte u.session in
+    let said = byte_answer line byte u.session in
     let rest = parted (ends line byte) refl (line ++ byte ∷ after) after u.session refl in
     let same : replies d (lines_of whole) ≡ u.text ++ (said ++ rest.0) =
     u.same
@@ -227,14 +227,14 @@ under_cut held held' start d whole line most k byte input old mid new first resu
     ∙ ap (λ r. u.text ++ r) rest.1 in
     tells_part old mid new u.text said rest.0 (replies d (lines_of whole)) result err same u.put (part_put mid new said first (t.told u.session u.stands))
   where
-    parted : (b : Bool) → ends line byte ≡ b → (all after : List ℕ) (e : Session) → all ≡ line ++ byte ∷ after → (y : List ℕ) × (replies e (lines_of all) ≡ turn_text line byte e ++ y)
+    parted : (b : Bool) → ends line byte ≡ b → (all after : List ℕ) (e : Session) → all ≡ line ++ byte ∷ after → (y : List ℕ) × (replies e (lines_of all) ≡ byte_answer line byte e ++ y)
     parted true is all after e same =
-        ([], ap (λ l. replies e (lines_of l)) same ∙ end_by (is_byte 10 byte) line after byte e refl pends is ∙ sym (append-nil (turn_text line byte e)))
+        ([], ap (λ l. replies e (lines_of l)) same ∙ end_by (is_byte 10 byte) line after byte e refl pends is ∙ sym (append-nil (byte_answer line byte e)))
     parted false is all after e same =
-        (replies (turned line byte e) (lines_of (pending line byte ++ after)), ap (λ l. replies e (lines_of l)) same ∙ on_by (is_byte 10 byte) line after byte e refl pends is)
+        (replies (after_byte line byte e) (lines_of (pending line byte ++ after)), ap (λ l. replies e (lines_of l)) same ∙ on_by (is_byte 10 byte) line after byte e refl pends is)
 
 -- the input failed
-pub under_unread : {T : Type 0} (held : Held) (start : State) (d : Session) (whole line : List ℕ) (n : ℕ) (input old mid : Option (List ℕ)) (result : Result T SessionFault) → IsErr result → Under held start d whole line n input old mid → Tells old mid (replies d (lines_of whole)) result
+pub under_unread : {T : Type 0} (held : DebuggerState) (start : State) (d : Session) (whole line : List ℕ) (n : ℕ) (input old mid : Option (List ℕ)) (result : Result T SessionFault) → IsErr result → Under held start d whole line n input old mid → Tells old mid (replies d (lines_of whole)) result
 under_unread held start d whole line n input old mid result err u =
     tells_part old mid mid u.text [] (replies u.session (lines_of (line ++ take n u.left))) (replies d (lines_of whole)) result err u.same u.put (nothing mid)
 
@@ -244,7 +244,7 @@ last_by {T = T} old mid new text x whole (Ok value) is put told = tells_all {T =
 last_by {T = T} old mid new text x whole (Err fault) is put told =
     tells_part {T = T} old mid new text x [] whole (Err fault) refl (is ∙ ap (λ t. text ++ t) (sym (append-nil x))) put (part_put {T = T} mid new x (Err fault) told)
 
-under_last : {T : Type 0} (held : Held) (start : State) (d : Session) (whole line : List ℕ) (n : ℕ) (input old mid new : Option (List ℕ)) (result : Result T SessionFault) → IsPending line → (u : Under held start d whole line n input old mid) → take n u.left ≡ [] → ((e : Session) → Stands held start e → Tells mid new (line_text line e) result) → Tells old new (replies d (lines_of whole)) result
+under_last : {T : Type 0} (held : DebuggerState) (start : State) (d : Session) (whole line : List ℕ) (n : ℕ) (input old mid new : Option (List ℕ)) (result : Result T SessionFault) → IsPending line → (u : Under held start d whole line n input old mid) → take n u.left ≡ [] → ((e : Session) → Stands held start e → Tells mid new (line_text line e) result) → Tells old new (replies d (lines_of whole)) result
 under_last held start d whole line n input old mid new result pends u end told =
     let same : replies d (lines_of whole) ≡ u.text ++ line_text line u.session =
     u.same
@@ -254,13 +254,13 @@ under_last held start d whole line n input old mid new result pends u end told =
     last_by old mid new u.text (line_text line u.session) (replies d (lines_of whole)) result same u.put (told u.session u.stands)
 
 -- at the end of the input
-pub under_end : {T : Type 0} (held : Held) (start : State) (d : Session) (whole line : List ℕ) (n : ℕ) (input old mid new : Option (List ℕ)) (result : Result T SessionFault) → IsPending line → IfSome input (λ bytes. None ≡ slice_get bytes 0) → ((e : Session) → Stands held start e → Tells mid new (line_text line e) result) → Under held start d whole line n input old mid → Tells old new (replies d (lines_of whole)) result
+pub under_end : {T : Type 0} (held : DebuggerState) (start : State) (d : Session) (whole line : List ℕ) (n : ℕ) (input old mid new : Option (List ℕ)) (result : Result T SessionFault) → IsPending line → IfSome input (λ bytes. None ≡ slice_get bytes 0) → ((e : Session) → Stands held start e → Tells mid new (line_text line e) result) → Under held start d whole line n input old mid → Tells old new (replies d (lines_of whole)) result
 under_end held start d whole line n input old mid new result pends next told u =
     let here : None ≡ slice_get u.left 0 = subst (λ i. IfSome i (λ bytes. None ≡ slice_get bytes 0)) u.input_is next in
     under_last held start d whole line n input old mid new result pends u (none_left u.left n here) told
 
 -- after the last byte that is taken
-pub under_limit : {T : Type 0} (held : Held) (start : State) (d : Session) (whole line : List ℕ) (most k : ℕ) (input old mid new : Option (List ℕ)) (result : Result T SessionFault) → most ≤ k → IsPending line → ((e : Session) → Stands held start e → Tells mid new (line_text line e) result) → Under held start d whole line (most - k) input old mid → Tells old new (replies d (lines_of whole)) result
+pub under_limit : {T : Type 0} (held : DebuggerState) (start : State) (d : Session) (whole line : List ℕ) (most k : ℕ) (input old mid new : Option (List ℕ)) (result : Result T SessionFault) → most ≤ k → IsPending line → ((e : Session) → Stands held start e → Tells mid new (line_text line e) result) → Under held start d whole line (most - k) input old mid → Tells old new (replies d (lines_of whole)) result
 under_limit held start d whole line most k input old mid new result all pends told u =
     let none : most - k ≡ 0 = omega arith in
     under_last held start d whole line (most - k) input old mid new result pends u (ap (λ n. take n u.left) none ∙ take_none u.left) told

@@ -6,17 +6,17 @@ use Rattle.io_edges.specs.Sink.{PutsText}
 use Rattle.machine_model.specs.Machine.{State}
 use Rattle.sve_debug.specs.declared.command.Command.{Command}
 use Rattle.sve_debug.specs.declared.command.Command.TheVariants.{Step, Go, Back, Break, Show, Quit}
-use Rattle.sve_debug.specs.Held.{Held, Stands, came_out, held_stand, answer_text}
+use Rattle.sve_debug.specs.DebuggerState.{DebuggerState, Stands, came_out, held_stand, answer_text}
 use Rattle.sve_debug.specs.Lines.{command_of}
 use Rattle.sve_debug.specs.Replies.{Session, line, stand_text, break_text, part_text, is_too_far, after_command, command_text, line_text}
 
-stand_is : (held : Held) (start : State) (e : Session) → Stands held start e → held_stand held ≡ stand_text e.state e.steps e.over
+stand_is : (held : DebuggerState) (start : State) (e : Session) → Stands held start e → held_stand held ≡ stand_text e.state e.steps e.over
 stand_is held start e h =
     let shows = h.shows in
     ap₂ (λ (s : State) n. stand_text s n (option_map (came_out s n) held.machine.over)) shows.state shows.steps
     ∙ ap (stand_text e.state e.steps) (sym shows.over)
 
-pub told_is : (command : Command) (held held' : Held) (start : State) (d : Session) → Stands held start d → Stands held' start (after_command command d) → answer_text command held held' ≡ command_text command d (after_command command d)
+pub told_is : (command : Command) (held held' : DebuggerState) (start : State) (d : Session) → Stands held start d → Stands held' start (after_command command d) → answer_text command held held' ≡ command_text command d (after_command command d)
 told_is (Step n) held held' start d h k = stand_is held' start _ k
 told_is (Go n) held held' start d h k = stand_is held' start _ k
 told_is (Back n) held held' start d h k =

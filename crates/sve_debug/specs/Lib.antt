@@ -1,6 +1,6 @@
 pub mod Lines
 pub mod Replies
 pub mod View
-pub mod Held
+pub mod DebuggerState
 pub mod Sessions
 pub mod Reaches

@@ -25,11 +25,11 @@ is_end byte = nat_eq byte 10
 abbrev pub pending : List ℕ → ℕ → List ℕ
 pending line byte = if is_end byte then [] else line ++ byte ∷ []
 
-abbrev pub turned : List ℕ → ℕ → Session → Session
-turned line byte d = if is_end byte then after_line line d else d
+abbrev pub after_byte : List ℕ → ℕ → Session → Session
+after_byte line byte d = if is_end byte then after_line line d else d
 
-abbrev pub turn_text : List ℕ → ℕ → Session → List ℕ
-turn_text line byte d = if is_end byte then line_text line d else []
+abbrev pub byte_answer : List ℕ → ℕ → Session → List ℕ
+byte_answer line byte d = if is_end byte then line_text line d else []
 
 abbrev pub ends : List ℕ → ℕ → Bool
 ends line byte = if is_end byte then quits line else false

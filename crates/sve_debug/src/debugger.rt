@@ -3,7 +3,7 @@
 ghost use Rattle.std.specs.Prelude.{◌≡◌, [], ◌-◌, ◌+◌, ◌^◌, ◌<◌, ◌≤◌, ◌||◌, None, IfOk, IsTrue, length, not, nat_lt};
 ghost use Rattle.io_edges.specs.Sink.{PutsText, HasCause};
 ghost use Rattle.machine_model.specs.Machine.{State};
-ghost use Rattle.sve_debug.specs.Held.{Stands, held_stand, answer_text, with_breaks};
+ghost use Rattle.sve_debug.specs.DebuggerState.{Stands, held_stand, answer_text, with_breaks};
 ghost use Rattle.sve_debug.specs.Replies.{Session, started, counted_steps, is_too_far, after_back, is_break, with_break, break_text, part_text, after_command, command_text, after_line, line_text, quits};
 ghost use Rattle.sve_debug.specs.View.{IsPart, IsWithin};
 ghost use Rattle.debug_history.specs.Kept.{counts_of};
@@ -33,9 +33,9 @@ pub struct Debugger<D: Keepable> {
 
 impl<D: Keepable> Model for Debugger<D> {
     ghost use Rattle.std.specs.Prelude.{◌≡◌, ◌≤◌, All, IsTrue, length};
-    ghost use Rattle.sve_debug.specs.Held.{Held, IsTwin, held_by};
+    ghost use Rattle.sve_debug.specs.DebuggerState.{DebuggerState, IsTwin, held_by};
 
-    ghost Value = { Held };
+    ghost Value = { DebuggerState };
 
     ghost view = { λ d. held_by (D.view_of d.machine) d.breaks.items d.places.items };
 

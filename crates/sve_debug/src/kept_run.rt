@@ -2,7 +2,7 @@
 
 ghost use Rattle.std.specs.Prelude.{◌≡◌, [], ℕ, ◌+◌, ◌^◌, ◌<◌, ◌≤◌, All, List, IsTrue, false, length};
 ghost use Rattle.machine_model.specs.Machine.{State};
-ghost use Rattle.sve_debug.specs.Held.{Stands, IsTwin, held_by};
+ghost use Rattle.sve_debug.specs.DebuggerState.{Stands, IsTwin, held_by};
 ghost use Rattle.sve_debug.specs.Replies.{Session, counted_steps};
 
 use crate::run::{Places, advance_far};

@@ -6,7 +6,7 @@ ghost use Rattle.io_edges.specs.Sink.{PutsText};
 ghost use Rattle.machine_model.specs.DumpText.{dump_line, dump_text};
 ghost use Rattle.number_text.specs.Hexadecimal.{hex_text};
 ghost use Rattle.sve_debug.specs.Replies.{line, named_text, place_text, stand_text};
-ghost use Rattle.sve_debug.specs.Held.{at_text, end_text, stop_text};
+ghost use Rattle.sve_debug.specs.DebuggerState.{at_text, end_text, stop_text};
 
 use crate::digits::memory_bytes;
 use circular_buffer::HeapCircularBuffer;

@@ -3,7 +3,7 @@
 ghost use Rattle.std.specs.Prelude.{◌≡◌, [], ◌∷◌, ℕ, ◌+◌, ◌-◌, ◌++◌, ◌^◌, ◌<◌, ◌≤◌, List, None, IsTrue, false, take};
 ghost use Rattle.circular_buffer.specs.Buffer.{keep_last};
 ghost use Rattle.machine_model.specs.Machine.{State};
-ghost use Rattle.sve_debug.specs.Held.{Shows, held_by};
+ghost use Rattle.sve_debug.specs.DebuggerState.{Shows, held_by};
 ghost use Rattle.sve_debug.specs.Reaches.{Reaches};
 ghost use Rattle.sve_debug.specs.Replies.{Session, is_break, stepped, steps_to};
 

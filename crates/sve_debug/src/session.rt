@@ -3,9 +3,9 @@
 ghost use Rattle.std.specs.Prelude.{◌≡◌, ◌≢◌, ◌+◌, ◌*◌, ◌-◌, ◌^◌, ◌≤◌, ◌++◌, ◌∷◌, [], List, ℕ, drop, slice_get, not, Some, Err, IfOk, IfErr, IfSome, OnOk, OnErr, IsErrOf};
 ghost use Rattle.io_edges.specs.Files.{Rose};
 ghost use Rattle.machine_model.specs.Machine.{State};
-ghost use Rattle.sve_debug.specs.Held.{Stands};
+ghost use Rattle.sve_debug.specs.DebuggerState.{Stands};
 ghost use Rattle.sve_debug.specs.Replies.{Session, after_line, line_text, quits};
-ghost use Rattle.sve_debug.specs.Sessions.{Tells, session_text, turned, turn_text, pending, ends, AsItCame};
+ghost use Rattle.sve_debug.specs.Sessions.{Tells, session_text, after_byte, byte_answer, pending, ends, AsItCame};
 
 use crate::debugger::Debugger;
 use debug_history::keepable::Keepable;
@@ -78,7 +78,7 @@ fn push(line: &mut Vec<u8>, byte: u8) -> Result<(), SessionFault>
 }
 
 // Takes a byte, which belongs to the line that is pending or ends it, and says whether the session goes on.
-fn turn<D: Keepable, S: Sink>(
+fn answer_byte<D: Keepable, S: Sink>(
     debugger: &mut Debugger<D>,
     line: &mut Vec<u8>,
     byte: u8,
@@ -86,11 +86,11 @@ fn turn<D: Keepable, S: Sink>(
 ) -> Result<bool, SessionFault>
     requires { debugger.old.machine.steps ≤ 2 ^ 64 - 100000001 }
     ensures session { (start : State) (d : Session) → Stands debugger.old start d →
-        Stands debugger.new start (turned line.old.items byte d) }
+        Stands debugger.new start (after_byte line.old.items byte d) }
     ensures line { OnOk result (line.new.items ≡ pending line.old.items byte) }
     ensures steps { debugger.new.machine.steps ≤ debugger.old.machine.steps + 100000000 }
     ensures told { (start : State) (d : Session) → Stands debugger.old start d →
-        Tells (S.taken out.old) (S.taken out.new) (turn_text line.old.items byte d) result }
+        Tells (S.taken out.old) (S.taken out.new) (byte_answer line.old.items byte d) result }
     ensures later { S.faults out.old ≤ S.faults out.new }
     ensures output { IsErrOf result SessionFault.Output → Rose (S.faults out.old) (S.faults out.new) }
     ensures input { result ≢ Err SessionFault.Input }
@@ -143,7 +143,7 @@ fn answer_lines<D: Keepable, I: Source, S: Sink>(
         let Some(byte) = next(input)? else {
             return finish(debugger, line.as_slice(), out);
         };
-        let on = turn(debugger, line, byte, out)?;
+        let on = answer_byte(debugger, line, byte, out)?;
         if !on {
             return Ok(());
         }

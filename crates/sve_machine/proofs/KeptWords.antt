@@ -11,7 +11,7 @@ use Rattle.machine_model.specs.Machine.{State, Step, Stopped, memory_after}
 use Rattle.machine_model.specs.OneStep.{step, does, do_word, reads_word}
 use Rattle.machine_model.specs.Answers.{IsAnswer}
 use Rattle.machine_model.proofs.MemoryStays.{step_code}
-use Rattle.sve_machine.specs.declared.kept.Entry.{Entry}
+use Rattle.sve_machine.specs.declared.kept.CacheEntry.{CacheEntry}
 use Rattle.sve_machine.specs.declared.kept.Kept.{Kept}
 use Rattle.sve_machine.specs.declared.kept.Kept.TheVariants.{Nowhere}
 use Rattle.sve_machine.specs.Keeping.{Keeps, Holds, kept_does}
@@ -33,18 +33,18 @@ left_same s t o (answers.Stopped stop) e = ap (λ x. memory_after x s) (sym e.0)
 pub same_code : (s t : State) (r : StepAnswer) → IsAnswer (step s) r s t → (a : ℕ) → a < 2 ^ 64 → fetched t.memory a ≡ fetched s.memory a
 same_code s t r e a lt = ap (λ m. fetched m a) (left_same s t (step s) r e) ∙ step_code s a lt
 
-still : (m n : Memory) (e : Entry) → ((a : ℕ) → a < 2 ^ 64 → fetched n a ≡ fetched m a) → Keeps m e → Keeps n e
+still : (m n : Memory) (e : CacheEntry) → ((a : ℕ) → a < 2 ^ 64 → fetched n a ≡ fetched m a) → Keeps m e → Keeps n e
 still m n e same k = (k.0, λ s at. ap (λ w. do_word w s) (same e.place k.0) ∙ k.1 s at)
 
-pub all_still : (m n : Memory) (es : List Entry) → ((a : ℕ) → a < 2 ^ 64 → fetched n a ≡ fetched m a) → All (Keeps m) es → All (Keeps n) es
+pub all_still : (m n : Memory) (es : List CacheEntry) → ((a : ℕ) → a < 2 ^ 64 → fetched n a ≡ fetched m a) → All (Keeps m) es → All (Keeps n) es
 all_still m n es same h k d l = still m n (get_or es k d) same (h k d l)
 
-abbrev nothing : Entry
+abbrev nothing : CacheEntry
 nothing = record { place = 1; kept = Nowhere }
 
 pub none_kept : (m : Memory) (n : ℕ) → All (Keeps m) (replicate n nothing)
 none_kept m n = All-replicate (Keeps m) n nothing (omega arith, λ s at. refl)
 
 -- a step does what an entry keeps
-pub step_by : (s t : State) (r : StepAnswer) (kept : List Entry) (i : ℕ) (d : Entry) → ((x : Entry) → Holds s.memory s.pc (get_or kept i x)) → IsAnswer (kept_does (get_or kept i d).kept s) r s t → IsAnswer (step s) r s t
+pub step_by : (s t : State) (r : StepAnswer) (kept : List CacheEntry) (i : ℕ) (d : CacheEntry) → ((x : CacheEntry) → Holds s.memory s.pc (get_or kept i x)) → IsAnswer (kept_does (get_or kept i d).kept s) r s t → IsAnswer (step s) r s t
 step_by s t r kept i d found h = subst (λ o. IsAnswer o r s t) (sym (found d s refl)) h

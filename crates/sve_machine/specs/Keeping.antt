@@ -8,7 +8,7 @@ use Rattle.machine_model.specs.InstructionTable as table
 use Rattle.machine_model.specs.Machine.{State, Step, Stopped}
 use Rattle.machine_model.specs.OneStep.{does, do_word}
 use Rattle.a64_machine.specs.Prepared.{prepared_does}
-use Rattle.sve_machine.specs.declared.kept.Entry.{Entry}
+use Rattle.sve_machine.specs.declared.kept.CacheEntry.{CacheEntry}
 use Rattle.sve_machine.specs.declared.kept.Kept.{Kept}
 use Rattle.sve_machine.specs.declared.kept.Kept.TheVariants.{Nowhere, Ready, Scalar, Vector}
 
@@ -20,11 +20,11 @@ kept_does (Scalar word) s = does (table.Scalar (a64.instruction_view word)) s
 kept_does (Vector word) s = does (table.Vector (sve.instruction_view word)) s
 
 -- a step at this place does what the entry keeps
-abbrev pub Holds : Memory → ℕ → Entry → Type 0
+abbrev pub Holds : Memory → ℕ → CacheEntry → Type 0
 Holds memory pc entry = (s : State) → s.pc ≡ pc → do_word (fetched memory pc) s ≡ kept_does entry.kept s
 
 -- the same at the entry's own place
-abbrev pub Keeps : Memory → Entry → Type 0
+abbrev pub Keeps : Memory → CacheEntry → Type 0
 Keeps memory entry = (entry.place < 2 ^ 64) × Holds memory entry.place entry
 
 -- it is no prepared instruction

@@ -3,7 +3,7 @@ use Rattle.std.specs.Prelude.{◌≡◌, List, [], ◌∷◌, length, Option, So
 use Rattle.guest_types.specs.Memory.{Memory}
 use Rattle.machine_model.specs.Debugged.{Past, is_never}
 use Rattle.a64_machine.specs.Cores.{state_of}
-use Rattle.sve_machine.specs.declared.kept.Entry.{Entry}
+use Rattle.sve_machine.specs.declared.kept.CacheEntry.{CacheEntry}
 use Rattle.sve_machine.specs.declared.snapshot.Snapshot.{Snapshot}
 use Rattle.sve_machine.specs.Keeping.{Keeps}
 
@@ -28,6 +28,6 @@ AreBeside memories None = Unit {0}
 AreBeside memories (Some rests) = length memories ≡ length rests
 
 -- The words that were decoded are those of the memory, and the rests stand beside the memories that are kept.
-pub record IsWhole (memory : Memory) (memories : List Memory) (entries : List Entry) (history : Option (List Snapshot)) : Type 0 where
+pub record IsWhole (memory : Memory) (memories : List Memory) (entries : List CacheEntry) (history : Option (List Snapshot)) : Type 0 where
   pub kept : All (Keeps memory) entries
   pub beside : AreBeside memories history

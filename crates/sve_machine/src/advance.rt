@@ -7,7 +7,7 @@ ghost use Rattle.a64_machine.specs.Cores.{state_of, said};
 ghost use Rattle.sve_machine.specs.Keeping.{Keeps, kept_does, IsOther};
 ghost use Rattle.sve_machine.specs.View.{Leaves};
 
-use crate::kept::{Entry, Kept};
+use crate::kept::{CacheEntry, Kept};
 use crate::look_up::{look_up, stop};
 use crate::scalars::scalar_goes;
 use crate::vector_step::vector_goes;
@@ -66,7 +66,7 @@ pub fn advance<L>(
     core: &mut Core,
     pages: &mut Pages,
     vectors: &mut Vectors,
-    kept: &mut [Entry; 1024],
+    kept: &mut [CacheEntry; 1024],
     place: &mut u64,
     answer: &mut Step,
 ) -> bool
@@ -98,7 +98,7 @@ pub fn go(
     core: &mut Core,
     pages: &mut Pages,
     vectors: &mut Vectors,
-    kept: &mut [Entry; 1024],
+    kept: &mut [CacheEntry; 1024],
     steps: u64,
 ) -> (Step, u64)
     requires kept { All (Keeps pages.old.memory) kept.old }

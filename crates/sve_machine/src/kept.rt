@@ -19,7 +19,7 @@ pub enum Kept {
 
 /// A place, and what is done there.
 #[derive(Clone, Copy)]
-pub struct Entry {
+pub struct CacheEntry {
     pub place: u64,
     pub kept: Kept,
 }

@@ -8,16 +8,16 @@ ghost use Rattle.machine_model.specs.Machine.{State};
 ghost use Rattle.sve_machine.specs.Keeping.{Keeps, Holds};
 
 use crate::decoding::decode;
-use crate::kept::{Entry, Kept};
+use crate::kept::{CacheEntry, Kept};
 use crate::ready::ready;
 use machine_model::outcome::{Step, Stop, StopKind};
 use paged_memory::pages::Pages;
 
 /// Entries of a place where no word can stand.
-pub fn no_words() -> [Entry; 1024]
+pub fn no_words() -> [CacheEntry; 1024]
     ensures { (memory : Memory) → All (Keeps memory) result }
 {
-    let nothing = Entry {
+    let nothing = CacheEntry {
         place: 1,
         kept: Kept::Nowhere,
     };
@@ -37,10 +37,10 @@ pub fn stop(kind: StopKind, pc: u64, at: u64, answer: &mut Step) -> bool
 /// Decodes the word at a place and keeps it: whether there is one, or else the answer there.
 #[cold]
 #[inline(never)]
-fn fill(pages: &Pages, kept: &mut [Entry; 1024], pc: u64, answer: &mut Step) -> bool
+fn fill(pages: &Pages, kept: &mut [CacheEntry; 1024], pc: u64, answer: &mut Step) -> bool
     requires kept { All (Keeps pages.now.memory) kept.old }
     ensures kept { All (Keeps pages.now.memory) kept.new }
-    ensures found { (d : Entry) → IsTrue result
+    ensures found { (d : CacheEntry) → IsTrue result
         → Holds pages.now.memory pc (slice_index_or kept.new (pc / 4 % 1024) d) }
     ensures stopped { (s : State) → result ≡ false → s.memory ≡ pages.now.memory → s.pc ≡ pc
         → IsAnswer (step s) answer.new s s }
@@ -50,7 +50,7 @@ fn fill(pages: &Pages, kept: &mut [Entry; 1024], pc: u64, answer: &mut Step) -> 
     };
     match decode(word) {
         Some(instruction) => {
-            kept[(pc / 4 % 1024) as usize] = Entry {
+            kept[(pc / 4 % 1024) as usize] = CacheEntry {
                 place: pc,
                 kept: ready(instruction, pc),
             };
@@ -63,10 +63,10 @@ fn fill(pages: &Pages, kept: &mut [Entry; 1024], pc: u64, answer: &mut Step) -> 
 /// Sees to it that the entry of a place holds the instruction there: whether there is one, or else
 /// the answer there.
 #[inline(always)]
-pub fn look_up(pages: &Pages, kept: &mut [Entry; 1024], pc: u64, answer: &mut Step) -> bool
+pub fn look_up(pages: &Pages, kept: &mut [CacheEntry; 1024], pc: u64, answer: &mut Step) -> bool
     requires kept { All (Keeps pages.now.memory) kept.old }
     ensures kept { All (Keeps pages.now.memory) kept.new }
-    ensures found { (d : Entry) → IsTrue result
+    ensures found { (d : CacheEntry) → IsTrue result
         → Holds pages.now.memory pc (slice_index_or kept.new (pc / 4 % 1024) d) }
     ensures stopped { (s : State) → result ≡ false → s.memory ≡ pages.now.memory → s.pc ≡ pc
         → IsAnswer (step s) answer.new s s }

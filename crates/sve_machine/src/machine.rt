@@ -4,7 +4,7 @@ ghost use Rattle.std.specs.Prelude.{◌≡◌, ◌+◌, ◌-◌, ◌^◌, ◌<�
 
 use crate::advance::{ByItself, advance, go};
 use crate::history::History;
-use crate::kept::Entry;
+use crate::kept::CacheEntry;
 use crate::look_up::no_words;
 use crate::snapshot::Snapshot;
 use crate::vectors::Vectors;
@@ -20,7 +20,7 @@ use std::marker::Model;
 #[derive(Drop)]
 pub struct Machine {
     // The first, so that an entry is reached from the machine's own address.
-    kept: [Entry; 1024],
+    kept: [CacheEntry; 1024],
     core: Core,
     pages: Pages,
     vectors: Vectors,

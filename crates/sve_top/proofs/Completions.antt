@@ -6,7 +6,7 @@ use Rattle.command_line.specs.Line.{Line, SweepLine}
 use Rattle.refusals.specs.declared.refusal.Refusal.TheVariants.{Usage, Memory, File, Output}
 use Rattle.refusals.specs.declared.refusal.Done.{Done}
 use Rattle.refusals.specs.declared.refusal.Done.TheVariants as done
-use Rattle.command_answers.specs.Answer.{Held, Expected, Answer, answer_of, expected_text, status_of}
+use Rattle.command_answers.specs.Answer.{HeldFiles, Expected, Answer, answer_of, expected_text, status_of}
 use Rattle.refusals.specs.Statuses.{status_of_done}
 use Rattle.sve_top.specs.Commands.{Expects, IsSettled, IsInput, IsOf, IsHeld}
 use Rattle.command_answers.specs.Works.{SomeExpected}
@@ -49,17 +49,17 @@ sweep_ends rose (Err File) of file cause none = absurd (file refl)
 sweep_ends rose (Err Output) of file cause none = absurd (none (cause refl))
 sweep_ends rose other of file cause none = absurd of
 
-of_work : (held : Held) (input : List ℕ) (line : Option Line) (before after : Outside) (s : ℕ) → s ≢ 8 → (StreamsRose line before after → ⊥) → SomeExpected (Expects held input line) (λ work. Does line work before after s) → SomeExpected (Expects held input line) (λ work. ComesTo work before.printed after.printed s)
+of_work : (held : HeldFiles) (input : List ℕ) (line : Option Line) (before after : Outside) (s : ℕ) → s ≢ 8 → (StreamsRose line before after → ⊥) → SomeExpected (Expects held input line) (λ work. Does line work before after s) → SomeExpected (Expects held input line) (λ work. ComesTo work before.printed after.printed s)
 of_work held input line before after s file stream w = (w.0, w.1, comes_to line w.0 before after s file stream w.2)
 
-completes_held : (h : Held) (input : List ℕ) (line : Option Line) (before after : Outside) (s : ℕ) (result : Answer) → s ≡ status_of result → IsOf line result → result ≢ Err File → (result ≡ Err Output → StreamsRose line before after) → (StreamsRose line before after → ⊥)
+completes_held : (h : HeldFiles) (input : List ℕ) (line : Option Line) (before after : Outside) (s : ℕ) (result : Answer) → s ≡ status_of result → IsOf line result → result ≢ Err File → (result ≡ Err Output → StreamsRose line before after) → (StreamsRose line before after → ⊥)
     → (IsSettled line → SomeExpected (Expects h input line) (λ work. Does line work before after s)) → Completes h input line before.printed after.printed s
 completes_held h input (Some (SweepLine number to)) before after s result is of file cause none does =
     subst (λ n. (n ≡ 0) ⊎ (n ≡ 7)) (sym is) (sweep_ends (StreamsRose (Some (SweepLine number to)) before after) result of file cause none)
 completes_held h input other before after s result is of file cause none does = of_work h input other before after s (λ e. not_eight result file (sym is ∙ e)) none (does tt)
 
 -- a line that is no command has no file to fail
-no_file : (h : Held) (line : Option Line) (result : Answer) → IsOf line result → IfSome line (λ l. IsHeld h l → result ≢ Err File) → IfSome line (λ l. IsHeld h l) → result ≢ Err File
+no_file : (h : HeldFiles) (line : Option Line) (result : Answer) → IsOf line result → IfSome line (λ l. IsHeld h l → result ≢ Err File) → IfSome line (λ l. IsHeld h l) → result ≢ Err File
 no_file h None result of steady held e = ⊎_elim (λ u. absurd (other (sym e ∙ u))) (λ m. absurd (memory (sym e ∙ m))) of
   where
     other : ◌≡◌ {A = Answer} (Err File) (Err Usage) → ⊥
@@ -70,7 +70,7 @@ no_file h None result of steady held e = ⊎_elim (λ u. absurd (other (sym e �
 no_file h (Some line) result of steady held e = steady held e
 
 -- what a command comes to, by what it answers
-pub completes : (held : Option Held) (left : Option (List ℕ)) (line : Option Line) (before after : Outside) (s : ℕ) (result : Answer) → s ≡ status_of result → IsOf line result
+pub completes : (held : Option HeldFiles) (left : Option (List ℕ)) (line : Option Line) (before after : Outside) (s : ℕ) (result : Answer) → s ≡ status_of result → IsOf line result
     → IfSome line (λ l. IfSome held (λ h. IsHeld h l → result ≢ Err File))
     → (result ≡ Err Output → StreamsRose line before after)
     → ((input : List ℕ) → IsInput line left input → IsSettled line → IfSome held (λ h. SomeExpected (Expects h input line) (λ work. Does line work before after s)))

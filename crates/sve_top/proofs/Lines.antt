@@ -4,12 +4,12 @@ use Rattle.std.specs.Prelude.{IfSome, IsErrAnd}
 use Rattle.command_line.specs.Line.{Line, DebugLine, SweepLine}
 use Rattle.refusals.specs.declared.refusal.Refusal.TheVariants.{Memory, Output}
 use Rattle.refusals.specs.declared.refusal.Done.TheVariants as done
-use Rattle.command_answers.specs.Answer.{Held, Expected, Answer, status_of}
+use Rattle.command_answers.specs.Answer.{HeldFiles, Expected, Answer, status_of}
 use Rattle.sweep_command.proofs.Sweeps.{memory_swept}
 use Rattle.sve_top.specs.Commands.{WhereTold, Swept, AsItComes}
 
 -- what is told of a line is told of the same line by another name
-pub by_line : (held : Option Held) (left : Option (List ℕ)) (c d : Option Line) (P : Option Line → Expected → Type 0) → c ≡ d → WhereTold held left d (P d) → WhereTold held left c (P c)
+pub by_line : (held : Option HeldFiles) (left : Option (List ℕ)) (c d : Option Line) (P : Option Line → Expected → Type 0) → c ≡ d → WhereTold held left d (P d) → WhereTold held left c (P c)
 by_line held left c d P e h = subst (λ l. WhereTold held left l (P l)) (sym e) h
 
 -- what holds where the bytes of the input are told
@@ -17,12 +17,12 @@ pub of_told : (left : Option (List ℕ)) (input : List ℕ) (P : List ℕ → Ty
 of_told left input P e h = subst (λ o. IfSome o P) e h
 
 -- what holds of each work holds of one that is wanted, whatever the line
-pub of_every_line : (held : Option Held) (left : Option (List ℕ)) (line : Option Line) (P : Expected → Type 0) → ((work : Expected) → P work) → WhereTold held left line P
+pub of_every_line : (held : Option HeldFiles) (left : Option (List ℕ)) (line : Option Line) (P : Expected → Type 0) → ((work : Expected) → P work) → WhereTold held left line P
 of_every_line None left line P all = λ input taken. tt
 of_every_line (Some h) left line P all = λ input taken. λ work w. (work, w, all work)
 
 -- want of memory before the words were read, whatever they are
-pub nothing_swept : (line : Option Line) (held : Option Held) (printed : Option (List ℕ)) (result : Answer) → IsErrAnd result (λ r. r ≡ Memory) → Swept line held printed printed (status_of result)
+pub nothing_swept : (line : Option Line) (held : Option HeldFiles) (printed : Option (List ℕ)) (result : Answer) → IsErrAnd result (λ r. r ≡ Memory) → Swept line held printed printed (status_of result)
 nothing_swept (Some (SweepLine number to)) held printed result is = memory_swept number to held printed result is
 nothing_swept other held printed result is = tt
 
@@ -40,11 +40,11 @@ output_alone (Ok done.Ended) e = absurd cc
 output_alone other e = absurd cc
 
 -- want of memory before the words were read is no failure of an output
-pub no_session : (line : Option Line) (held : Option Held) (input left old new : Option (List ℕ)) (before now : ℕ) (result : Answer) → IsErrAnd result (λ r. r ≡ Memory) → AsItComes line held input left old new before now (result ≡ Err Output)
+pub no_session : (line : Option Line) (held : Option HeldFiles) (input left old new : Option (List ℕ)) (before now : ℕ) (result : Answer) → IsErrAnd result (λ r. r ≡ Memory) → AsItComes line held input left old new before now (result ≡ Err Output)
 no_session (Some (DebugLine vl task)) held input left old new before now result is = λ e. absurd (not_memory result is e)
 no_session other held input left old new before now result is = tt
 
 -- the same by the status
-pub by_status : (line : Option Line) (held : Option Held) (input left old new : Option (List ℕ)) (before now s : ℕ) (result : Answer) → s ≡ status_of result → AsItComes line held input left old new before now (result ≡ Err Output) → AsItComes line held input left old new before now (s ≡ 9)
+pub by_status : (line : Option Line) (held : Option HeldFiles) (input left old new : Option (List ℕ)) (before now s : ℕ) (result : Answer) → s ≡ status_of result → AsItComes line held input left old new before now (result ≡ Err Output) → AsItComes line held input left old new before now (s ≡ 9)
 by_status (Some (DebugLine vl task)) held input left old new before now s result is h = λ e. h (output_alone result (sym is ∙ e))
 by_status other held input left old new before now s result is h = tt

@@ -2,7 +2,7 @@
 use Rattle.std.proofs.Common.{◌≡◌, ℕ, List, Option, Some, None, ap, subst}
 use Rattle.std.specs.Prelude.{IfSome}
 use Rattle.command_line.specs.Line.{Line}
-use Rattle.command_answers.specs.Answer.{Held, Expected, Answer, answer_of, expected_text, status_of, IsAnswer, IsRefusal, Unwritten}
+use Rattle.command_answers.specs.Answer.{HeldFiles, Expected, Answer, answer_of, expected_text, status_of, IsAnswer, IsRefusal, Unwritten}
 use Rattle.sve_top.specs.Commands.{Expects, IsSettled, IsInput, WhereTold}
 use Rattle.command_answers.specs.Works.{SomeExpected}
 use Rattle.sve_top.specs.Does.{Outside, StreamsRose, Does}
@@ -10,7 +10,7 @@ use Rattle.command_answers.specs.Outputs.{Prints, Gains, error_line, error_line_
 use Rattle.sve_top.proofs.SomeExpectedLaws.{some_expected, one_expected}
 use Rattle.command_answers.proofs.Statuses.{status_is, prints_by}
 
-pub does_of : (held : Option Held) (left : Option (List ℕ)) (line : Option Line) (before after : Outside) (s : ℕ) (result : Answer) → s ≡ status_of result
+pub does_of : (held : Option HeldFiles) (left : Option (List ℕ)) (line : Option Line) (before after : Outside) (s : ℕ) (result : Answer) → s ≡ status_of result
     → WhereTold held left line (λ work. IsAnswer before.file_faults after.file_faults (StreamsRose line before after) (answer_of work) result)
     → WhereTold held left line (λ work. Prints before.printed after.printed (expected_text work) result)
     → WhereTold held left line (λ work. Unwritten work before.held after.held)

@@ -2,7 +2,7 @@
 use Rattle.std.proofs.Common.{◌≡◌, ℕ, List, Option, Some, None, Err, refl, sym, ◌∙◌}
 use Rattle.command_line.specs.Line.{Line, CompileLine, CheckLine, EvalLine, ListLine, RunLine, DebugLine, SweepLine, AsmLine, PipeLine}
 use Rattle.refusals.specs.declared.refusal.Refusal.TheVariants.{Usage}
-use Rattle.command_answers.specs.Answer.{Held, Expected}
+use Rattle.command_answers.specs.Answer.{HeldFiles, Expected}
 use Rattle.command_answers.specs.Reads.{file_of, task_files}
 use Rattle.program_commands.specs.Commands.{expected_of_list, expected_of_run, expected_of_debug, expected_of_asm, stops_of}
 use Rattle.pipe_command.specs.Pipes.{expected_of_pipe}
@@ -11,7 +11,7 @@ use Rattle.compile_command.specs.Compiles.{compiled, CompileExpects}
 use Rattle.kernel_commands.proofs.Verdicts.{by_verdict, after, one_by_verdict, one_after}
 use Rattle.sve_top.specs.Commands.{Expects, IsSettled}
 
-pub some_expected : (held : Held) (input : List ℕ) (line : Option Line) → IsSettled line → (w : Expected) × Expects held input line w
+pub some_expected : (held : HeldFiles) (input : List ℕ) (line : Option Line) → IsSettled line → (w : Expected) × Expects held input line w
 some_expected held input None s = (Err Usage, refl)
 some_expected held input (Some (CompileLine from to)) s = after (file_of held from) CompileExpects (by_verdict compiled)
 some_expected held input (Some (CheckLine from)) s = after (file_of held from) CheckExpects (λ text. by_verdict checked text)
@@ -24,7 +24,7 @@ some_expected held input (Some (SweepLine number to)) s = absurd s
 some_expected held input (Some (AsmLine from to)) s = (expected_of_asm held from, refl)
 some_expected held input (Some (PipeLine vl task)) s = (expected_of_pipe held vl task, refl)
 
-pub one_expected : (held : Held) (input : List ℕ) (line : Option Line) (a b : Expected) → IsSettled line → Expects held input line a → Expects held input line b → a ≡ b
+pub one_expected : (held : HeldFiles) (input : List ℕ) (line : Option Line) (a b : Expected) → IsSettled line → Expects held input line a → Expects held input line b → a ≡ b
 one_expected held input (Some (CompileLine from to)) a b s p q = one_after (file_of held from) CompileExpects a b (λ text. one_by_verdict compiled text a b) p q
 one_expected held input (Some (CheckLine from)) a b s p q = one_after (file_of held from) CheckExpects a b (λ text. one_by_verdict checked text a b) p q
 one_expected held input (Some (EvalLine task)) a b s p q =

@@ -3,7 +3,7 @@ use Rattle.std.specs.Prelude.{◌≡◌, ◌⊎◌, ℕ, List, Option, Some, Non
 use Rattle.io_edges.specs.Files.{Rose, content}
 use Rattle.command_line.specs.Line.{Line, CompileLine, CheckLine, EvalLine, ListLine, RunLine, DebugLine, SweepLine, AsmLine, PipeLine}
 use Rattle.refusals.specs.declared.refusal.Refusal.TheVariants.{Usage, Memory}
-use Rattle.command_answers.specs.Answer.{Held, Expected, Answer, status_of}
+use Rattle.command_answers.specs.Answer.{HeldFiles, Expected, Answer, status_of}
 use Rattle.command_answers.specs.Reads.{IsTaskHeld, ChangesOnly}
 use Rattle.command_answers.specs.Works.{WhereExpected}
 use Rattle.program_commands.specs.Ready.{DebugsAsItCame}
@@ -17,7 +17,7 @@ use Rattle.sweep_command.specs.Swept.{IsSwept, SweptBy, IsOfSweep}
 
 -- What a command is to come to, by what the files hold and the bytes of the input, which count for `debug` alone. There is one such
 -- work (the laws `some_expected` and `one_expected`), but for `sweep`: what that prints is of the file that it compiled.
-abbrev pub Expects : Held → (input : List ℕ) → Option Line → Expected → Type 0
+abbrev pub Expects : HeldFiles → (input : List ℕ) → Option Line → Expected → Type 0
 Expects held input None work = work ≡ Err Usage
 Expects held input (Some (CompileLine from to)) work = ExpectsCompile held from work
 Expects held input (Some (CheckLine from)) work = ExpectsCheck held from work
@@ -40,7 +40,7 @@ IsInput (Some (DebugLine vl task)) left input = left ≡ Some input
 IsInput line left input = Unit {0}
 
 -- the same where the files tell what they hold, and the input its bytes
-abbrev pub WhereTold : Option Held → (left : Option (List ℕ)) → Option Line → (Expected → Type 0) → Type 0
+abbrev pub WhereTold : Option HeldFiles → (left : Option (List ℕ)) → Option Line → (Expected → Type 0) → Type 0
 WhereTold held left line P = (input : List ℕ) → IsInput line left input → IfSome held (λ h. WhereExpected (Expects h input line) P)
 
 -- ---- what comes of which command
@@ -93,32 +93,32 @@ IsSilent line = ⊥
 -- ---- what is left of the files and the output
 
 -- at status 0 the one file is faithful to the kernel that the other held, and for `sweep` to that of the number; for `asm` it is that of the words
-abbrev pub Compiled : Held → Held → Line → Type 0
+abbrev pub Compiled : HeldFiles → HeldFiles → Line → Type 0
 Compiled old new (CompileLine from to) = IsCompiled old new from to
 Compiled old new (SweepLine number to) = IsSwept number new to
 Compiled old new (AsmLine from to) = IsAssembled old new from to
 Compiled old new line = Unit {0}
 
 -- every name but that of the file which `compile`, `sweep` or `asm` writes has what it had
-abbrev pub OthersKept : Held → Held → Option Line → Type 0
+abbrev pub OthersKept : HeldFiles → HeldFiles → Option Line → Type 0
 OthersKept old new (Some (CompileLine from to)) = ChangesOnly old new to
 OthersKept old new (Some (SweepLine number to)) = ChangesOnly old new to
 OthersKept old new (Some (AsmLine from to)) = ChangesOnly old new to
 OthersKept old new line = (name : List ℕ) → content new name ≡ content old name
 
 -- what a sweep leaves at each status
-abbrev pub Swept : Option Line → Option Held → (old new : Option (List ℕ)) → (status : ℕ) → Type 0
+abbrev pub Swept : Option Line → Option HeldFiles → (old new : Option (List ℕ)) → (status : ℕ) → Type 0
 Swept (Some (SweepLine number to)) held old new status = SweptBy number to held old new status
 Swept line held old new status = Unit {0}
 
 -- Where `debug` failed and no output did, the input failed, and the lines that were ended are answered.
-abbrev pub AsItComes : Option Line → Option Held → (input left old new : Option (List ℕ)) → (before now : ℕ) → (has_failed : Type 0) → Type 0
+abbrev pub AsItComes : Option Line → Option HeldFiles → (input left old new : Option (List ℕ)) → (before now : ℕ) → (has_failed : Type 0) → Type 0
 AsItComes (Some (DebugLine vl task)) held input left old new before now has_failed =
     has_failed → (Rose before now → ⊥) → IfSome input (λ bytes. IfSome held (λ h. DebugsAsItCame h vl task bytes left old new))
 AsItComes line held input left old new before now has_failed = Unit {0}
 
 -- the files that are read are held: the map only where the file before it can be read; for `pipe` also those that the script names
-abbrev pub IsHeld : Held → Line → Type 0
+abbrev pub IsHeld : HeldFiles → Line → Type 0
 IsHeld held (CompileLine from to) = IsSome (content held from)
 IsHeld held (CheckLine from) = IsSome (content held from)
 IsHeld held (EvalLine task) = IsTaskHeld held task

@@ -1,14 +1,14 @@
 -- What a call of `top` does where some work is wanted of it: one sentence on the files, the output and the error output.
 use Rattle.std.specs.Prelude.{ℕ, List, Option}
 use Rattle.command_line.specs.Line.{Line}
-use Rattle.command_answers.specs.Answer.{Held, Expected, answer_of, expected_text, IsStatus, Unwritten}
+use Rattle.command_answers.specs.Answer.{HeldFiles, Expected, answer_of, expected_text, IsStatus, Unwritten}
 use Rattle.sve_top.specs.Commands.{StreamRose}
 use Rattle.command_answers.specs.Outputs.{PrintsBy, Gains, error_line, error_line_by}
 
 -- the outside at one moment: what the files hold, and the bytes that each output has taken, as far as they tell it; and how often each
 -- of them, and the input, has failed
 pub record Outside : Type 0 where
-  pub held : Option Held
+  pub held : Option HeldFiles
   pub file_faults : ℕ
   pub printed : Option (List ℕ)
   pub output_faults : ℕ
@@ -16,7 +16,7 @@ pub record Outside : Type 0 where
   pub error_faults : ℕ
   pub input_faults : ℕ
 
-abbrev pub outside : Option Held → ℕ → Option (List ℕ) → ℕ → Option (List ℕ) → ℕ → ℕ → Outside
+abbrev pub outside : Option HeldFiles → ℕ → Option (List ℕ) → ℕ → Option (List ℕ) → ℕ → ℕ → Outside
 outside held file_faults printed output_faults errors error_faults input_faults = record {
   held = held;
   file_faults = file_faults;

@@ -5,7 +5,7 @@ ghost use Rattle.io_edges.specs.Files.{Rose};
 ghost use Rattle.command_line.specs.Line.{Line};
 ghost use Rattle.command_line.specs.View.{command_view};
 ghost use Rattle.sve_top.specs.Asked.{asked};
-ghost use Rattle.command_answers.specs.Answer.{Held, Expected, answer_of, expected_text, status_of, IsAnswer, IsKept, IsQuiet, Unwritten};
+ghost use Rattle.command_answers.specs.Answer.{HeldFiles, Expected, answer_of, expected_text, status_of, IsAnswer, IsKept, IsQuiet, Unwritten};
 ghost use Rattle.refusals.specs.Statuses.{status_of_refusal};
 ghost use Rattle.sve_top.specs.Commands.{Expects, WhereTold, IsSettled, IsInput, IsOf, IsListed, IsSilent, IsUnread, IsHeld, OnlyReads, StreamRose, NoneRose, Compiled, OthersKept, Swept, AsItComes};
 ghost use Rattle.command_answers.specs.Works.{SomeExpected};
@@ -197,12 +197,12 @@ fn do_command<F: Files, I: Source, S: Sink>(
 
 /// Some work is wanted of each command that the files and the input settle.
 pub fn some_expected()
-    ensures { (held : Held) (bytes : List ℕ) (line : Option Line) → IsSettled line
+    ensures { (held : HeldFiles) (bytes : List ℕ) (line : Option Line) → IsSettled line
         → (w : Expected) × Expects held bytes line w }
 {}
 
 /// One work alone is wanted of a command.
 pub fn one_expected()
-    ensures { (held : Held) (bytes : List ℕ) (line : Option Line) (v w : Expected) → IsSettled line
+    ensures { (held : HeldFiles) (bytes : List ℕ) (line : Option Line) (v w : Expected) → IsSettled line
         → Expects held bytes line v → Expects held bytes line w → v ≡ w }
 {}

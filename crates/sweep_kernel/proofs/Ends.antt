@@ -24,26 +24,26 @@ record Through (factor count : ℤ) (reached : LoopState Names) : Type 0 where
   greatest : ℤ
   is : reached ≡ Going memory (names_with factor count sum greatest)
 
-iterations_suc : (initial offset level turns x : ℕ) (memory : Memory) (names : Names) → iterations (scope_with initial offset level) (loop_with offset level) (suc turns) x memory names ≡ go_on (iterate (scope_with initial offset level) (loop_with offset level) x memory names) x (iterations (scope_with initial offset level) (loop_with offset level) turns (x + 1))
+iterations_suc : (initial offset level iteration_count x : ℕ) (memory : Memory) (names : Names) → iterations (scope_with initial offset level) (loop_with offset level) (suc iteration_count) x memory names ≡ go_on (iterate (scope_with initial offset level) (loop_with offset level) x memory names) x (iterations (scope_with initial offset level) (loop_with offset level) iteration_count (x + 1))
 unfolding iterations
-iterations_suc initial offset level turns x memory names = refl
+iterations_suc initial offset level iteration_count x memory names = refl
 
 iterations_none : (initial offset level x : ℕ) (memory : Memory) (names : Names) → iterations (scope_with initial offset level) (loop_with offset level) 0 x memory names ≡ Going memory names
 unfolding iterations
 iterations_none initial offset level x memory names = refl
 
-through : (initial offset level turns x : ℕ) (memory : Memory) (factor count sum greatest : ℤ) → HasArrays memory → offset < 9 → x + turns < 102000 → Through factor count (iterations (scope_with initial offset level) (loop_with offset level) turns x memory (names_with factor count sum greatest))
+through : (initial offset level iteration_count x : ℕ) (memory : Memory) (factor count sum greatest : ℤ) → HasArrays memory → offset < 9 → x + iteration_count < 102000 → Through factor count (iterations (scope_with initial offset level) (loop_with offset level) iteration_count x memory (names_with factor count sum greatest))
 through initial offset level zero x memory factor count sum greatest h o l =
     record { memory = memory; sum = sum; greatest = greatest; is = iterations_none initial offset level x memory (names_with factor count sum greatest) }
-through initial offset level (suc turns) x memory factor count sum greatest h o l =
+through initial offset level (suc iteration_count) x memory factor count sum greatest h o l =
     let g = goes_on initial offset level x memory factor count sum greatest h o (omega (arith, l)) in
-    let c = through initial offset level turns (x + 1) g.memory factor count g.sum g.greatest g.arrays o (omega (arith, l)) in
+    let c = through initial offset level iteration_count (x + 1) g.memory factor count g.sum g.greatest g.arrays o (omega (arith, l)) in
     record {
       memory = c.memory;
       sum = c.sum;
       greatest = c.greatest;
-      is = iterations_suc initial offset level turns x memory (names_with factor count sum greatest)
-          ∙ ap (λ (r : BlockEnd Names). go_on r x (iterations (scope_with initial offset level) (loop_with offset level) turns (x + 1))) g.is
+      is = iterations_suc initial offset level iteration_count x memory (names_with factor count sum greatest)
+          ∙ ap (λ (r : BlockEnd Names). go_on r x (iterations (scope_with initial offset level) (loop_with offset level) iteration_count (x + 1))) g.is
           ∙ c.is;
     }
 
@@ -57,22 +57,22 @@ started-is initial offset level factor count memory = refl
 
 -- the run from the names at the start, of so many iterations
 abbrev from_names : (initial offset level : ℕ) → Memory → Names → ℕ → Run
-from_names initial offset level memory names turns =
-    finish (scope_with initial offset level) (loop_with offset level) (kernel_with initial offset level).answer turns (iterations (scope_with initial offset level) (loop_with offset level) turns 0 memory names)
+from_names initial offset level memory names iteration_count =
+    finish (scope_with initial offset level) (loop_with offset level) (kernel_with initial offset level).answer iteration_count (iterations (scope_with initial offset level) (loop_with offset level) iteration_count 0 memory names)
 
 named-is : (initial offset level factor count : ℕ) (memory : Memory) → run_named (kernel_with initial offset level) memory (Some (first_names factor count initial)) ≡ from_names initial offset level memory (first_names factor count initial) (count % 2 ^ 64 % 2 ^ 64)
 unfolding kernel_with
 named-is initial offset level factor count memory = refl
 
 -- a loop that came through ends with a result
-record Returns (turns : ℕ) (r : Run) : Type 0 where
+record Returns (iteration_count : ℕ) (r : Run) : Type 0 where
   memory : Memory
   result : ℕ
-  is : r ≡ End memory result turns
+  is : r ≡ End memory result iteration_count
 
-returns_of : (initial offset level turns : ℕ) (memory : Memory) (factor count sum greatest : ℤ) → Returns turns (finish (scope_with initial offset level) (loop_with offset level) (kernel_with initial offset level).answer turns (Going memory (names_with factor count sum greatest)))
+returns_of : (initial offset level iteration_count : ℕ) (memory : Memory) (factor count sum greatest : ℤ) → Returns iteration_count (finish (scope_with initial offset level) (loop_with offset level) (kernel_with initial offset level).answer iteration_count (Going memory (names_with factor count sum greatest)))
 unfolding kernel_with
-returns_of initial offset level turns memory factor count sum greatest = record { memory = memory; result = _; is = refl }
+returns_of initial offset level iteration_count memory factor count sum greatest = record { memory = memory; result = _; is = refl }
 
 ends_with : (initial offset level factor count : ℕ) (memory : Memory) → HasArrays memory → offset < 9 → count < 102000 → Returns count (scalar_run (kernel_with initial offset level) (0x1000000 ∷ 0x2000000 ∷ 0x3000000 ∷ factor ∷ count ∷ []) memory)
 ends_with initial offset level factor count memory h o l =

@@ -67,7 +67,7 @@ other initial offset level x memory factor count sum greatest v =
 
 -- the end of the iteration after the choice
 abbrev following : BlockEnd Names → BlockEnd Names
-following turn = cut 7 (then_do turn Next)
+following iteration_end = cut 7 (then_do iteration_end Next)
 
 -- the iteration after the `let`, by what the read of the condition gives
 by_value-is : (initial offset level x : ℕ) (memory : Memory) (factor count sum greatest v : ℤ) → by_value initial offset level x memory factor count sum greatest v ≡ following (choose memory (or_else (Some (compare_on compare.Gt v (wrapped (Some ty.I32) (pos level)))) (on_both (compare_on compare.Eq) (read_element (Some ty.U8) memory (pos 0x2000000) (pos x +ℤ pos 0)) (Some (wrapped (Some ty.U8) (pos 7))))) (one initial offset level x memory factor count sum greatest v) (other initial offset level x memory factor count sum greatest v))

@@ -21,11 +21,11 @@ abbrev pub loop_with : (offset level : ℕ) → PlainLoop
 loop_with offset level = record { index = i; bound = n; body = body_with offset level }
 
 -- an iteration goes on with mapped arrays and other accumulators
-pub record GoesOn (factor count : ℤ) (turn : BlockEnd Names) : Type 0 where
+pub record GoesOn (factor count : ℤ) (iteration_end : BlockEnd Names) : Type 0 where
   pub memory : Memory
   pub sum : ℤ
   pub greatest : ℤ
-  pub is : turn ≡ Next memory (names_with factor count sum greatest)
+  pub is : iteration_end ≡ Next memory (names_with factor count sum greatest)
   pub arrays : HasArrays memory
 
 -- ---- accesses

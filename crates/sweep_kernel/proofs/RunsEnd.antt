@@ -80,24 +80,24 @@ size-is : (initial offset level : ℕ) → size_of (kernel_with initial offset l
 unfolding kernel_with
 size-is initial offset level = refl
 
-within_steps : (size turns : ℕ) → size ≡ 41 → turns < 101000 → 1000 + 100 * size + (32 + 8 * size) * (turns + 2) ≤ 100000000
-within_steps size turns e l = subst (λ z. 1000 + 100 * z + (32 + 8 * z) * (turns + 2) ≤ 100000000) (sym e) (omega (arith, l))
+within_steps : (size iteration_count : ℕ) → size ≡ 41 → iteration_count < 101000 → 1000 + 100 * size + (32 + 8 * size) * (iteration_count + 2) ≤ 100000000
+within_steps size iteration_count e l = subst (λ z. 1000 + 100 * z + (32 + 8 * z) * (iteration_count + 2) ≤ 100000000) (sym e) (omega (arith, l))
 
-enough : (initial offset level turns : ℕ) → turns < 101000 → slow_bound (kernel_with initial offset level) turns ≤ most_steps
-enough initial offset level turns l = within_steps (size_of (kernel_with initial offset level)) turns (size-is initial offset level) l
+enough : (initial offset level iteration_count : ℕ) → iteration_count < 101000 → slow_bound (kernel_with initial offset level) iteration_count ≤ most_steps
+enough initial offset level iteration_count l = within_steps (size_of (kernel_with initial offset level)) iteration_count (size-is initial offset level) l
 
 -- ---- runs
 
 pub same_image : (i j : Image) (r : Result Image ElfFault) → r ≡ Ok i → r ≡ Ok j → i ≡ j
 same_image i j r e f = cc
 
-ends_at : (k : Program) (file args : List ℕ) (pages : Memory) (vl steps turns : ℕ) (image : Image) (memory : Memory) (result : ℕ) → SlowFaithful k file → load file ≡ Ok image → IsStart image args pages vl → scalar_run k args (merged image.pages pages) ≡ scalar.End memory result turns → slow_bound k turns ≤ steps → (taken : ℕ) × (machine_run file args pages vl steps ≡ Some (End memory result taken))
-ends_at k file args pages vl steps turns image memory result f loaded begins ends le =
+ends_at : (k : Program) (file args : List ℕ) (pages : Memory) (vl steps iteration_count : ℕ) (image : Image) (memory : Memory) (result : ℕ) → SlowFaithful k file → load file ≡ Ok image → IsStart image args pages vl → scalar_run k args (merged image.pages pages) ≡ scalar.End memory result iteration_count → slow_bound k iteration_count ≤ steps → (taken : ℕ) × (machine_run file args pages vl steps ≡ Some (End memory result taken))
+ends_at k file args pages vl steps iteration_count image memory result f loaded begins ends le =
     let i : image ≡ f.image = same_image image f.image (load file) loaded f.loaded in
-    let here : scalar_run k args (merged f.image.pages pages) ≡ scalar.End memory result turns = subst (λ (j : Image). scalar_run k args (merged j.pages pages) ≡ scalar.End memory result turns) i ends in
+    let here : scalar_run k args (merged f.image.pages pages) ≡ scalar.End memory result iteration_count = subst (λ (j : Image). scalar_run k args (merged j.pages pages) ≡ scalar.End memory result iteration_count) i ends in
     let bound : slow_bound k (begun (scalar_run k args (merged f.image.pages pages))) ≤ steps = subst (λ (r : scalar.Run). slow_bound k (begun r) ≤ steps) (sym here) le in
     let r = f.runs args pages vl never steps (subst (λ (j : Image). IsStart j args pages vl) i begins) refl bound in
-    let g : Follows k args vl (scalar.End memory result turns) r.0 = subst (λ (r' : scalar.Run). Follows k args vl r' r.0) here r.2 in
+    let g : Follows k args vl (scalar.End memory result iteration_count) r.0 = subst (λ (r' : scalar.Run). Follows k args vl r' r.0) here r.2 in
     (g.0, sym (without_stops file args pages vl steps) ∙ r.1 ∙ ap Some g.1)
 
 run_ends : (words : List ℕ) (seed vl : ℕ) → length words ≤ 65536 → SlowFaithful (kernel_of seed) (file_of words) → IsLength vl → RunEnds words seed vl

@@ -70,7 +70,7 @@ kernel_with initial offset level = record {
   name = codes "sweep";
   params = parameter a (shape.Array ty.I16) ∷ parameter b (shape.Array ty.U8) ∷ parameter y (shape.Array ty.I32) ∷ parameter k (shape.Scalar ty.I32) ∷ parameter n (shape.Scalar ty.U64) ∷ [];
   vars = record { name = s; type = ty.I64; init = Literal (pos 0) } ∷ record { name = m; type = ty.I32; init = Literal (pos initial) } ∷ [];
-  turns = Some (record { index = i; bound = n; body = body_with offset level });
+  for_loop = Some (record { index = i; bound = n; body = body_with offset level });
   answer = Some (record { type = ty.I64; value = Operation binary.Add (Variable s) (Conversion (Variable m) ty.I64) });
 }
 

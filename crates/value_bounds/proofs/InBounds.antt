@@ -26,7 +26,7 @@ use Rattle.kernel_meaning.proofs.TypeRanges.{wrap-of, wrap-is_of}
 use Rattle.kernel_meaning.proofs.ValueRanges.{IsTyped, typed, value_range}
 use Rattle.value_bounds.specs.declared.bounds.Bounds.{Bounds}
 use Rattle.value_bounds.specs.ValueBounds.{between, IsWithin, is_value, lying_in, in_type, kept, unary_bounds, common, binary_bounds, shift_bounds, joined, bounds_of}
-use Rattle.value_bounds.proofs.Cuts.{value_of}
+use Rattle.value_bounds.proofs.SaturatedBounds.{value_of}
 use Rattle.value_bounds.proofs.Corners.{rises, product_within}
 
 -- ---- operators

@@ -1,4 +1,4 @@
 mod Examples
-pub mod Cuts
+pub mod SaturatedBounds
 pub mod Corners
 pub mod InBounds

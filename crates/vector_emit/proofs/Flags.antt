@@ -16,9 +16,7 @@ use Rattle.first_fault.proofs.PrefixBits.{First, missing, found, first_is}
 -- a register has elements
 pub some_lanes : (vl : ℕ) (w : Width) → IsLength vl → 0 < lanes vl w
 some_lanes vl B h = omega (arith, h.1)
-some_lanes vl H h = omega (arith, h.1)
-some_lanes vl S h = omega (arith, h.1)
-some_lanes vl D h = omega (arith, h.1)
+some_lanes vl other h = omega (arith, h.1)
 
 none_true : (test : ℕ → Bool) (n : ℕ) → ((j : ℕ) → j < n → test j ≡ false) → is_none (first_true test n 0) ≡ true
 none_true test n h = by_first (first_true test n 0) (first_is test n 0)

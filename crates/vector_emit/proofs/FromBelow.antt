@@ -5,6 +5,6 @@ pub use Rattle.reductions.specs.Joins.{identity}
 pub use Rattle.reductions.specs.AccumulatorLanes.{reduce_code}
 pub use Rattle.chunk_emit.specs.ChunkCode.{vectors, puts}
 pub use Rattle.chunk_emit.specs.KernelLayout.{update_of, layout_of_loop}
-pub use Rattle.first_fault.specs.Split.{is_quit}
+pub use Rattle.first_fault.specs.BreakRegion.{is_loop_break}
 pub use Rattle.loop_edges.specs.EdgeCode.{type_of_var, hold_code, holds_code, start_code, fold_one, folds_code, fold_code}
-pub use Rattle.chunk_pass.specs.PassCode.{lanes_word, chunk_words, turn_words, plain_words}
+pub use Rattle.chunk_pass.specs.PassCode.{lanes_word, chunk_words, iteration_words, plain_words}

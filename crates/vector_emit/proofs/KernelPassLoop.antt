@@ -6,7 +6,7 @@ use Rattle.machine_model.specs.declared.outcome.StopKind.{StopKind}
 use Rattle.machine_model.specs.Machine.{State}
 use Rattle.kernel_tree.specs.Typing.{var_scope}
 use Rattle.kernel_meaning.specs.Eval.{Names}
-use Rattle.label_fix.specs.DraftRun.{Entry, Laid}
+use Rattle.label_fix.specs.DraftRun.{DraftEntry, Laid}
 use Rattle.label_fix.specs.Stretches.{Leads}
 use Rattle.label_fix.proofs.StretchSteps.{Goes, leads_of}
 use Rattle.machine_model.specs.Run.{IsAccess}
@@ -28,10 +28,10 @@ pub record StopOf (g : Ground) (kind : StopKind) (j : ℕ) (left faulted : Memor
   pub access : IsAccess kind
   pub near : Near g (j + 1) left faulted
 
-abbrev pub loop_of : Ground → (breaks : Bool) → Laid → List Entry → Rounds
+abbrev pub loop_of : Ground → (breaks : Bool) → Laid → List DraftEntry → Rounds
 loop_of g b d rest = record {
   scope = var_scope g.kernel;
-  turns = g.turns;
+  for_loop = g.for_loop;
   breaks = b;
   limit = limit g;
   lanes = most_lanes g;
@@ -58,12 +58,12 @@ same_place P {j = j} {m = m} {m2 = m2} {ns = ns} e f h p = subst (P j m2) h (sub
 
 -- ---- stretches that suppress at least so many free elements
 
-pub record Longer (d : Laid) (c : List Entry) (s : State) (e : List Entry) (t : State) (most r : ℕ) : Type 0 where
+pub record Longer (d : Laid) (c : List DraftEntry) (s : State) (e : List DraftEntry) (t : State) (most r : ℕ) : Type 0 where
   pub leads : Leads d c s e t most
   pub more : r ≤ leads.cut
 
-pub following_leads : {d : Laid} {c e g : List Entry} {s t u : State} {m n r : ℕ} (most : ℕ) → m + n ≤ most → Longer d c s e t m r → Leads d e t g u n → Longer d c s g u most r
+pub following_leads : {d : Laid} {c e g : List DraftEntry} {s t u : State} {m n r : ℕ} (most : ℕ) → m + n ≤ most → Longer d c s e t m r → Leads d e t g u n → Longer d c s g u most r
 following_leads most le a b = record { leads = follow most le a.leads b; more = let c = follow-cut most le a.leads b in let k = a.more in omega (arith, c, k) }
 
-pub following_goes : {d : Laid} {c e g : List Entry} {s t u : State} {m n r : ℕ} (most : ℕ) → m + n ≤ most → Longer d c s e t m r → Goes d e t g u n → Longer d c s g u most r
+pub following_goes : {d : Laid} {c e g : List DraftEntry} {s t u : State} {m n r : ℕ} (most : ℕ) → m + n ≤ most → Longer d c s e t m r → Goes d e t g u n → Longer d c s g u most r
 following_goes most le a b = following_leads most le a (leads_of b)

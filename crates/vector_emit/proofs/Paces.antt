@@ -9,8 +9,8 @@ use Rattle.std.proofs.Math.Nat.{mul-le-mul_left}
 use Rattle.machine_model.specs.Machine.{State, Step, Went, Ended, Stopped, jump, next}
 use Rattle.machine_model.specs.OneStep.{cuts_in}
 use Rattle.close_bound.specs.CloseBound.{spare}
-use Rattle.label_fix.specs.DraftRun.{Entry, Put, Branch, Place, Laid, is_taken, effect, following, address_of}
-use Rattle.label_fix.specs.Cuts.{count_on, walk_cuts, cuts}
+use Rattle.label_fix.specs.DraftRun.{DraftEntry, Put, Branch, Place, Laid, is_taken, effect, following, address_of}
+use Rattle.label_fix.specs.Suppressions.{count_on, walk_cuts, cuts}
 
 -- ---- the free elements of more words are no fewer
 
@@ -19,7 +19,7 @@ count_more (Went t) b few many h = let k = h t in omega (arith, k)
 count_more (Ended result) b few many h = omega arith
 count_more (Stopped kind pc at memory) b few many h = omega arith
 
-walk_more : (d : Laid) (few many : List Entry → State → ℕ) (c : List Entry) (s : State) → ((c : List Entry) (s : State) → few c s ≤ many c s) → walk_cuts d few c s ≤ walk_cuts d many c s
+walk_more : (d : Laid) (few many : List DraftEntry → State → ℕ) (c : List DraftEntry) (s : State) → ((c : List DraftEntry) (s : State) → few c s ≤ many c s) → walk_cuts d few c s ≤ walk_cuts d many c s
 walk_more d few many [] s h = omega arith
 walk_more d few many (Put i ∷ rest) s h = count_more (effect i s) (cuts_in i s) (few rest) (many rest) (h rest)
 walk_more d few many (Branch k l ∷ rest) s h = by_taken (is_taken k s)
@@ -29,7 +29,7 @@ walk_more d few many (Branch k l ∷ rest) s h = by_taken (is_taken k s)
     by_taken false = h rest (next s)
 walk_more d few many (Place l ∷ rest) s h = walk_more d few many rest s h
 
-pub cuts_more : (d : Laid) (n k : ℕ) (c : List Entry) (s : State) → cuts d n c s ≤ cuts d (n + k) c s
+pub cuts_more : (d : Laid) (n k : ℕ) (c : List DraftEntry) (s : State) → cuts d n c s ≤ cuts d (n + k) c s
 cuts_more d zero k c s = omega arith
 cuts_more d (suc n) k c s =
     let e : suc n + k ≡ suc (n + k) = omega arith in
@@ -77,8 +77,8 @@ in_place b lanes unit i j n q a some le few within =
     all false h = omega (arith, h)
 
 -- one more, where it goes on
-pub in_turn : (b : Bool) (lanes unit i j n q a : ℕ) → i < j → a ≤ 1 + spare b → n ≤ unit * a → Spends b lanes unit i j n q
-in_turn b lanes unit i j n q a lt few within =
+pub in_iteration : (b : Bool) (lanes unit i j n q a : ℕ) → i < j → a ≤ 1 + spare b → n ≤ unit * a → Spends b lanes unit i j n q
+in_iteration b lanes unit i j n q a lt few within =
     let up : lanes * a ≤ lanes * (1 + extra b q) = mul-le-mul_left lanes (all b few) in
     record { passes = a; within = within; few = omega (arith, lt, up) }
   where
@@ -89,7 +89,7 @@ in_turn b lanes unit i j n q a lt few within =
 -- or stops
 pub in_stop : (b : Bool) (lanes unit i j n q a : ℕ) → 0 < lanes → i ≤ j → a ≤ spare b + ahead b → n ≤ unit * a → Spends b lanes unit i (j + ahead b) n q
 in_stop true lanes unit i j n q a some le few within = in_place true lanes unit i (j + 0) n q a some (omega (arith, le)) (omega (arith, few)) within
-in_stop false lanes unit i j n q a some le few within = in_turn false lanes unit i (j + 1) n q a (omega (arith, le)) (omega (arith, few)) within
+in_stop false lanes unit i j n q a some le few within = in_iteration false lanes unit i (j + 1) n q a (omega (arith, le)) (omega (arith, few)) within
 
 -- How `a` passes that take k iterations on are paid, of which r free elements were suppressed: by the lanes of a chunk, by a
 -- free element, or, where they come to the last iteration, by the passes that are spare.
@@ -133,25 +133,25 @@ spends_on {b = b} {lanes = L} {unit = unit} {i = i} {j = j} {r = r} {a = a} {q =
 -- ---- passes against iterations alone
 
 -- n words from iteration i on are at most those of two passes for each iteration up to j, and of two more
-abbrev pub InTurns : (unit i j n : ℕ) → Type 0
-InTurns unit i j n = n + unit * (2 * i) ≤ unit * (2 * j + 2)
+abbrev pub InIterations : (unit i j n : ℕ) → Type 0
+InIterations unit i j n = n + unit * (2 * i) ≤ unit * (2 * j + 2)
 
-pub last_turns : (unit i j n a : ℕ) → i ≤ j → a ≤ 2 → n ≤ unit * a → InTurns unit i j n
-last_turns unit i j n a le small few =
+pub last_iterations : (unit i j n a : ℕ) → i ≤ j → a ≤ 2 → n ≤ unit * a → InIterations unit i j n
+last_iterations unit i j n a le small few =
     let up : unit * i ≤ unit * j = mul-le-mul_left unit le in
     let two : unit * a ≤ unit * 2 = mul-le-mul_left unit small in
     omega (arith, up, two, few)
 
 -- at most two passes that take some iterations on, and more after them
-pub turns_on : (unit i j k a count n : ℕ) → a ≤ 2 → 0 < k → count ≤ unit * a → InTurns unit (i + k) j n → InTurns unit i j (count + n)
-turns_on unit i j k a count n small ahead within more =
+pub in_iterations_on : (unit i j k a count n : ℕ) → a ≤ 2 → 0 < k → count ≤ unit * a → InIterations unit (i + k) j n → InIterations unit i j (count + n)
+in_iterations_on unit i j k a count n small ahead within more =
     let two : unit * a ≤ unit * 2 = mul-le-mul_left unit small in
     let some : unit * 1 ≤ unit * k = mul-le-mul_left unit ahead in
     omega (arith, two, some, within, more)
 
 -- x words before the passes, n of the passes and k after them
-pub turns_in_all : (U edges j bg x n k : ℕ) → j ≤ bg → x + k ≤ edges → InTurns U 0 j n → x + (n + k) ≤ edges + U * (2 * bg + 2)
-turns_in_all U edges j bg x n k le around few = let up : U * j ≤ U * bg = mul-le-mul_left U le in omega (arith, up, around, few)
+pub iterations_in_all : (U edges j bg x n k : ℕ) → j ≤ bg → x + k ≤ edges → InIterations U 0 j n → x + (n + k) ≤ edges + U * (2 * bg + 2)
+iterations_in_all U edges j bg x n k le around few = let up : U * j ≤ U * bg = mul-le-mul_left U le in omega (arith, up, around, few)
 
 -- ---- the whole
 

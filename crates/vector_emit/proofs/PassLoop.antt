@@ -6,8 +6,8 @@ use Rattle.guest_types.specs.Memory.{Memory}
 use Rattle.machine_model.specs.declared.outcome.StopKind.{StopKind}
 use Rattle.machine_model.specs.Machine.{State}
 use Rattle.machine_model.specs.Run.{Stop}
-use Rattle.label_fix.specs.DraftRun.{Entry, Laid, draft_run}
-use Rattle.label_fix.specs.Cuts.{cuts}
+use Rattle.label_fix.specs.DraftRun.{DraftEntry, Laid, draft_run}
+use Rattle.label_fix.specs.Suppressions.{cuts}
 use Rattle.label_fix.specs.Stretches.{Leads, Stops}
 use Rattle.kernel_tree.specs.Plain.{PlainLoop}
 use Rattle.kernel_tree.specs.Typing.{Scope}
@@ -19,34 +19,34 @@ use Rattle.kernel_meaning.proofs.RunsFrom.{iterations_on, nothing}
 use Rattle.close_bound.specs.CloseBound.{spare}
 use Rattle.chunk_pass.specs.Halts.{Breaks}
 use Rattle.vector_emit.proofs.Iterations.{Halts, none_gone, fails_here}
-use Rattle.vector_emit.proofs.Paces.{Spends, ahead, in_place, in_turn, in_stop, Paid, by_lanes, by_cut, by_last, by_one, spends_on, InTurns, last_turns, turns_on}
+use Rattle.vector_emit.proofs.Paces.{Spends, ahead, in_place, in_iteration, in_stop, Paid, by_lanes, by_cut, by_last, by_one, spends_on, InIterations, last_iterations, in_iterations_on}
 
 -- A loop of the language as passes do it: whether it has a break, its bound, the lanes of a chunk, the words of a pass at most,
 -- and the entries after the passes. `Head` holds of a state before a pass, `Ends` of a stop: the iteration that faults, and the memory that was left
 -- and that of the scalar loop.
 pub record Rounds : Type 1 where
   pub scope : Scope
-  pub turns : PlainLoop
+  pub for_loop : PlainLoop
   pub breaks : Bool
   pub limit : ℕ
   pub lanes : ℕ
   pub unit : ℕ
   pub draft : Laid
-  pub rest : List Entry
+  pub rest : List DraftEntry
   pub Head : ℕ → Names → Memory → State → Type 0
   pub Ends : StopKind → ℕ → Memory → Memory → Type 0
 
 -- no iteration is left, or the next one breaks
 abbrev pub Late : Rounds → ℕ → Memory → Names → Type 0
-Late w j m ns = (j ≡ w.limit) ⊎ ((w.breaks ≡ true) × Breaks (iterate w.scope w.turns j m ns))
+Late w j m ns = (j ≡ w.limit) ⊎ ((w.breaks ≡ true) × Breaks (iterate w.scope w.for_loop j m ns))
 
 -- From a state before iteration i: the passes lead after the loop, before an iteration at which it ends; or they stop, where
 -- an iteration faults.
-pub data Passing (w : Rounds) (c : List Entry) (s : State) (i : ℕ) (cur : Names) (m : Memory) : Type 0 where
-  leaves : (k j : ℕ) (now : Memory) (names : Names) (end : State) (count : ℕ) → j ≡ i + k → j ≤ w.limit → iterations w.scope w.turns k i m cur ≡ Going now names → Late w j now names → w.Head j names now end
-      → ((k taken : ℕ) → draft_run w.draft (count + k) taken c s ≡ draft_run w.draft k (taken + count) w.rest end) → ((n : ℕ) → n ≤ count → Spends w.breaks w.lanes w.unit i j n (cuts w.draft n c s)) → InTurns w.unit i j count → Passing w c s i cur m
-  stops : (k j : ℕ) (left faulted : Memory) (kind : StopKind) (count pc at : ℕ) → i + k ≤ w.limit → i ≤ j → j < i + k → iterations w.scope w.turns k i m cur ≡ Failed faulted j → w.Ends kind j left faulted
-      → ((k taken : ℕ) → draft_run w.draft (count + k) taken c s ≡ Stop kind pc at left (taken + count)) → ((n : ℕ) → n ≤ count → Spends w.breaks w.lanes w.unit i (j + ahead w.breaks) n (cuts w.draft n c s)) → InTurns w.unit i j count
+pub data Passing (w : Rounds) (c : List DraftEntry) (s : State) (i : ℕ) (cur : Names) (m : Memory) : Type 0 where
+  leaves : (k j : ℕ) (now : Memory) (names : Names) (end : State) (count : ℕ) → j ≡ i + k → j ≤ w.limit → iterations w.scope w.for_loop k i m cur ≡ Going now names → Late w j now names → w.Head j names now end
+      → ((k taken : ℕ) → draft_run w.draft (count + k) taken c s ≡ draft_run w.draft k (taken + count) w.rest end) → ((n : ℕ) → n ≤ count → Spends w.breaks w.lanes w.unit i j n (cuts w.draft n c s)) → InIterations w.unit i j count → Passing w c s i cur m
+  stops : (k j : ℕ) (left faulted : Memory) (kind : StopKind) (count pc at : ℕ) → i + k ≤ w.limit → i ≤ j → j < i + k → iterations w.scope w.for_loop k i m cur ≡ Failed faulted j → w.Ends kind j left faulted
+      → ((k taken : ℕ) → draft_run w.draft (count + k) taken c s ≡ Stop kind pc at left (taken + count)) → ((n : ℕ) → n ≤ count → Spends w.breaks w.lanes w.unit i (j + ahead w.breaks) n (cuts w.draft n c s)) → InIterations w.unit i j count
       → Passing w c s i cur m
 
 pub split : (P : ℕ → Type 0) (a b : ℕ) → ((n : ℕ) → n ≤ a → P n) → ((n : ℕ) → n ≤ b → P (a + n)) → (n : ℕ) → n ≤ a + b → P n
@@ -54,18 +54,18 @@ split P a b inner outer n le = ⊎_elim (λ lt. inner n (omega (arith, lt))) (λ
 
 module _ (w : Rounds) (some : 0 < w.lanes) where
   -- a loop that ends here
-  pub leaves_here : {c : List Entry} {s t : State} {i : ℕ} {cur : Names} {m : Memory} {most : ℕ} (a : ℕ) → (leads : Leads w.draft c s w.rest t most) → most ≤ w.unit * a → a ≤ spare w.breaks → a ≤ 2 → i ≤ w.limit → Late w i m cur → w.Head i cur m t → Passing w c s i cur m
+  pub leaves_here : {c : List DraftEntry} {s t : State} {i : ℕ} {cur : Names} {m : Memory} {most : ℕ} (a : ℕ) → (leads : Leads w.draft c s w.rest t most) → most ≤ w.unit * a → a ≤ spare w.breaks → a ≤ 2 → i ≤ w.limit → Late w i m cur → w.Head i cur m t → Passing w c s i cur m
   leaves_here {c = c} {s = s} {t = t} {i = i} {cur = cur} {m = m} a leads few spares small le late head =
-      leaves 0 i m cur t leads.count (omega arith) le (nothing w.scope w.turns i m cur) late head leads.by
+      leaves 0 i m cur t leads.count (omega arith) le (nothing w.scope w.for_loop i m cur) late head leads.by
       (λ n below. in_place w.breaks w.lanes w.unit i i n (cuts w.draft n c s) a some (omega arith) spares (let f = leads.within in omega (arith, below, few, f)))
-      (last_turns w.unit i i leads.count a (omega arith) small (let f = leads.within in omega (arith, few, f)))
+      (last_iterations w.unit i i leads.count a (omega arith) small (let f = leads.within in omega (arith, few, f)))
 
-  pub stops_here : {c : List Entry} {s : State} {i : ℕ} {cur : Names} {m left : Memory} {kind : StopKind} {most : ℕ} (a k j : ℕ) (faulted : Memory) → (stop : Stops w.draft c s kind left most) → most ≤ w.unit * a → a ≤ spare w.breaks + ahead w.breaks → a ≤ 2
-      → i + k ≤ w.limit → i ≤ j → j < i + k → iterations w.scope w.turns k i m cur ≡ Failed faulted j → w.Ends kind j left faulted → Passing w c s i cur m
+  pub stops_here : {c : List DraftEntry} {s : State} {i : ℕ} {cur : Names} {m left : Memory} {kind : StopKind} {most : ℕ} (a k j : ℕ) (faulted : Memory) → (stop : Stops w.draft c s kind left most) → most ≤ w.unit * a → a ≤ spare w.breaks + ahead w.breaks → a ≤ 2
+      → i + k ≤ w.limit → i ≤ j → j < i + k → iterations w.scope w.for_loop k i m cur ≡ Failed faulted j → w.Ends kind j left faulted → Passing w c s i cur m
   stops_here {c = c} {s = s} {i = i} {left = left} {kind = kind} a k j faulted stop few spares small le lo hi fails ends =
       stops k j left faulted kind stop.count stop.pc stop.at le lo hi fails ends stop.by
       (λ n below. in_stop w.breaks w.lanes w.unit i j n (cuts w.draft n c s) a some lo spares (let f = stop.within in omega (arith, below, few, f)))
-      (last_turns w.unit i j stop.count a lo small (let f = stop.within in omega (arith, few, f)))
+      (last_iterations w.unit i j stop.count a lo small (let f = stop.within in omega (arith, few, f)))
 
   -- What pays for passes, before it is known where the loop ends. They take some iterations on, whatever pays: so passes come to
   -- an end.
@@ -94,7 +94,7 @@ module _ (w : Rounds) (some : 0 < w.lanes) where
 
   -- no iteration goes on from here
   abbrev pub Stuck : ℕ → Memory → Names → Type 0
-  Stuck i m ns = (i ≡ w.limit) ⊎ ((w.breaks ≡ true) × Halts (iterate w.scope w.turns i m ns))
+  Stuck i m ns = (i ≡ w.limit) ⊎ ((w.breaks ≡ true) × Halts (iterate w.scope w.for_loop i m ns))
 
   paid : {k r a i j : ℕ} {stuck : Type 0} → Pays k r stuck a → (stuck → j ≡ i + k) → Paid w.breaks w.lanes k i j r a
   paid (pays_lanes le) at = by_lanes le
@@ -103,10 +103,10 @@ module _ (w : Rounds) (some : 0 < w.lanes) where
   paid (pays_one b cut e) at = by_one b cut e
 
   -- in passes that lead on, and after them
-  inner : {c e : List Entry} {s t : State} {i a most : ℕ} (leads : Leads w.draft c s e t most) → most ≤ w.unit * a → a ≤ 1 + spare w.breaks → (j n : ℕ) → i < j → n ≤ leads.count → Spends w.breaks w.lanes w.unit i j n (cuts w.draft n c s)
-  inner {c = c} {s = s} {i = i} {a = a} leads few spares j n lt le = in_turn w.breaks w.lanes w.unit i j n (cuts w.draft n c s) a lt spares (let f = leads.within in omega (arith, le, few, f))
+  inner : {c e : List DraftEntry} {s t : State} {i a most : ℕ} (leads : Leads w.draft c s e t most) → most ≤ w.unit * a → a ≤ 1 + spare w.breaks → (j n : ℕ) → i < j → n ≤ leads.count → Spends w.breaks w.lanes w.unit i j n (cuts w.draft n c s)
+  inner {c = c} {s = s} {i = i} {a = a} leads few spares j n lt le = in_iteration w.breaks w.lanes w.unit i j n (cuts w.draft n c s) a lt spares (let f = leads.within in omega (arith, le, few, f))
 
-  outer : {c e : List Entry} {s t : State} {i k a most : ℕ} {stuck : Type 0} (leads : Leads w.draft c s e t most) → most ≤ w.unit * a → Pays k leads.cut stuck a → (j n : ℕ) → (stuck → j ≡ i + k) → Spends w.breaks w.lanes w.unit (i + k) j n (cuts w.draft n e t)
+  outer : {c e : List DraftEntry} {s t : State} {i k a most : ℕ} {stuck : Type 0} (leads : Leads w.draft c s e t most) → most ≤ w.unit * a → Pays k leads.cut stuck a → (j n : ℕ) → (stuck → j ≡ i + k) → Spends w.breaks w.lanes w.unit (i + k) j n (cuts w.draft n e t)
       → Spends w.breaks w.lanes w.unit i j (leads.count + n) (cuts w.draft (leads.count + n) c s)
   outer leads few pay j n at spent = spends_on (let f = leads.within in omega (arith, few, f)) (paid pay at) (leads.tells n) spent
 
@@ -115,28 +115,28 @@ module _ (w : Rounds) (some : 0 < w.lanes) where
   none_ahead true j e = omega arith
   none_ahead false j e = absurd cc
 
-  module _ {c e : List Entry} {s t : State} {i : ℕ} {cur names : Names} {m now : Memory} {most : ℕ} (a k : ℕ) (leads : Leads w.draft c s e t most) (few : most ≤ w.unit * a) (goes : iterations w.scope w.turns k i m cur ≡ Going now names) (pay : Pays k leads.cut (Stuck (i + k) now names) a) where
+  module _ {c e : List DraftEntry} {s t : State} {i : ℕ} {cur names : Names} {m now : Memory} {most : ℕ} (a k : ℕ) (leads : Leads w.draft c s e t most) (few : most ≤ w.unit * a) (goes : iterations w.scope w.for_loop k i m cur ≡ Going now names) (pay : Pays k leads.cut (Stuck (i + k) now names) a) where
     -- passes lead on to the head, and the loop goes on from there
     pub passes_on : Passing w e t (i + k) names now → Passing w c s i cur m
     passes_on (leaves k2 j now2 names2 end count at le goes2 late head by pace few2) =
-        let stuck : Stuck (i + k) now names → j ≡ i + k = ⊎_elim (λ end. omega (arith, end, at, le)) (λ h. (let z = none_gone w.scope w.turns k2 (i + k) now names now2 names2 h.1 goes2 in omega (arith, z, at))) in
+        let stuck : Stuck (i + k) now names → j ≡ i + k = ⊎_elim (λ end. omega (arith, end, at, le)) (λ h. (let z = none_gone w.scope w.for_loop k2 (i + k) now names now2 names2 h.1 goes2 in omega (arith, z, at))) in
         let lt = advances pay in
         let paid = few_paid pay in
-        leaves (k + k2) j now2 names2 end (leads.count + count) (omega (arith, at)) le (iterations_on w.scope w.turns k k2 i m cur now names goes ∙ goes2) late head
+        leaves (k + k2) j now2 names2 end (leads.count + count) (omega (arith, at)) le (iterations_on w.scope w.for_loop k k2 i m cur now names goes ∙ goes2) late head
         (λ n taken.
         let e : leads.count + count + n ≡ leads.count + (count + n) = omega arith in
         let f : taken + leads.count + count ≡ taken + (leads.count + count) = omega arith in
         ap (λ n. draft_run w.draft n taken c s) e ∙ leads.by (count + n) taken ∙ by n (taken + leads.count) ∙ ap (λ taken. draft_run w.draft n taken w.rest end) f)
         (split (λ n. Spends w.breaks w.lanes w.unit i j n (cuts w.draft n c s)) leads.count count (λ n below. inner leads few paid.0 j n (omega (arith, at, lt)) below) (λ n below. outer leads few pay j n stuck (pace n below)))
-        (turns_on w.unit i j k a leads.count count paid.1 lt (let f = leads.within in omega (arith, few, f)) few2)
+        (in_iterations_on w.unit i j k a leads.count count paid.1 lt (let f = leads.within in omega (arith, few, f)) few2)
     passes_on (stops k2 j left faulted kind count pc at le lo hi fails ends by pace few2) =
-        let stuck : Stuck (i + k) now names → j + ahead w.breaks ≡ i + k = ⊎_elim (λ end. absurd (omega (arith, end, le, lo, hi))) (λ h. none_ahead w.breaks j h.0 ∙ fails_here w.scope w.turns k2 (i + k) now names faulted j h.1 fails) in
+        let stuck : Stuck (i + k) now names → j + ahead w.breaks ≡ i + k = ⊎_elim (λ end. absurd (omega (arith, end, le, lo, hi))) (λ h. none_ahead w.breaks j h.0 ∙ fails_here w.scope w.for_loop k2 (i + k) now names faulted j h.1 fails) in
         let lt = advances pay in
         let paid = few_paid pay in
-        stops (k + k2) j left faulted kind (leads.count + count) pc at (omega (arith, le)) (omega (arith, lo)) (omega (arith, hi)) (iterations_on w.scope w.turns k k2 i m cur now names goes ∙ fails) ends
+        stops (k + k2) j left faulted kind (leads.count + count) pc at (omega (arith, le)) (omega (arith, lo)) (omega (arith, hi)) (iterations_on w.scope w.for_loop k k2 i m cur now names goes ∙ fails) ends
         (λ n taken.
         let e : leads.count + count + n ≡ leads.count + (count + n) = omega arith in
         let f : taken + leads.count + count ≡ taken + (leads.count + count) = omega arith in
         ap (λ n. draft_run w.draft n taken c s) e ∙ leads.by (count + n) taken ∙ by n (taken + leads.count) ∙ ap (Stop kind pc at left) f)
         (split (λ n. Spends w.breaks w.lanes w.unit i (j + ahead w.breaks) n (cuts w.draft n c s)) leads.count count (λ n below. inner leads few paid.0 (j + ahead w.breaks) n (omega (arith, lo, lt)) below) (λ n below. outer leads few pay (j + ahead w.breaks) n stuck (pace n below)))
-        (turns_on w.unit i j k a leads.count count paid.1 lt (let f = leads.within in omega (arith, few, f)) few2)
+        (in_iterations_on w.unit i j k a leads.count count paid.1 lt (let f = leads.within in omega (arith, few, f)) few2)

@@ -6,7 +6,7 @@ use Rattle.std.proofs.lemmas.Bool.{cases_lt}
 use Rattle.guest_types.specs.Memory.{Memory}
 use Rattle.machine_model.specs.Machine.{State, p_at}
 use Rattle.kernel_meaning.specs.Eval.{Names}
-use Rattle.label_fix.specs.DraftRun.{If, Entry, Put, Branch, Place, Laid, following}
+use Rattle.label_fix.specs.DraftRun.{If, DraftEntry, Put, Branch, Place, Laid, following}
 use Rattle.label_fix.specs.Stretches.{Resolves}
 use Rattle.label_fix.proofs.StretchSteps.{Goes, chain, pass}
 use Rattle.dependence.specs.Apart.{bound_place}
@@ -14,7 +14,7 @@ use Rattle.close_bound.specs.CloseBound.{pass_steps}
 use Rattle.chunk_emit.specs.Chunk.{IsTop}
 use Rattle.chunk_emit.specs.ChunkCode.{puts}
 use Rattle.chunk_emit.specs.Head.{Ground, IsGround, AtHead, layout, width, limit}
-use Rattle.first_fault.specs.Split.{is_quit}
+use Rattle.first_fault.specs.BreakRegion.{is_loop_break}
 use Rattle.first_fault.proofs.Stretches.{rest_at}
 use Rattle.chunk_pass.specs.Chunks.{items_of}
 use Rattle.chunk_pass.specs.PassCode.{lanes_word, plain_words}
@@ -28,26 +28,26 @@ use Rattle.vector_emit.proofs.While.{while_ends, while_begins, while_over, while
 use Rattle.vector_emit.proofs.Labels.{following_puts}
 
 -- the words lead to entries from which the passes run
-pub record Enters (g : Ground) (b : Bool) (d : Laid) (rest c : List Entry) (s : State) (cur : Names) (m : Memory) : Type 0 where
-  pub head : List Entry
+pub record Enters (g : Ground) (b : Bool) (d : Laid) (rest c : List DraftEntry) (s : State) (cur : Names) (m : Memory) : Type 0 where
+  pub head : List DraftEntry
   pub state : State
   pub goes : Goes d c s head state 2
   pub passing : Passing (loop_of g b d rest) head state 0 cur m
 
-module _ (g : Ground) (ground : IsGround g) (quits : list_any is_quit (items_of g) ≡ false) (d : Laid) (n : ℕ) (rest : List Entry) where
-  abbrev tail : List Entry
+module _ (g : Ground) (ground : IsGround g) (breaks_loop : list_any is_loop_break (items_of g) ≡ false) (d : Laid) (n : ℕ) (rest : List DraftEntry) where
+  abbrev tail : List DraftEntry
   tail = Place (suc n) ∷ rest
 
-  abbrev after : List Entry
+  abbrev after : List DraftEntry
   after = Put (lanes_word (width g) (bound_place g.kernel)) ∷ Branch (If 1) n ∷ tail
 
-  abbrev head : List Entry
+  abbrev head : List DraftEntry
   head = puts (plain_words (width g) (layout g) (items_of g)) after
 
   abbrev most : ℕ
   most = length (plain_words (width g) (layout g) (items_of g))
 
-  abbrev Runs : List Entry → ℕ → Names → Memory → State → Type 0
+  abbrev Runs : List DraftEntry → ℕ → Names → Memory → State → Type 0
   Runs c i cur m s = Passing (loop_of g false d rest) c s i cur m
 
   -- no iteration is left
@@ -60,11 +60,11 @@ module _ (g : Ground) (ground : IsGround g) (quits : list_any is_quit (items_of 
     abbrev Later : ℕ → Type 0
     Later fuel = (i : ℕ) (cur : Names) (m : Memory) (sum : List ℕ → ℕ → ℤ) (s : State) → limit g < i + fuel → AtHead g i cur m sum s → i < limit g → IsTop (width g) (lanes_at g i) (p_at s 0) → Runs head i cur m s
 
-    by_pass : (fuel i : ℕ) (cur : Names) (m : Memory) (s : State) → limit g < i + suc fuel → i < limit g → Later fuel → Passes (λ turn cut. ⊥) g (lanes_at g i) i cur m d head s after most → Runs head i cur m s
+    by_pass : (fuel i : ℕ) (cur : Names) (m : Memory) (s : State) → limit g < i + suc fuel → i < limit g → Later fuel → Passes (λ iteration_end cut. ⊥) g (lanes_at g i) i cur m d head s after most → Runs head i cur m s
     by_pass fuel i cur m s less lt ih (stops k j left faulted kind le fails lo hi access kept stop) =
-        let f = plain_fits g ground quits in
+        let f = plain_fits g ground breaks_loop in
         stops_here (loop_of g false d rest) (has_lanes g ground) 1 k j faulted stop (omega (arith, f)) (omega arith) (omega arith) (omega (arith, lt, le)) lo hi fails (stop_of g i k j left faulted kind (omega (arith, le)) (omega (arith, lt, le)) lo hi access kept)
-    by_pass fuel i cur m s less lt ih (comes k now names sum end le goes lead why h top turned) =
+    by_pass fuel i cur m s less lt ih (comes k now names sum end le goes lead why h top held_index) =
         ⊎_elim more over (cases_lt (i + k) (limit g))
       where
         all : lanes_at g i ≤ k
@@ -77,7 +77,7 @@ module _ (g : Ground) (ground : IsGround g) (quits : list_any is_quit (items_of 
         first = record { leads = lead; more = omega arith }
 
         fits : most + 2 ≤ pass_steps g.kernel
-        fits = plain_fits g ground quits
+        fits = plain_fits g ground breaks_loop
 
         more : i + k < limit g → Runs head i cur m s
         more ahead =
@@ -95,7 +95,7 @@ module _ (g : Ground) (ground : IsGround g) (quits : list_any is_quit (items_of 
 
     follows : (fuel : ℕ) → Later fuel
     follows zero i cur m sum s less h lt top = absurd (omega (arith, less, lt))
-    follows (suc fuel) i cur m sum s less h lt top = by_pass fuel i cur m s less lt (follows fuel) (plain_law g d after i cur m sum s ground quits h lt top)
+    follows (suc fuel) i cur m sum s less h lt top = by_pass fuel i cur m s less lt (follows fuel) (plain_law g d after i cur m sum s ground breaks_loop h lt top)
 
     enter : {sum : List ℕ → ℕ → ℤ} {cur : Names} {m : Memory} {s : State} → AtHead g 0 cur m sum s → Enters g false d rest (straight_code g.kernel g.vectors g.predicates (items_of g) n rest) s cur m
     enter {sum = sum} {cur = cur} {m = m} {s = s} h = ⊎_elim begins none (cases_lt 0 (limit g))

@@ -17,10 +17,10 @@ use Rattle.a64_code.specs.Table.{subs}
 use Rattle.kernel_meaning.specs.Operators.{word}
 use Rattle.kernel_meaning.specs.Eval.{Names, value_at}
 use Rattle.kernel_meaning.proofs.Residues.{word-below}
-use Rattle.label_fix.specs.DraftRun.{Kind, If, Entry, Put, Branch, Laid, is_taken, following, place_of, address_of, ins}
+use Rattle.label_fix.specs.DraftRun.{Kind, If, DraftEntry, Put, Branch, Laid, is_taken, following, place_of, address_of, ins}
 use Rattle.label_fix.proofs.StretchSteps.{Goes, chain, put_goes, taken_goes, passed_goes}
-use Rattle.loop_form.specs.declared.loop_item.Source.{Source}
-use Rattle.loop_form.specs.declared.loop_item.Source.TheVariants.{LoopIndex}
+use Rattle.loop_form.specs.declared.loop_item.Operand.{Operand}
+use Rattle.loop_form.specs.declared.loop_item.Operand.TheVariants.{LoopIndex}
 use Rattle.dependence.specs.Apart.{bound_place}
 use Rattle.scalar_words.proofs.Truths.{tested, tested_goes, tested_flags, tested_other}
 use Rattle.lane_emit.specs.Right.{PRight}
@@ -57,19 +57,19 @@ head_kept {g = g} {sum = sum} {s = s} {t = t} h k = record {
   lanes = λ x is. subst (λ z. LanesHold ((layout g).update x) ((layout g).sum_type x) (width g) (most_lanes g) z (sum x)) (z_same s t k.z ((layout g).sum x)) (h.lanes x is);
 }
   where
-    held_on : (x : Source) → HeldAll g s x → HeldAll g t x
+    held_on : (x : Operand) → HeldAll g s x → HeldAll g t x
     held_on x old = record {
       right = λ a e lt. ap (λ z. at (width g) z e) (sym (z_same s t k.z ((layout g).registers.source x))) ∙ old.right a e lt;
       typed = old.typed;
     }
 
-pub turned_kept : (g : Ground) (i : ℕ) (s t : State) → t.z ≡ s.z → IndexHeld g i s → IndexHeld g i t
-turned_kept g i s t e h held n lt = ap (λ z. at (width g) z n) (sym (z_same s t e ((layout g).registers.source LoopIndex))) ∙ h held n lt
+pub held_index_kept : (g : Ground) (i : ℕ) (s t : State) → t.z ≡ s.z → IndexHeld g i s → IndexHeld g i t
+held_index_kept g i s t e h held n lt = ap (λ z. at (width g) z n) (sym (z_same s t e ((layout g).registers.source LoopIndex))) ∙ h held n lt
 
 -- ---- words
 
 -- the words lead to these entries, and to a state before the same pass
-pub record Tests (g : Ground) (i : ℕ) (cur : Names) (m : Memory) (sum : List ℕ → ℕ → ℤ) (d : Laid) (c : List Entry) (s : State) (e : List Entry) (most : ℕ) : Type 0 where
+pub record Tests (g : Ground) (i : ℕ) (cur : Names) (m : Memory) (sum : List ℕ → ℕ → ℤ) (d : Laid) (c : List DraftEntry) (s : State) (e : List DraftEntry) (most : ℕ) : Type 0 where
   pub end : State
   pub goes : Goes d c s e end most
   pub head : AtHead g i cur m sum end
@@ -77,14 +77,14 @@ pub record Tests (g : Ground) (i : ℕ) (cur : Names) (m : Memory) (sum : List �
   pub p : p_at end 0 ≡ p_at s 0
 
 -- a branch, after a word that leads to the state t
-pub record Branched (g : Ground) (i : ℕ) (cur : Names) (m : Memory) (sum : List ℕ → ℕ → ℤ) (d : Laid) (c : List Entry) (t : State) (e : List Entry) : Type 0 where
+pub record Branched (g : Ground) (i : ℕ) (cur : Names) (m : Memory) (sum : List ℕ → ℕ → ℤ) (d : Laid) (c : List DraftEntry) (t : State) (e : List DraftEntry) : Type 0 where
   pub end : State
   pub goes : Goes d c t e end 1
   pub head : AtHead g i cur m sum end
   pub z : end.z ≡ t.z
   pub p : end.p ≡ t.p
 
-pub branch_taken : {g : Ground} {i : ℕ} {cur : Names} {m : Memory} {sum : List ℕ → ℕ → ℤ} (d : Laid) {t : State} (k : Kind) (l : ℕ) (rest : List Entry) → AtHead g i cur m sum t → is_taken k t ≡ true → Branched g i cur m sum d (Branch k l ∷ rest) t (following d l)
+pub branch_taken : {g : Ground} {i : ℕ} {cur : Names} {m : Memory} {sum : List ℕ → ℕ → ℤ} (d : Laid) {t : State} (k : Kind) (l : ℕ) (rest : List DraftEntry) → AtHead g i cur m sum t → is_taken k t ≡ true → Branched g i cur m sum d (Branch k l ∷ rest) t (following d l)
 branch_taken d {t = t} k l rest h yes' = record {
   end = jump t (address_of d l);
   goes = taken_goes yes';
@@ -93,7 +93,7 @@ branch_taken d {t = t} k l rest h yes' = record {
   p = refl;
 }
 
-pub branch_passed : {g : Ground} {i : ℕ} {cur : Names} {m : Memory} {sum : List ℕ → ℕ → ℤ} (d : Laid) {t : State} (k : Kind) (l : ℕ) (rest : List Entry) → AtHead g i cur m sum t → is_taken k t ≡ false → Branched g i cur m sum d (Branch k l ∷ rest) t rest
+pub branch_passed : {g : Ground} {i : ℕ} {cur : Names} {m : Memory} {sum : List ℕ → ℕ → ℤ} (d : Laid) {t : State} (k : Kind) (l : ℕ) (rest : List DraftEntry) → AtHead g i cur m sum t → is_taken k t ≡ false → Branched g i cur m sum d (Branch k l ∷ rest) t rest
 branch_passed d {t = t} k l rest h no' = record {
   end = next t;
   goes = passed_goes no';
@@ -102,7 +102,7 @@ branch_passed d {t = t} k l rest h no' = record {
   p = refl;
 }
 
-following_word : {g : Ground} {i : ℕ} {cur : Names} {m : Memory} {sum : List ℕ → ℕ → ℤ} {d : Laid} {c b e : List Entry} {s t : State} → Goes d c s b t 1 → t.z ≡ s.z → t.p ≡ s.p → Branched g i cur m sum d b t e → Tests g i cur m sum d c s e 2
+following_word : {g : Ground} {i : ℕ} {cur : Names} {m : Memory} {sum : List ℕ → ℕ → ℤ} {d : Laid} {c b e : List DraftEntry} {s t : State} → Goes d c s b t 1 → t.z ≡ s.z → t.p ≡ s.p → Branched g i cur m sum d b t e → Tests g i cur m sum d c s e 2
 following_word goes z p b = record { end = b.end; goes = chain 2 (omega arith) goes b.goes; head = b.head; z = b.z ∙ z; p = ap (λ ps. slice_index_or ps 0 []) (b.p ∙ p) }
 
 -- ---- PTEST, and B.NE
@@ -114,18 +114,18 @@ lane_head : {g : Ground} {i : ℕ} {cur : Names} {m : Memory} {sum : List ℕ �
 unfolding lane_state
 lane_head {s = s} h = head_kept h (record { is = moved _ (flags_kept s (pred_test (bit (p_at s 0)) (bit (p_at s 0)) (lanes s.vl B)) h.is); vl = refl; memory = refl; x = λ r le. refl; all = refl; z = refl })
 
-lane_goes : (d : Laid) (rest : List Entry) (s : State) → Goes d (Put any_lane ∷ rest) s rest (lane_state s) 1
+lane_goes : (d : Laid) (rest : List DraftEntry) (s : State) → Goes d (Put any_lane ∷ rest) s rest (lane_state s) 1
 unfolding lane_state
 lane_goes d rest s = put_goes refl
 
 -- some lane came through
-pub lanes_back : {g : Ground} {i : ℕ} {cur : Names} {m : Memory} {sum : List ℕ → ℕ → ℤ} (d : Laid) (s : State) (k l : ℕ) (rest : List Entry) → AtHead g i cur m sum s → IsTop (width g) k (p_at s 0) → 0 < k → Tests g i cur m sum d (Put any_lane ∷ Branch (If 1) l ∷ rest) s (following d l) 2
+pub lanes_back : {g : Ground} {i : ℕ} {cur : Names} {m : Memory} {sum : List ℕ → ℕ → ℤ} (d : Laid) (s : State) (k l : ℕ) (rest : List DraftEntry) → AtHead g i cur m sum s → IsTop (width g) k (p_at s 0) → 0 < k → Tests g i cur m sum d (Put any_lane ∷ Branch (If 1) l ∷ rest) s (following d l) 2
 unfolding lane_state
 lanes_back {g = g} d s k l rest h top some =
     following_word (lane_goes d (Branch (If 1) l ∷ rest) s) refl refl (branch_taken d (If 1) l rest (lane_head h) (ap not (top_some s.vl (width g) h.is.sized (p_at s 0) k top some)))
 
 -- none did
-pub lanes_none : {g : Ground} {i : ℕ} {cur : Names} {m : Memory} {sum : List ℕ → ℕ → ℤ} (d : Laid) (s : State) (k l : ℕ) (rest : List Entry) → AtHead g i cur m sum s → IsTop (width g) k (p_at s 0) → k ≡ 0 → Tests g i cur m sum d (Put any_lane ∷ Branch (If 1) l ∷ rest) s rest 2
+pub lanes_none : {g : Ground} {i : ℕ} {cur : Names} {m : Memory} {sum : List ℕ → ℕ → ℤ} (d : Laid) (s : State) (k l : ℕ) (rest : List DraftEntry) → AtHead g i cur m sum s → IsTop (width g) k (p_at s 0) → k ≡ 0 → Tests g i cur m sum d (Put any_lane ∷ Branch (If 1) l ∷ rest) s rest 2
 unfolding lane_state
 lanes_none {g = g} d s k l rest h top none =
     following_word (lane_goes d (Branch (If 1) l ∷ rest) s) refl refl (branch_passed d (If 1) l rest (lane_head h) (ap not (top_none s.vl (width g) h.is.sized (p_at s 0) k top none)))
@@ -136,7 +136,7 @@ pub bound_at : {g : Ground} {i : ℕ} {cur : Names} {m : Memory} {sum : List ℕ
 bound_at {g = g} ground h = h.x (bound_place g.kernel) (let n = ground.near in omega (arith, n)) (λ e. let n = ground.near in absurd (omega (arith, n, e))) ∙ ground.bound
 
 pub limit_small : (g : Ground) → limit g < 2 ^ 64
-limit_small g = word-below (value_at g.names g.turns.bound)
+limit_small g = word-below (value_at g.names g.for_loop.bound)
 
 index_small : {g : Ground} {i : ℕ} {cur : Names} {m : Memory} {sum : List ℕ → ℕ → ℤ} {s : State} → AtHead g i cur m sum s → i < 2 ^ 64
 index_small {g = g} h = let w = h.between.within in let l = limit_small g in omega (arith, w, l)
@@ -157,12 +157,12 @@ tested_holds {g = g} {i = i} {s = s} ground h =
     let en : x_at s (bound_place g.kernel) ≡ word (pos (limit g)) = bound_at ground h ∙ sym (mod-eq_of_lt (limit_small g)) in
     ap (holds 2) (tested_flags s 9 (bound_place g.kernel) (pos i) (pos (limit g)) e9 en) ∙ ap₂ nat_le (mod-eq_of_lt (limit_small g)) (mod-eq_of_lt (index_small h))
 
-pub bound_reached : {g : Ground} {i : ℕ} {cur : Names} {m : Memory} {sum : List ℕ → ℕ → ℤ} (d : Laid) (s : State) (l : ℕ) (rest : List Entry) → IsGround g → AtHead g i cur m sum s → limit g ≤ i
+pub bound_reached : {g : Ground} {i : ℕ} {cur : Names} {m : Memory} {sum : List ℕ → ℕ → ℤ} (d : Laid) (s : State) (l : ℕ) (rest : List DraftEntry) → IsGround g → AtHead g i cur m sum s → limit g ≤ i
     → Tests g i cur m sum d (ins subs (31 ∷ 9 ∷ 0 ∷ bound_place g.kernel ∷ 0 ∷ []) ∷ Branch (If 2) l ∷ rest) s (following d l) 2
 bound_reached {g = g} {i = i} d s l rest ground h le =
     following_word (tested_goes d (Branch (If 2) l ∷ rest) s 9 (bound_place g.kernel)) refl refl (branch_taken d (If 2) l rest (tested_head h) (tested_holds ground h ∙ le-leb (limit g) i le))
 
-pub bound_ahead : {g : Ground} {i : ℕ} {cur : Names} {m : Memory} {sum : List ℕ → ℕ → ℤ} (d : Laid) (s : State) (l : ℕ) (rest : List Entry) → IsGround g → AtHead g i cur m sum s → i < limit g
+pub bound_ahead : {g : Ground} {i : ℕ} {cur : Names} {m : Memory} {sum : List ℕ → ℕ → ℤ} (d : Laid) (s : State) (l : ℕ) (rest : List DraftEntry) → IsGround g → AtHead g i cur m sum s → i < limit g
     → Tests g i cur m sum d (ins subs (31 ∷ 9 ∷ 0 ∷ bound_place g.kernel ∷ 0 ∷ []) ∷ Branch (If 2) l ∷ rest) s rest 2
 bound_ahead {g = g} {i = i} d s l rest ground h lt =
     following_word (tested_goes d (Branch (If 2) l ∷ rest) s 9 (bound_place g.kernel)) refl refl (branch_passed d (If 2) l rest (tested_head h) (tested_holds ground h ∙ lt-leb (limit g) i lt))

@@ -9,7 +9,7 @@ use Rattle.guest_types.specs.Memory.{Memory}
 use Rattle.machine_model.specs.Machine.{State, Went, x_at, p_at, with_p, with_flags, next}
 use Rattle.machine_model.proofs.StateSteps.{tested_put}
 use Rattle.kernel_meaning.specs.Eval.{Names}
-use Rattle.label_fix.specs.DraftRun.{If, Entry, Put, Branch, Laid, effect, following}
+use Rattle.label_fix.specs.DraftRun.{If, DraftEntry, Put, Branch, Laid, effect, following}
 use Rattle.label_fix.proofs.StretchSteps.{Goes, chain, put_goes}
 use Rattle.dependence.specs.Apart.{bound_place}
 use Rattle.lane_emit.proofs.Stretches.{width-size}
@@ -22,7 +22,7 @@ use Rattle.vector_emit.proofs.Flags.{some_lanes, while_none, while_some, while_f
 use Rattle.vector_emit.proofs.Tests.{head_kept, Branched, branch_taken, branch_passed, bound_at}
 
 -- the words lead to these entries, and to a state before the same pass with its lanes in P0
-pub record Taken (g : Ground) (i : ℕ) (cur : Names) (m : Memory) (sum : List ℕ → ℕ → ℤ) (d : Laid) (c : List Entry) (s : State) (e : List Entry) (most : ℕ) : Type 0 where
+pub record Taken (g : Ground) (i : ℕ) (cur : Names) (m : Memory) (sum : List ℕ → ℕ → ℤ) (d : Laid) (c : List DraftEntry) (s : State) (e : List DraftEntry) (most : ℕ) : Type 0 where
   pub end : State
   pub goes : Goes d c s e end most
   pub head : AtHead g i cur m sum end
@@ -67,10 +67,10 @@ while_top {g = g} {i = i} {s = s} ground h =
     let set : p_at (while_state (width g) (place g) s) 0 ≡ predicate (width_bytes (width g)) (while_at i (limit g)) (most_lanes g) = get_or-set_same s.p 0 _ [] (let c = h.is.p_count in omega (arith, c)) ∙ same in
     subst (IsTop (width g) (lanes_at g i)) (sym set) made
 
-while_goes : (d : Laid) (w : Width) (n : ℕ) (rest : List Entry) (s : State) → Goes d (Put (lanes_word w n) ∷ rest) s rest (while_state w n s) 1
+while_goes : (d : Laid) (w : Width) (n : ℕ) (rest : List DraftEntry) (s : State) → Goes d (Put (lanes_word w n) ∷ rest) s rest (while_state w n s) 1
 while_goes d w n rest s = put_goes (while_does w n s)
 
-following_while : {g : Ground} {i : ℕ} {cur : Names} {m : Memory} {sum : List ℕ → ℕ → ℤ} {d : Laid} {b e : List Entry} {s : State} → IsGround g → AtHead g i cur m sum s → Branched g i cur m sum d b (while_state (width g) (place g) s) e → Taken g i cur m sum d (Put (lanes_word (width g) (place g)) ∷ b) s e 2
+following_while : {g : Ground} {i : ℕ} {cur : Names} {m : Memory} {sum : List ℕ → ℕ → ℤ} {d : Laid} {b e : List DraftEntry} {s : State} → IsGround g → AtHead g i cur m sum s → Branched g i cur m sum d b (while_state (width g) (place g) s) e → Taken g i cur m sum d (Put (lanes_word (width g) (place g)) ∷ b) s e 2
 following_while {g = g} {i = i} {d = d} {b = b} {s = s} ground h x = record {
   end = x.end;
   goes = chain 2 (omega arith) (while_goes d (width g) (place g) b s) x.goes;
@@ -86,19 +86,19 @@ some_left : {g : Ground} {i : ℕ} {cur : Names} {m : Memory} {sum : List ℕ �
 some_left {g = g} {i = i} ground h lt = flag_is ground h ∙ while_some i (limit g) (most_lanes g) (some_lanes g.vl (width g) ground.sized) lt
 
 -- B.EQ
-pub while_ends : {g : Ground} {i : ℕ} {cur : Names} {m : Memory} {sum : List ℕ → ℕ → ℤ} (d : Laid) (s : State) (l : ℕ) (rest : List Entry) → IsGround g → AtHead g i cur m sum s → limit g ≤ i → Taken g i cur m sum d (Put (lanes_word (width g) (bound_place g.kernel)) ∷ Branch (If 0) l ∷ rest) s (following d l) 2
+pub while_ends : {g : Ground} {i : ℕ} {cur : Names} {m : Memory} {sum : List ℕ → ℕ → ℤ} (d : Laid) (s : State) (l : ℕ) (rest : List DraftEntry) → IsGround g → AtHead g i cur m sum s → limit g ≤ i → Taken g i cur m sum d (Put (lanes_word (width g) (bound_place g.kernel)) ∷ Branch (If 0) l ∷ rest) s (following d l) 2
 unfolding while_state flag
 while_ends d s l rest ground h le = following_while ground h (branch_taken d (If 0) l rest (while_head h) (none_left ground h le))
 
-pub while_begins : {g : Ground} {i : ℕ} {cur : Names} {m : Memory} {sum : List ℕ → ℕ → ℤ} (d : Laid) (s : State) (l : ℕ) (rest : List Entry) → IsGround g → AtHead g i cur m sum s → i < limit g → Taken g i cur m sum d (Put (lanes_word (width g) (bound_place g.kernel)) ∷ Branch (If 0) l ∷ rest) s rest 2
+pub while_begins : {g : Ground} {i : ℕ} {cur : Names} {m : Memory} {sum : List ℕ → ℕ → ℤ} (d : Laid) (s : State) (l : ℕ) (rest : List DraftEntry) → IsGround g → AtHead g i cur m sum s → i < limit g → Taken g i cur m sum d (Put (lanes_word (width g) (bound_place g.kernel)) ∷ Branch (If 0) l ∷ rest) s rest 2
 unfolding while_state flag
 while_begins d s l rest ground h lt = following_while ground h (branch_passed d (If 0) l rest (while_head h) (some_left ground h lt))
 
 -- B.NE
-pub while_over : {g : Ground} {i : ℕ} {cur : Names} {m : Memory} {sum : List ℕ → ℕ → ℤ} (d : Laid) (s : State) (l : ℕ) (rest : List Entry) → IsGround g → AtHead g i cur m sum s → limit g ≤ i → Taken g i cur m sum d (Put (lanes_word (width g) (bound_place g.kernel)) ∷ Branch (If 1) l ∷ rest) s rest 2
+pub while_over : {g : Ground} {i : ℕ} {cur : Names} {m : Memory} {sum : List ℕ → ℕ → ℤ} (d : Laid) (s : State) (l : ℕ) (rest : List DraftEntry) → IsGround g → AtHead g i cur m sum s → limit g ≤ i → Taken g i cur m sum d (Put (lanes_word (width g) (bound_place g.kernel)) ∷ Branch (If 1) l ∷ rest) s rest 2
 unfolding while_state flag
 while_over d s l rest ground h le = following_while ground h (branch_passed d (If 1) l rest (while_head h) (ap not (none_left ground h le)))
 
-pub while_back : {g : Ground} {i : ℕ} {cur : Names} {m : Memory} {sum : List ℕ → ℕ → ℤ} (d : Laid) (s : State) (l : ℕ) (rest : List Entry) → IsGround g → AtHead g i cur m sum s → i < limit g → Taken g i cur m sum d (Put (lanes_word (width g) (bound_place g.kernel)) ∷ Branch (If 1) l ∷ rest) s (following d l) 2
+pub while_back : {g : Ground} {i : ℕ} {cur : Names} {m : Memory} {sum : List ℕ → ℕ → ℤ} (d : Laid) (s : State) (l : ℕ) (rest : List DraftEntry) → IsGround g → AtHead g i cur m sum s → i < limit g → Taken g i cur m sum d (Put (lanes_word (width g) (bound_place g.kernel)) ∷ Branch (If 1) l ∷ rest) s (following d l) 2
 unfolding while_state flag
 while_back d s l rest ground h lt = following_while ground h (branch_taken d (If 1) l rest (while_head h) (ap not (some_left ground h lt)))

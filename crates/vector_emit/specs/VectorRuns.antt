@@ -9,7 +9,7 @@ use Rattle.machine_model.specs.declared.outcome.StopKind.{StopKind}
 use Rattle.machine_model.specs.Machine.{State, x_at}
 use Rattle.machine_model.specs.States.{IsState}
 use Rattle.machine_model.specs.Run.{IsAccess}
-use Rattle.label_fix.specs.DraftRun.{Entry, Laid, following}
+use Rattle.label_fix.specs.DraftRun.{DraftEntry, Laid, following}
 use Rattle.label_fix.specs.Stretches.{Resolves, StopsPaced, EndsPaced}
 use Rattle.reg_assign.specs.declared.interval.RegClass.TheVariants.{X, Z}
 use Rattle.reg_assign.specs.Registers.{Assignment}
@@ -36,7 +36,7 @@ pub record Near (g : Ground) (bg : ℕ) (left faulted : Memory) : Type 0 where
 -- Where the scalar loop ends, the code does with its memory and result; where it faults, the code stops at a read or a write.
 -- Each is within a pace, whose base counts the iterations that were begun, and within `most` words, whatever free elements are
 -- suppressed.
-pub data Follows (g : Ground) (d : Laid) (c : List Entry) (s : State) (unit : ℕ) (base most : ℕ → ℕ) : Run → Type 0 where
+pub data Follows (g : Ground) (d : Laid) (c : List DraftEntry) (s : State) (unit : ℕ) (base most : ℕ → ℕ) : Run → Type 0 where
   ends_so : {m : Memory} {r bg : ℕ} → (end : EndsPaced d c s m r unit (base bg)) → end.count ≤ most bg → Follows g d c s unit base most (End m r bg)
   faults_so : {m : Memory} {bg : ℕ} (kind : StopKind) (left : Memory) → IsAccess kind → Near g bg left m → (stop : StopsPaced d c s kind left unit (base bg)) → stop.count ≤ most bg
       → Follows g d c s unit base most (Fault m bg)
@@ -61,12 +61,12 @@ vector_most g bg = edge_steps g.kernel + pass_steps g.kernel * (2 * bg + 2)
 -- scalar code stands after the label: entered before an iteration, it does what the scalar loop does from there on
 abbrev pub ReachesScalar : Ground → Assignment → Laid → (scalar : ℕ) → Type 0
 ReachesScalar g c d scalar =
-    (i : ℕ) (names : Names) (m : Memory) (s : State) → IsWithin g.kernel.turns i names → AtIteration (register_in c) g.kernel i names m s
+    (i : ℕ) (names : Names) (m : Memory) (s : State) → IsWithin g.kernel.for_loop i names → AtIteration (register_in c) g.kernel i names m s
     → Comes d (following d scalar) s (iteration_steps g.kernel) (ending_steps g.kernel) i (run_from g.kernel i m names)
 
 -- The vector code, from a state as the loop begins; `scalar` is the label of scalar code.
 abbrev pub VectorRuns : Type 0
 VectorRuns =
-    (g : Ground) (c : Assignment) (d : Laid) (scalar n : ℕ) (rest : List Entry) (m : Memory) (s : State) → IsGround g → FitsKernel g.kernel X c → IsState s → s.vl ≡ g.vl → AtIteration (register_in c) g.kernel 0 g.names m s
+    (g : Ground) (c : Assignment) (d : Laid) (scalar n : ℕ) (rest : List DraftEntry) (m : Memory) (s : State) → IsGround g → FitsKernel g.kernel X c → IsState s → s.vl ≡ g.vl → AtIteration (register_in c) g.kernel 0 g.names m s
     → ((r : ℕ) → r ≤ 25 → x_at s r ≡ slice_index g.x r) → Resolves d (vector_code (register_in c) g.kernel g.vectors g.predicates scalar n rest) → ReachesScalar g c d scalar
     → Follows g d (vector_code (register_in c) g.kernel g.vectors g.predicates scalar n rest) s (vector_unit g) (vector_base g) (vector_most g) (run_from g.kernel 0 m g.names)

@@ -17,14 +17,14 @@ ghost use Rattle.label_fix.specs.DraftRun.{ins};
 ghost use Rattle.lane_emit.specs.RegistersView.{kernel_in, vectors_in, predicates_in};
 ghost use Rattle.chunk_emit.specs.Writable.{AreWritable};
 ghost use Rattle.chunk_emit.specs.View.{layout_in, width_in};
-ghost use Rattle.first_fault.specs.Split.{is_quit, region_of, rest_of};
+ghost use Rattle.first_fault.specs.BreakRegion.{is_loop_break, region_of, rest_of};
 ghost use Rattle.vector_emit.specs.Parts as parts;
 ghost use Rattle.vector_emit.specs.VectorCode as code;
 
 use crate::bound::bound;
 use a64_code::{A64, AddSubOp, AddSubShift, Cond, Reg};
 use chunk_emit::{LoopLayout, loop_layout};
-use chunk_pass::{emit_chunk, emit_plain, emit_turn, lanes};
+use chunk_pass::{emit_chunk, emit_iteration, emit_plain, lanes};
 use first_fault::{has_break, writable_items};
 use label_fix::{BranchKind, Draft, Label, Word};
 use loop_form::{LoopFacts, LoopItem};
@@ -85,7 +85,7 @@ fn emit_chunk_part(
 }
 
 // One iteration of such a loop.
-fn emit_turn_part(
+fn emit_iteration_part(
     alloc: Global,
     layout: &LoopLayout<'_>,
     items: &[LoopItem<'_>],
@@ -97,10 +97,10 @@ fn emit_turn_part(
     requires rest { AreWritable (width_in layout.now) (rest_of (view items.now)) }
     requires head { head < draft.old.labels }
     requires end { end < draft.old.labels }
-    ensures { let part = parts.turn_part (width_in layout.now) (layout_in layout.now) in
+    ensures { let part = parts.iteration_part (width_in layout.now) (layout_in layout.now) in
         OnOk result (Emits draft.old draft.new draft.old.labels (part (view items.now) head end)) }
 {
-    emit_turn(alloc, layout, items, draft)?;
+    emit_iteration(alloc, layout, items, draft)?;
     draft.put(any_lane())?;
     draft.branch(BranchKind::If(Cond::Ne), head)?;
     draft.place(end)?;
@@ -149,7 +149,7 @@ fn emit_breaking(
     let head = draft.label()?;
     let end = draft.label()?;
     emit_chunk_part(alloc, layout, bound, items, head, end, draft)?;
-    emit_turn_part(alloc, layout, items, head, end, draft)?;
+    emit_iteration_part(alloc, layout, items, head, end, draft)?;
     Ok(())
 }
 
@@ -187,7 +187,7 @@ fn emit_by(
     requires region { AreWritable (width_in layout.now) (region_of (view items.now)) }
     requires rest { AreWritable (width_in layout.now) (rest_of (view items.now)) }
     ensures { let r = layout.now.registers in
-        let by = code.passes_by (list_any is_quit (view items.now)) in
+        let by = code.passes_by (list_any is_loop_break (view items.now)) in
         let passes = by (kernel_in r) (vectors_in r) (predicates_in r) (view items.now) in
         OnOk result (Emits draft.old draft.new (draft.old.labels + 2) (passes draft.old.labels)) }
 {

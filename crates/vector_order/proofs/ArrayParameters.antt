@@ -8,13 +8,13 @@ use Rattle.guest_types.specs.Memory.{Memory}
 use Rattle.kernel_meaning.specs.Eval.{Names}
 use Rattle.kernel_meaning.specs.ScalarRun.{argument_names, started}
 use Rattle.loop_form.specs.Streams.{type_of_place}
-use Rattle.loop_form.specs.declared.loop_item.Source.TheVariants as sources
+use Rattle.loop_form.specs.declared.loop_item.Operand.TheVariants as operands
 use Rattle.vector_order.specs.Operands.{nth_value}
 use Rattle.vector_order.specs.Apart.{base_of}
 use Rattle.kernel_tree.proofs.Names.{bytes_same, NoName, index_alone}
 use Rattle.kernel_meaning.proofs.Started.{started_names}
-use Rattle.loop_form.specs.LoopItems.{bound, source_at, outer_env, loop_env}
-use Rattle.loop_form.specs.declared.loop_item.Source.TheVariants.{Constant, Outer}
+use Rattle.loop_form.specs.LoopItems.{bound, operand_at, outer_env, loop_env}
+use Rattle.loop_form.specs.declared.loop_item.Operand.TheVariants.{Constant, Outer}
 
 -- ---- the names from before the loop
 
@@ -28,18 +28,18 @@ started_bases k args m names e p t h = let r = started_names k args m names e in
 
 -- ---- the loop variable's name is that of nothing else
 
-index_as_turn : (vs : List Local) (x : List ℕ) (n : ℕ) → NoName x vs → source_at (outer_env n vs ++ bound x sources.LoopIndex ∷ []) x ≡ sources.LoopIndex
-index_as_turn [] x n h = by_test (bytes_eq x x) (bytes_same x)
+index_as_loop_index : (vs : List Local) (x : List ℕ) (n : ℕ) → NoName x vs → operand_at (outer_env n vs ++ bound x operands.LoopIndex ∷ []) x ≡ operands.LoopIndex
+index_as_loop_index [] x n h = by_test (bytes_eq x x) (bytes_same x)
   where
-    by_test : (b : Bool) → b ≡ true → cond b sources.LoopIndex (Constant None (pos 0)) ≡ sources.LoopIndex
+    by_test : (b : Bool) → b ≡ true → cond b operands.LoopIndex (Constant None (pos 0)) ≡ operands.LoopIndex
     by_test true e = refl
     by_test false e = absurd cc
-index_as_turn (v ∷ vs) x n h = by_test (bytes_eq v.name x) h.0 (index_as_turn vs x (suc n) h.1)
+index_as_loop_index (v ∷ vs) x n h = by_test (bytes_eq v.name x) h.0 (index_as_loop_index vs x (suc n) h.1)
   where
-    by_test : (b : Bool) → b ≡ false → source_at (outer_env (suc n) vs ++ bound x sources.LoopIndex ∷ []) x ≡ sources.LoopIndex → cond b (Outer n) (source_at (outer_env (suc n) vs ++ bound x sources.LoopIndex ∷ []) x) ≡ sources.LoopIndex
+    by_test : (b : Bool) → b ≡ false → operand_at (outer_env (suc n) vs ++ bound x operands.LoopIndex ∷ []) x ≡ operands.LoopIndex → cond b (Outer n) (operand_at (outer_env (suc n) vs ++ bound x operands.LoopIndex ∷ []) x) ≡ operands.LoopIndex
     by_test true e h = absurd cc
     by_test false e h = h
 
 -- in the body of a loop its variable is found as the number of the iteration
-pub index_is_turn : (k : Program) (l : PlainLoop) → check_fault k ≡ None → k.turns ≡ Some l → source_at (loop_env (var_scope k) l.index) l.index ≡ sources.LoopIndex
-index_is_turn k l e loop = index_as_turn (var_scope k).visible l.index 0 (index_alone k l e loop).visible
+pub index_is_loop_index : (k : Program) (l : PlainLoop) → check_fault k ≡ None → k.for_loop ≡ Some l → operand_at (loop_env (var_scope k) l.index) l.index ≡ operands.LoopIndex
+index_is_loop_index k l e loop = index_as_loop_index (var_scope k).visible l.index 0 (index_alone k l e loop).visible

@@ -5,13 +5,14 @@ use Rattle.kernel_tree.specs.declared.ops.Ty.{Ty}
 use Rattle.kernel_tree.specs.Plain.{Term, Literal, Variable, Element, Unary, Operation, Shift, Conversion, Choice, Comparison, Both, Either, Not, Action, Define, Put, Update, Choose, Leave, Block, Done, Then, Otherwise, Nothing, Else}
 use Rattle.kernel_tree.specs.Items.{stream_offset, term_size}
 use Rattle.kernel_tree.specs.Typing.{Scope, own, first, index_type, side_type, after_action, after_block, left, array_type}
-use Rattle.loop_form.specs.declared.loop_item.Source.{Source}
+use Rattle.loop_form.specs.declared.loop_item.Operand.{Operand}
 use Rattle.loop_form.specs.Reaches.{reach_of_type}
-use Rattle.loop_form.specs.LoopItems.{Bound, Op, Gather, Item, index_source, truth_home, load_item, store_item, term_items, cond_items, accumulator_of, after_env, quit_items, leave_items, action_items, block_items, otherwise_items}
+use Rattle.loop_form.specs.LoopItems.{Bound, Op, Item, index_source, truth_home, load_item, store_item, term_items, cond_items, accumulator_of, after_env, break_items, leave_items, action_items, block_items, otherwise_items}
+use Rattle.loop_form.specs.LoopItems as ops
 use Rattle.vector_order.proofs.ReadyTerms.{Computed, computed_map}
 
 abbrev pub CalmOp : (List ℕ → Option ℕ → Type 0) → Op → Type 0
-CalmOp C (Gather a base t r u x) = C a r
+CalmOp C (ops.Gather a base t r u x) = C a r
 CalmOp C _ = Unit {0}
 
 abbrev pub AllCalm : (List ℕ → Option ℕ → Type 0) → List Item → Type 0
@@ -57,7 +58,7 @@ module _ (C : List ℕ → Option ℕ → Type 0) where
   load_calm scope mask q env a None gathered rest h r = h
   load_calm scope mask q env a (Some c) gathered rest h r = (tt, r)
 
-  store_calm : (scope : Scope) (mask : Option ℕ) (q : ℕ) (env : List Bound) (a : List ℕ) (o : Option ℤ) (v : Source) (rest : List Item) → AllCalm C rest → AllCalm C (store_item scope mask q env a o v rest)
+  store_calm : (scope : Scope) (mask : Option ℕ) (q : ℕ) (env : List Bound) (a : List ℕ) (o : Option ℤ) (v : Operand) (rest : List Item) → AllCalm C rest → AllCalm C (store_item scope mask q env a o v rest)
   store_calm scope mask q env a None v rest r = r
   store_calm scope mask q env a (Some c) v rest r = (tt, r)
 
@@ -86,12 +87,12 @@ module _ (C : List ℕ → Option ℕ → Type 0) where
   term_calm (Either x y) = record { as_value = λ scope want mask from env rest h r. r; as_cond = λ scope mask from env rest h r. (term_calm x).as_cond scope mask from env _ h.0 (tt, (term_calm y).as_cond scope (Some (from + term_size scope.index x)) _ env _ h.1 (tt, r)) }
   term_calm (Not e) = record { as_value = λ scope want mask from env rest h r. r; as_cond = λ scope mask from env rest h r. (term_calm e).as_cond scope mask from env _ h (tt, r) }
 
-  quit_calm : (c : Term) (scope : Scope) (mask : Option ℕ) (from : ℕ) (env : List Bound) (rest : List Item) → Calmly C scope c → AllCalm C rest → AllCalm C (quit_items scope mask from env c rest)
-  quit_calm c scope mask from env rest h r = (term_calm c).as_cond scope mask from env _ h (tt, r)
+  break_calm : (c : Term) (scope : Scope) (mask : Option ℕ) (from : ℕ) (env : List Bound) (rest : List Item) → Calmly C scope c → AllCalm C rest → AllCalm C (break_items scope mask from env c rest)
+  break_calm c scope mask from env rest h r = (term_calm c).as_cond scope mask from env _ h (tt, r)
 
   leave_calm : (c : Term) (scope : Scope) (mask : Option ℕ) (from : ℕ) (env : List Bound) (rest : List Item) → Calmly C scope c → AllCalm C rest → AllCalm C (leave_items scope mask from env c rest)
-  leave_calm (Either a b) scope mask from env rest h r = leave_calm a scope mask from env _ h.0 (quit_calm b scope mask (from + term_size scope.index a + 1) env rest h.1 r)
-  leave_calm c scope mask from env rest h r = quit_calm c scope mask from env rest h r
+  leave_calm (Either a b) scope mask from env rest h r = leave_calm a scope mask from env _ h.0 (break_calm b scope mask (from + term_size scope.index a + 1) env rest h.1 r)
+  leave_calm c scope mask from env rest h r = break_calm c scope mask from env rest h r
 
   mutual
     action_calm : (s : Action) (scope : Scope) (mask : Option ℕ) (from : ℕ) (env : List Bound) (rest : List Item) → CalmAction C scope s → AllCalm C rest → AllCalm C (action_items scope mask from env s rest)

@@ -15,7 +15,7 @@ copy = record {
   name = 102 ∷ [];
   params = record { name = 120 ∷ []; shape = shape.Array ty.U8 } ∷ record { name = 121 ∷ []; shape = shape.Array ty.U8 } ∷ record { name = 110 ∷ []; shape = shape.Scalar ty.U64 } ∷ [];
   vars = [];
-  turns = Some (record { index = 105 ∷ []; bound = 110 ∷ []; body = Then (Put (121 ∷ []) (Variable (105 ∷ [])) (Element (120 ∷ []) (Variable (105 ∷ [])))) Done });
+  for_loop = Some (record { index = 105 ∷ []; bound = 110 ∷ []; body = Then (Put (121 ∷ []) (Variable (105 ∷ [])) (Element (120 ∷ []) (Variable (105 ∷ [])))) Done });
   answer = None;
 }
 

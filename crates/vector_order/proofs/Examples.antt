@@ -45,7 +45,7 @@ kernel = record {
   name = f;
   params = record { name = a; shape = shape.Array ty.U8 } ∷ record { name = n; shape = shape.Scalar ty.U64 } ∷ [];
   vars = record { name = c; type = ty.U8; init = Literal (pos 0) } ∷ [];
-  turns = Some loop;
+  for_loop = Some loop;
   answer = Some (record { type = ty.U8; value = Variable c });
 }
 

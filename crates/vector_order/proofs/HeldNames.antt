@@ -3,21 +3,21 @@ use Rattle.std.proofs.Common.{◌≡◌, ℕ, suc, ◌<◌, Bool, true, false, c
 use Rattle.std.specs.Prelude.{bytes_eq}
 use Rattle.kernel_tree.specs.declared.ops.Ty.{Ty}
 use Rattle.kernel_tree.specs.Typing.{Local}
-use Rattle.loop_form.specs.declared.loop_item.Source.TheVariants.{Made}
-use Rattle.loop_form.specs.LoopItems.{Bound, bound, source_at, with_bound, outer_env}
+use Rattle.loop_form.specs.declared.loop_item.Operand.TheVariants.{Made}
+use Rattle.loop_form.specs.LoopItems.{Bound, bound, operand_at, with_bound, outer_env}
 use Rattle.vector_order.proofs.LaneValues.{EnvBelow}
 pub use Rattle.kernel_tree.proofs.Faultless.{nil-left, nil-right}
-use Rattle.loop_form.specs.declared.loop_item.Source.TheVariants as sources
+use Rattle.loop_form.specs.declared.loop_item.Operand.TheVariants as operands
 
 pub env_below-append : (xs ys : List Bound) (n : ℕ) → EnvBelow xs n → EnvBelow ys n → EnvBelow (xs ++ ys) n
 env_below-append [] ys n h k = k
 env_below-append (x ∷ xs) ys n h k = (h.0, env_below-append xs ys n h.1 k)
 
-pub source_at-append : (env more : List Bound) (x : List ℕ) → source_at env x ≡ sources.LoopIndex → source_at (env ++ more) x ≡ sources.LoopIndex
-source_at-append [] more x e = cc
-source_at-append (b ∷ env) more x e = by_test (bytes_eq b.name x) e (source_at-append env more x)
+pub operand_at-append : (env more : List Bound) (x : List ℕ) → operand_at env x ≡ operands.LoopIndex → operand_at (env ++ more) x ≡ operands.LoopIndex
+operand_at-append [] more x e = cc
+operand_at-append (b ∷ env) more x e = by_test (bytes_eq b.name x) e (operand_at-append env more x)
   where
-    by_test : (t : Bool) → cond t b.source (source_at env x) ≡ sources.LoopIndex → (source_at env x ≡ sources.LoopIndex → source_at (env ++ more) x ≡ sources.LoopIndex) → cond t b.source (source_at (env ++ more) x) ≡ sources.LoopIndex
+    by_test : (t : Bool) → cond t b.source (operand_at env x) ≡ operands.LoopIndex → (operand_at env x ≡ operands.LoopIndex → operand_at (env ++ more) x ≡ operands.LoopIndex) → cond t b.source (operand_at (env ++ more) x) ≡ operands.LoopIndex
     by_test true e h = e
     by_test false e h = h e
 

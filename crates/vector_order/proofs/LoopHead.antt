@@ -61,7 +61,7 @@ head_ok k l checked = record {
 
 -- ---- the loop's variable
 
-pub index_free : (k : Program) (l : PlainLoop) → check_fault k ≡ None → k.turns ≡ Some l → is_accumulator k l.index ≡ false
+pub index_free : (k : Program) (l : PlainLoop) → check_fault k ≡ None → k.for_loop ≡ Some l → is_accumulator k l.index ≡ false
 index_free k l checked loop = no_names l.index k.vars (index_alone k l checked loop).vars
 
 -- ---- the names

@@ -8,16 +8,16 @@ use Rattle.kernel_meaning.specs.Eval.{Named, Names, is_named, value_of, value_at
 use Rattle.kernel_meaning.specs.Iterate.{named, assigned}
 use Rattle.kernel_meaning.proofs.NameLists.{assigned-names, assigned-length, assigned-front, value_at-front}
 use Rattle.vector_order.specs.Orders.{Share, Lane}
-use Rattle.loop_form.specs.LoopItems.{Bound, source_at}
-use Rattle.vector_order.specs.Operands.{source_value}
-use Rattle.vector_order.proofs.HeldNames.{source_at-append}
+use Rattle.loop_form.specs.LoopItems.{Bound, operand_at}
+use Rattle.vector_order.specs.Operands.{operand_value}
+use Rattle.vector_order.proofs.HeldNames.{operand_at-append}
 use Rattle.kernel_tree.proofs.Names.{bytes_told}
-use Rattle.vector_order.proofs.LaneValues.{EnvBelow, source_agree}
+use Rattle.vector_order.proofs.LaneValues.{EnvBelow, operand_agree}
 use Rattle.vector_order.specs.Shares.{apply_shares}
 use Rattle.kernel_tree.specs.Typing.{Local}
 use Rattle.vector_order.proofs.NamesTyped.{Typed, typed_assigned}
-use Rattle.vector_order.proofs.Terms.{Kept, Held}
-use Rattle.loop_form.specs.declared.loop_item.Source.TheVariants as sources
+use Rattle.vector_order.proofs.Terms.{Kept, AreSourceValues}
+use Rattle.loop_form.specs.declared.loop_item.Operand.TheVariants as operands
 
 pub append_nothing : {A : Type 0} (xs : List A) → xs ++ [] ≡ xs
 append_nothing [] = refl
@@ -82,17 +82,17 @@ module _ (is_acc : List ℕ → Bool) where
     Zip [] [] l = Unit {0}
     Zip [] (n ∷ ns) l = ⊥
     Zip (b ∷ env) [] l = ⊥
-    Zip (b ∷ env) (n ∷ ns) l = (b.name ≡ n.name) × (is_acc b.name ≡ false → n.value ≡ source_value names i l b.source) × Zip env ns l
+    Zip (b ∷ env) (n ∷ ns) l = (b.name ≡ n.name) × (is_acc b.name ≡ false → n.value ≡ operand_value names i l b.source) × Zip env ns l
 
-    pub zip_held : (env : List Bound) (ns : Names) (l : Lane) → Zip env ns l → Held names i is_acc ns env l
+    pub zip_held : (env : List Bound) (ns : Names) (l : Lane) → Zip env ns l → AreSourceValues names i is_acc ns env l
     zip_held [] [] l z x a = refl
     zip_held [] (n ∷ ns) l z x a = elim z [ ]
     zip_held (b ∷ env) [] l z x a = elim z [ ]
     zip_held (b ∷ env) (n ∷ ns) l z x a =
-        subst (λ y. unwrap_or (option_map value_of (cond (bytes_eq y x) (Some n) (find (is_named x) ns))) (pos 0) ≡ source_value names i l (cond (bytes_eq b.name x) b.source (source_at env x))) z.0
+        subst (λ y. unwrap_or (option_map value_of (cond (bytes_eq y x) (Some n) (find (is_named x) ns))) (pos 0) ≡ operand_value names i l (cond (bytes_eq b.name x) b.source (operand_at env x))) z.0
         (by_test (bytes_eq b.name x) refl (zip_held env ns l z.2 x a))
       where
-        by_test : (t : Bool) → bytes_eq b.name x ≡ t → value_at ns x ≡ source_value names i l (source_at env x) → unwrap_or (option_map value_of (cond t (Some n) (find (is_named x) ns))) (pos 0) ≡ source_value names i l (cond t b.source (source_at env x))
+        by_test : (t : Bool) → bytes_eq b.name x ≡ t → value_at ns x ≡ operand_value names i l (operand_at env x) → unwrap_or (option_map value_of (cond t (Some n) (find (is_named x) ns))) (pos 0) ≡ operand_value names i l (cond t b.source (operand_at env x))
         by_test true e h = z.1 (ap is_acc (bytes_told b.name x e) ∙ a)
         by_test false e h = h
 
@@ -100,9 +100,9 @@ module _ (is_acc : List ℕ → Bool) where
     zip_kept [] [] n k l b h z = tt
     zip_kept [] (m ∷ ns) n k l b h z = elim z [ ]
     zip_kept (e ∷ env) [] n k l b h z = elim z [ ]
-    zip_kept (e ∷ env) (m ∷ ns) n k l b h z = (z.0, (λ a. z.1 a ∙ sym (source_agree names i n k l e.source h.values b.0)), zip_kept env ns n k l b.1 h z.2)
+    zip_kept (e ∷ env) (m ∷ ns) n k l b h z = (z.0, (λ a. z.1 a ∙ sym (operand_agree names i n k l e.source h.values b.0)), zip_kept env ns n k l b.1 h z.2)
 
-    pub zip_more : (env : List Bound) (ns : Names) (b : Bound) (n : Named) (l : Lane) → Zip env ns l → b.name ≡ n.name → n.value ≡ source_value names i l b.source → Zip (env ++ b ∷ []) (ns ++ n ∷ []) l
+    pub zip_more : (env : List Bound) (ns : Names) (b : Bound) (n : Named) (l : Lane) → Zip env ns l → b.name ≡ n.name → n.value ≡ operand_value names i l b.source → Zip (env ++ b ∷ []) (ns ++ n ∷ []) l
     zip_more [] [] b n l z e v = (e, (λ a. v), tt)
     zip_more [] (m ∷ ns) b n l z e v = elim z [ ]
     zip_more (c ∷ env) [] b n l z e v = elim z [ ]
@@ -125,12 +125,12 @@ module _ (is_acc : List ℕ → Bool) where
   -- the loop's variable is no accumulator, and is found as the number of the iteration
   abbrev pub Indexed : Option (List ℕ) → List Bound → Type 0
   Indexed None env = ⊥
-  Indexed (Some x) env = (is_acc x ≡ false) × (source_at env x ≡ sources.LoopIndex)
+  Indexed (Some x) env = (is_acc x ≡ false) × (operand_at env x ≡ operands.LoopIndex)
 
   pub indexed-append : (index : Option (List ℕ)) (env more : List Bound) → Indexed index env → Indexed index (env ++ more)
   indexed-append None env more h = elim h [ ]
-  indexed-append (Some x) env more h = (h.0, source_at-append env more x h.1)
+  indexed-append (Some x) env more h = (h.0, operand_at-append env more x h.1)
 
-  pub indexed-is : (names : Names) (i : ℕ) (index : Option (List ℕ)) (env : List Bound) (ns : Names) (l : Lane) → Held names i is_acc ns env l → Indexed index env → iteration index ns ≡ pos i
+  pub indexed-is : (names : Names) (i : ℕ) (index : Option (List ℕ)) (env : List Bound) (ns : Names) (l : Lane) → AreSourceValues names i is_acc ns env l → Indexed index env → iteration index ns ≡ pos i
   indexed-is names i None env ns l held h = elim h [ ]
-  indexed-is names i (Some x) env ns l held h = held x h.0 ∙ ap (source_value names i l) h.1
+  indexed-is names i (Some x) env ns l held h = held x h.0 ∙ ap (operand_value names i l) h.1

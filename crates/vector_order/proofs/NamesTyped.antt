@@ -43,12 +43,7 @@ narrow_of ty.U8 (pos n) h = let f = in_bits ty.U8 (pos n) h in (n, refl, f)
 narrow_of ty.U8 (negsuc n) h = absurd (in_bits ty.U8 (negsuc n) h)
 narrow_of ty.U16 (pos n) h = let f = in_bits ty.U16 (pos n) h in (n, refl, f)
 narrow_of ty.U16 (negsuc n) h = absurd (in_bits ty.U16 (negsuc n) h)
-narrow_of ty.I8 z h = tt
-narrow_of ty.I16 z h = tt
-narrow_of ty.I32 z h = tt
-narrow_of ty.U32 z h = tt
-narrow_of ty.I64 z h = tt
-narrow_of ty.U64 z h = tt
+narrow_of other z h = tt
 
 narrow_range : (o : Option Ty) (z : ℤ) → TypeRange o z → Narrow o z
 narrow_range None z h = tt
@@ -57,12 +52,7 @@ narrow_range (Some T) z h = narrow_of T z h
 narrow_wrap : (T : Ty) (z : ℤ) → Narrow (Some T) (wrap T z)
 narrow_wrap ty.U8 z = (residue 8 z, refl, residue-below 8 z (omega arith))
 narrow_wrap ty.U16 z = (residue 16 z, refl, residue-below 16 z (omega arith))
-narrow_wrap ty.I8 z = tt
-narrow_wrap ty.I16 z = tt
-narrow_wrap ty.I32 z = tt
-narrow_wrap ty.U32 z = tt
-narrow_wrap ty.I64 z = tt
-narrow_wrap ty.U64 z = tt
+narrow_wrap other z = tt
 
 -- ---- names
 

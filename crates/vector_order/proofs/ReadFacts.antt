@@ -7,13 +7,13 @@ use Rattle.kernel_tree.specs.declared.ops.Ty.{Ty}
 use Rattle.kernel_tree.specs.declared.ops.Ty.TheVariants as ty
 use Rattle.kernel_tree.specs.Plain.{Term, Parameter, Accumulator, PlainLoop, Program}
 use Rattle.kernel_tree.specs.Items.{stream_offset, loop_index, loop_start, term_size, vars_size}
-use Rattle.kernel_tree.specs.Typing.{Scope, Value, declared, check_fault, in_loop, param_scope, var_scope, after_turns, block_types, term_types, params_types, vars_types, turns_types, answer_types, types_of}
+use Rattle.kernel_tree.specs.Typing.{Scope, Value, declared, check_fault, in_loop, param_scope, var_scope, after_for_loop, block_types, term_types, params_types, vars_types, for_loop_types, answer_types, types_of}
 use Rattle.kernel_tree.specs.declared.fault.Binding.TheVariants as binding
 use Rattle.kernel_tree.proofs.Names.{bytes_same, bytes_told}
 use Rattle.kernel_tree.proofs.Scopes.{param_index, scope_index}
 use Rattle.kernel_tree.proofs.RightKinds.{body-kinds}
 use Rattle.loop_form.specs.declared.stream.Stream.{Stream}
-use Rattle.loop_form.specs.Entries.{Content, IsLiteral, IsName, IsRead, IsLet, IsStore, IsUpdate, IsPlain, Entry, turns_entries, loop_entries}
+use Rattle.loop_form.specs.Entries.{Content, IsLiteral, IsName, IsRead, IsLet, IsStore, IsUpdate, IsPlain, Entry, for_loop_entries, loop_entries}
 use Rattle.loop_form.specs.Streams.{place_from, place_of, access, access_of, stream_of, streams_of, In}
 use Rattle.dependence.specs.Apart.{is_store}
 use Rattle.loop_form.specs.declared.reach.Reach.{Reach}
@@ -117,12 +117,7 @@ reach_size : (o : Option Ty) (n : ℕ) → reach_of_type o ≡ Some n → (0 < n
 reach_size None n e = absurd cc
 reach_size (Some ty.U8) n e = let f : 256 ≡ n = cc in (omega (arith, f), omega (arith, f))
 reach_size (Some ty.U16) n e = let f : 65536 ≡ n = cc in (omega (arith, f), omega (arith, f))
-reach_size (Some ty.I8) n e = absurd cc
-reach_size (Some ty.I16) n e = absurd cc
-reach_size (Some ty.I32) n e = absurd cc
-reach_size (Some ty.U32) n e = absurd cc
-reach_size (Some ty.I64) n e = absurd cc
-reach_size (Some ty.U64) n e = absurd cc
+reach_size other n e = absurd cc
 
 -- an item's reach is among those of the items
 among_all : (k : Program) (r : Reach) (before : List Entry) (e : Entry) (es : List Entry) → reach_at k e ≡ Some r → Among r (filter_map (reach_at k) (before ++ e ∷ es))
@@ -200,18 +195,18 @@ module _ (k : Program) (vector : class_of k ≡ Vector) where
       ∙ ap₂ (λ (a : ℕ) (b : ℕ). a + suc b) (many k v.init scope (Value (Some v.type)) ∙ ap (λ (j : Option (List ℕ)). term_size j v.init) e) (vars_many vs (declared scope v.name (binding.Accumulator v.type)) e)
       ∙ omega arith
 
-  loop_types_from : (l : PlainLoop) → k.turns ≡ Some l → From k (loop_start k + 1) (block_types (in_loop (var_scope k) l) l.body)
+  loop_types_from : (l : PlainLoop) → k.for_loop ≡ Some l → From k (loop_start k + 1) (block_types (in_loop (var_scope k) l) l.body)
   loop_types_from l loop =
-      let rest : List (Option Ty) = answer_types (after_turns (var_scope k) k.turns) k.answer in
+      let rest : List (Option Ty) = answer_types (after_for_loop (var_scope k) k.for_loop) k.answer in
       let vars : List (Option Ty) = vars_types (param_scope k) k.vars in
-      let first : drop (length k.params) (types_of k) ≡ vars ++ (turns_types (var_scope k) k.turns ++ rest) = drop_append (length k.params) (params_types k.params) _ (params_many k.params) in
-      let second : drop (loop_start k) (types_of k) ≡ turns_types (var_scope k) k.turns ++ rest =
+      let first : drop (length k.params) (types_of k) ≡ vars ++ (for_loop_types (var_scope k) k.for_loop ++ rest) = drop_append (length k.params) (params_types k.params) _ (params_many k.params) in
+      let second : drop (loop_start k) (types_of k) ≡ for_loop_types (var_scope k) k.for_loop ++ rest =
       drop_twice (length k.params) (vars_size (loop_index k) k.vars) (types_of k) ∙ ap (drop (vars_size (loop_index k) k.vars)) first ∙ drop_append (vars_size (loop_index k) k.vars) vars _ (vars_many k.vars (param_scope k) (param_index k)) in
-      let third : drop (loop_start k) (types_of k) ≡ None ∷ (block_types (in_loop (var_scope k) l) l.body ++ rest) = second ∙ ap (λ o. turns_types (var_scope k) o ++ rest) loop in
+      let third : drop (loop_start k) (types_of k) ≡ None ∷ (block_types (in_loop (var_scope k) l) l.body ++ rest) = second ∙ ap (λ o. for_loop_types (var_scope k) o ++ rest) loop in
       (rest, drop_twice (loop_start k) 1 (types_of k) ∙ ap (drop 1) third)
 
   -- each read of the loop's body at a computed index
-  pub calm_body : (l : PlainLoop) → check_fault k ≡ None → k.turns ≡ Some l → CalmBlock (Calm k) (in_loop (var_scope k) l) l.body
+  pub calm_body : (l : PlainLoop) → check_fault k ≡ None → k.for_loop ≡ Some l → CalmBlock (Calm k) (in_loop (var_scope k) l) l.body
   calm_body l checked loop =
-      let all : CalmEntries k (Calm k) (turns_entries k (loop_start k) (Some l)) = subst (λ o. CalmEntries k (Calm k) (turns_entries k (loop_start k) o)) loop (calm_from [] (loop_entries k) refl) in
+      let all : CalmEntries k (Calm k) (for_loop_entries k (loop_start k) (Some l)) = subst (λ o. CalmEntries k (Calm k) (for_loop_entries k (loop_start k) o)) loop (calm_from [] (loop_entries k) refl) in
       calm_block k (Calm k) l.body (in_loop (var_scope k) l) (loop_start k + 1) (scope_index k) (body-kinds k l checked loop) (loop_types_from l loop) all.1

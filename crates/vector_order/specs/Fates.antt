@@ -8,7 +8,8 @@ use Rattle.kernel_meaning.specs.Ends.{BlockEnd, Next, Broke, Faulted}
 use Rattle.kernel_meaning.specs.Eval.{Names}
 use Rattle.kernel_meaning.specs.Iterate.{iterate}
 use Rattle.kernel_meaning.specs.ScalarRun.{started}
-use Rattle.loop_form.specs.LoopItems.{Op, Quit, Item, loop_items}
+use Rattle.loop_form.specs.LoopItems.{Op, Item, loop_items}
+use Rattle.loop_form.specs.LoopItems as ops
 use Rattle.dependence.specs.Classes.{class_of}
 use Rattle.dependence.specs.declared.reason.Class.TheVariants.{Vector}
 use Rattle.vector_order.specs.Orders.{Lane, Effect, Halts, Keeps, Writes}
@@ -21,7 +22,7 @@ pub data Cause : Type 0 where
   ByFault : Cause
 
 abbrev pub cause_of : Op → Cause
-cause_of (Quit c) = ByBreak
+cause_of (ops.Break c) = ByBreak
 cause_of _ = ByFault
 
 pub data Fate : Type 0 where
@@ -49,7 +50,7 @@ SameEnd (Broke m ns) (Ended ByBreak a) = a ≡ m
 SameEnd (Faulted m) (Ended ByFault a) = a ≡ m
 SameEnd _ _ = ⊥
 
-abbrev pub TurnIsFate : Type 0
-TurnIsFate =
-    (k : Program) (l : PlainLoop) (args : List ℕ) (start : Memory) (names cur : Names) (i : ℕ) (m : Memory) (lane : Lane) → check_fault k ≡ None → k.turns ≡ Some l → class_of k ≡ Vector → started k args start ≡ Some names → Steady k names cur
+abbrev pub IterationIsFate : Type 0
+IterationIsFate =
+    (k : Program) (l : PlainLoop) (args : List ℕ) (start : Memory) (names cur : Names) (i : ℕ) (m : Memory) (lane : Lane) → check_fault k ≡ None → k.for_loop ≡ Some l → class_of k ≡ Vector → started k args start ≡ Some names → Steady k names cur
     → SameEnd (iterate (var_scope k) l i m cur) (fate names (loop_items k l) i m lane)

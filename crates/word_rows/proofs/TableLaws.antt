@@ -14,9 +14,6 @@ use Rattle.word_rows.specs.Row.{Row, mask_of, numbers_in, takes, or_into, Instru
 min_max : (x y z : ℕ) → min (max x y) z ≡ max (min x z) (min y z)
 min_max x y z = omega arith
 
-max_max : (x y z : ℕ) → max (max x y) z ≡ max x (max y z)
-max_max x y z = omega arith
-
 pub and_or : (a b c : ℕ) → bit_and (bit_or a b) c ≡ bit_or (bit_and a c) (bit_and b c)
 and_or a b c = same_from_bits _ _ (λ i.
     bit_at_and (bit_or a b) c i ∙ ap (λ x. min x (bit_at c i)) (bit_at_or a b i) ∙ min_max (bit_at a i) (bit_at b i) (bit_at c i)

@@ -1,4 +1,4 @@
-use Rattle.first_fault.proofs.Splits as laws
+use Rattle.first_fault.proofs.BreakRegions as laws
 use Rattle.first_fault.proofs.region_splits.Goals as goal
 
 pub returns : goal.returns

@@ -7,5 +7,5 @@ use Rattle.chunk_emit.proofs.emit.put_all.Given as goal
 abbrev pub invariant-loop-word : goal.invariant-loop-word
 invariant-loop-word l = record {
   labels : l.draft.labels ≡ l.fn.draft.labels;
-  code : (rest : List plain.Entry) → l.draft.entries ++ puts (vectors (words_of (drop l.word-index l.words))) rest ≡ l.fn.draft.entries ++ puts (vectors (words_of l.words)) rest;
+  code : (rest : List plain.DraftEntry) → l.draft.entries ++ puts (vectors (words_of (drop l.word-index l.words))) rest ≡ l.fn.draft.entries ++ puts (vectors (words_of l.words)) rest;
 }

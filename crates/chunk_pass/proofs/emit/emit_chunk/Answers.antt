@@ -1,6 +1,6 @@
 use Rattle.std.proofs.Common.{List, ◌∷◌, ◌++◌, sym, ap, ◌∙◌, subst}
 use Rattle.guest_types.specs.declared.length.Width.{Width}
-use Rattle.label_fix.specs.DraftRun.{Entry, Put}
+use Rattle.label_fix.specs.DraftRun.{DraftEntry, Put}
 use Rattle.loop_form.specs.LoopItems.{Item}
 use Rattle.loop_form.specs.LoopView.{view}
 use Rattle.chunk_emit.specs.Registers.{Layout}
@@ -8,7 +8,7 @@ use Rattle.chunk_emit.specs.ChunkCode.{items_words, puts}
 use Rattle.chunk_emit.specs.View.{layout_in, width_in}
 use Rattle.chunk_emit.specs.Writable.{AreWritable}
 use Rattle.first_fault.specs.RegionCode.{exits_words}
-use Rattle.first_fault.specs.Split.{region_of, rest_of}
+use Rattle.first_fault.specs.BreakRegion.{region_of, rest_of}
 use Rattle.chunk_pass.specs.PassCode.{lanes_word, index_words, advance_word}
 use Rattle.chunk_pass.proofs.PassPuts.{chunk_puts}
 use Rattle.chunk_pass.proofs.emit.emit_chunk.Goals as goal
@@ -26,20 +26,20 @@ returns c =
     let l : Layout = layout_in c.args.layout.now in
     let items : List Item = view c.args.items.now in
     record {
-      labels = c.in_ok-put-2.ensures.labels ∙ c.in_ok-emit_items.ensures.labels ∙ c.in_ok-emit_exits.ensures.labels ∙ c.in_ok-emit_turns.ensures.labels ∙ c.in_ok-put.ensures.labels;
+      labels = c.in_ok-put-2.ensures.labels ∙ c.in_ok-emit_items.ensures.labels ∙ c.in_ok-emit_exits.ensures.labels ∙ c.in_ok-emit_loop_index.ensures.labels ∙ c.in_ok-put.ensures.labels;
       code = λ rest.
-          let last : List Entry = Put (advance_word w) ∷ rest in
-          let following : List Entry = puts (items_words w l (rest_of items)) last in
-          let read : List Entry = puts (exits_words w l (region_of items)) following in
-          let turned : List Entry = puts (index_words l) read in
+          let last : List DraftEntry = Put (advance_word w) ∷ rest in
+          let following : List DraftEntry = puts (items_words w l (rest_of items)) last in
+          let read : List DraftEntry = puts (exits_words w l (region_of items)) following in
+          let held_index_code : List DraftEntry = puts (index_words l) read in
           c.in_ok-put-2.ensures.code rest
           ∙ ap (λ x. c.emit_items.new.draft.entries ++ Put x ∷ rest) (c.advance.ensures ∙ ap advance_word c.width-2.ensures)
           ∙ c.in_ok-emit_items.ensures.code last
           ∙ ap (λ its. c.emit_exits.new.draft.entries ++ puts (items_words w l its) last) c.rest.ensures
           ∙ c.in_ok-emit_exits.ensures.code following
-          ∙ ap (λ its. c.emit_turns.new.draft.entries ++ puts (exits_words w l its) following) c.region.ensures
-          ∙ c.in_ok-emit_turns.ensures.code read
-          ∙ c.in_ok-put.ensures.code turned
-          ∙ ap (λ x. c.args.draft.now.entries ++ Put x ∷ turned) (c.lanes.ensures ∙ ap (λ v. lanes_word v c.args.bound.number) c.width.ensures)
+          ∙ ap (λ its. c.emit_loop_index.new.draft.entries ++ puts (exits_words w l its) following) c.region.ensures
+          ∙ c.in_ok-emit_loop_index.ensures.code read
+          ∙ c.in_ok-put.ensures.code held_index_code
+          ∙ ap (λ x. c.args.draft.now.entries ++ Put x ∷ held_index_code) (c.lanes.ensures ∙ ap (λ v. lanes_word v c.args.bound.number) c.width.ensures)
           ∙ ap (λ e. c.args.draft.now.entries ++ e) (sym (chunk_puts w l c.args.bound.number items rest));
     }

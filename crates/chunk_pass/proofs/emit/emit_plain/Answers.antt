@@ -1,6 +1,6 @@
 use Rattle.std.proofs.Common.{List, ◌∷◌, ◌++◌, sym, ap, ◌∙◌}
 use Rattle.guest_types.specs.declared.length.Width.{Width}
-use Rattle.label_fix.specs.DraftRun.{Entry, Put}
+use Rattle.label_fix.specs.DraftRun.{DraftEntry, Put}
 use Rattle.loop_form.specs.LoopItems.{Item}
 use Rattle.loop_form.specs.LoopView.{view}
 use Rattle.chunk_emit.specs.Registers.{Layout}
@@ -16,12 +16,12 @@ returns c =
     let l : Layout = layout_in c.args.layout.now in
     let items : List Item = view c.args.items.now in
     record {
-      labels = c.in_ok-put.ensures.labels ∙ c.in_ok-emit_items.ensures.labels ∙ c.in_ok-emit_turns.ensures.labels;
+      labels = c.in_ok-put.ensures.labels ∙ c.in_ok-emit_items.ensures.labels ∙ c.in_ok-emit_loop_index.ensures.labels;
       code = λ rest.
-          let last : List Entry = Put (advance_word w) ∷ rest in
+          let last : List DraftEntry = Put (advance_word w) ∷ rest in
           c.in_ok-put.ensures.code rest
           ∙ ap (λ x. c.emit_items.new.draft.entries ++ Put x ∷ rest) (c.advance.ensures ∙ ap advance_word c.width.ensures)
           ∙ c.in_ok-emit_items.ensures.code last
-          ∙ c.in_ok-emit_turns.ensures.code (puts (items_words w l items) last)
+          ∙ c.in_ok-emit_loop_index.ensures.code (puts (items_words w l items) last)
           ∙ ap (λ e. c.args.draft.now.entries ++ e) (sym (plain_puts w l items rest));
     }

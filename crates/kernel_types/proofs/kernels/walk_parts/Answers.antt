@@ -2,10 +2,10 @@ use Rattle.std.proofs.Common.{◌≡◌, ℕ, ◌+◌, Option, length, ap, ap₂
 use Rattle.std.proofs.lemmas.Result.{IfOk-weaker}
 use Rattle.kernel_tree.specs.declared.fault.Found.{Found}
 use Rattle.kernel_tree.specs.Plain.{parameters_of, accumulators_of, program_of}
-use Rattle.kernel_tree.specs.Items.{turns_size}
-use Rattle.kernel_tree.specs.Typing.{Scope, after_params, after_vars, after_turns, param_scope, var_scope, params_faults, sooner, least}
+use Rattle.kernel_tree.specs.Items.{for_loop_size}
+use Rattle.kernel_tree.specs.Typing.{Scope, after_params, after_vars, after_for_loop, param_scope, var_scope, params_faults, sooner, least}
 use Rattle.kernel_scope.specs.Scopes.{scope_of}
-use Rattle.kernel_types.proofs.KernelWalks.{count_params, vars_index, vars_outside, vars_room, turns_room, answer_room, vars_count, whole}
+use Rattle.kernel_types.proofs.KernelWalks.{count_params, vars_index, vars_outside, vars_room, for_loop_room, answer_room, vars_count, whole}
 use Rattle.kernel_types.proofs.kernels.walk_parts.Goals as goal
 
 pub walk_vars-requires : goal.walk_vars-requires
@@ -18,8 +18,8 @@ walk_vars-requires c =
     let d2 = ap accumulators_of c.deref-2.ensures.value in
     vars_room k (scope_of c.walk_params.new.scope) c.walk_params.new.notes.next (accumulators_of c.deref-2.result.now) s1 n1 d2 c.requires.room
 
-pub walk_turns-requires-clause-room : goal.walk_turns-requires-clause-room
-walk_turns-requires-clause-room c =
+pub walk_for_loop-requires-clause-room : goal.walk_for_loop-requires-clause-room
+walk_for_loop-requires-clause-room c =
     let k = program_of c.args.kernel.now in
     let s0 = c.requires.scope in
     let d1 = ap parameters_of c.deref.ensures.value in
@@ -27,10 +27,10 @@ walk_turns-requires-clause-room c =
     let n1 : c.walk_params.new.notes.next ≡ length k.params = c.in_ok-walk_params.ensures.next ∙ ap (λ (n : ℕ). n + length c.deref.result.now) c.requires.next ∙ count_params c.args.kernel.now.params.items c.deref.result.now c.deref.ensures.value in
     let d2 = ap accumulators_of c.deref-2.ensures.value in
     let n2 = vars_count k (scope_of c.walk_params.new.scope) c.walk_params.new.notes.next c.walk_vars.new.notes.next (accumulators_of c.deref-2.result.now) s1 n1 d2 c.in_ok-walk_vars.ensures.next in
-    turns_room k c.walk_vars.new.notes.next n2 c.requires.room
+    for_loop_room k c.walk_vars.new.notes.next n2 c.requires.room
 
-pub walk_turns-requires-clause-outside : goal.walk_turns-requires-clause-outside
-walk_turns-requires-clause-outside c =
+pub walk_for_loop-requires-clause-outside : goal.walk_for_loop-requires-clause-outside
+walk_for_loop-requires-clause-outside c =
     let k = program_of c.args.kernel.now in
     let s0 = c.requires.scope in
     let d1 = ap parameters_of c.deref.ensures.value in
@@ -39,8 +39,8 @@ walk_turns-requires-clause-outside c =
     let s2 : scope_of c.walk_vars.new.scope ≡ var_scope k = c.in_ok-walk_vars.ensures.scope ∙ ap₂ after_vars s1 d2 in
     vars_outside k (scope_of c.walk_vars.new.scope) s2
 
-pub walk_turns-requires-clause-index : goal.walk_turns-requires-clause-index
-walk_turns-requires-clause-index c =
+pub walk_for_loop-requires-clause-index : goal.walk_for_loop-requires-clause-index
+walk_for_loop-requires-clause-index c =
     let k = program_of c.args.kernel.now in
     let s0 = c.requires.scope in
     let d1 = ap parameters_of c.deref.ensures.value in
@@ -59,9 +59,9 @@ walk_answer-requires c =
     let d2 = ap accumulators_of c.deref-2.ensures.value in
     let s2 : scope_of c.walk_vars.new.scope ≡ var_scope k = c.in_ok-walk_vars.ensures.scope ∙ ap₂ after_vars s1 d2 in
     let n2 = vars_count k (scope_of c.walk_params.new.scope) c.walk_params.new.notes.next c.walk_vars.new.notes.next (accumulators_of c.deref-2.result.now) s1 n1 d2 c.in_ok-walk_vars.ensures.next in
-    let s3 : scope_of c.walk_turns.new.scope ≡ after_turns (var_scope k) k.turns = c.in_ok-walk_turns.ensures.scope ∙ ap (λ (s : Scope). after_turns s k.turns) s2 in
-    let n3 = c.in_ok-walk_turns.ensures.next ∙ ap (λ (n : ℕ). n + turns_size k.turns) n2 in
-    record { room = answer_room k (scope_of c.walk_turns.new.scope) c.walk_turns.new.notes.next s3 n3 c.requires.room }
+    let s3 : scope_of c.walk_for_loop.new.scope ≡ after_for_loop (var_scope k) k.for_loop = c.in_ok-walk_for_loop.ensures.scope ∙ ap (λ (s : Scope). after_for_loop s k.for_loop) s2 in
+    let n3 = c.in_ok-walk_for_loop.ensures.next ∙ ap (λ (n : ℕ). n + for_loop_size k.for_loop) n2 in
+    record { room = answer_room k (scope_of c.walk_for_loop.new.scope) c.walk_for_loop.new.notes.next s3 n3 c.requires.room }
 
 pub returns-clause-found : goal.returns-clause-found
 returns-clause-found c =
@@ -73,7 +73,7 @@ returns-clause-found c =
     let d2 = ap accumulators_of c.deref-2.ensures.value in
     let s2 : scope_of c.walk_vars.new.scope ≡ var_scope k = c.in_ok-walk_vars.ensures.scope ∙ ap₂ after_vars s1 d2 in
     let n2 = vars_count k (scope_of c.walk_params.new.scope) c.walk_params.new.notes.next c.walk_vars.new.notes.next (accumulators_of c.deref-2.result.now) s1 n1 d2 c.in_ok-walk_vars.ensures.next in
-    let s3 : scope_of c.walk_turns.new.scope ≡ after_turns (var_scope k) k.turns = c.in_ok-walk_turns.ensures.scope ∙ ap (λ (s : Scope). after_turns s k.turns) s2 in
-    let n3 = c.in_ok-walk_turns.ensures.next ∙ ap (λ (n : ℕ). n + turns_size k.turns) n2 in
+    let s3 : scope_of c.walk_for_loop.new.scope ≡ after_for_loop (var_scope k) k.for_loop = c.in_ok-walk_for_loop.ensures.scope ∙ ap (λ (s : Scope). after_for_loop s k.for_loop) s2 in
+    let n3 = c.in_ok-walk_for_loop.ensures.next ∙ ap (λ (n : ℕ). n + for_loop_size k.for_loop) n2 in
     let found = c.in_ok-walk_params.ensures.found ∙ ap₂ (λ (o : Option Found) (n : ℕ). sooner o (least (params_faults (scope_of c.args.scope.now) n (parameters_of c.deref.result.now)))) c.requires.found c.requires.next in
-    IfOk-weaker c.walk_answer.result _ _ (λ _ h. whole k _ (scope_of c.walk_params.new.scope) (scope_of c.walk_vars.new.scope) (scope_of c.walk_turns.new.scope) c.walk_params.new.notes.next c.walk_vars.new.notes.next c.walk_turns.new.notes.next (parameters_of c.deref.result.now) (accumulators_of c.deref-2.result.now) c.walk_params.new.notes.found c.walk_vars.new.notes.found c.walk_turns.new.notes.found c.walk_answer.new.notes.found s0 d1 found s1 n1 d2 c.in_ok-walk_vars.ensures.found s2 n2 c.in_ok-walk_turns.ensures.found s3 n3 h) c.walk_answer.ensures.found
+    IfOk-weaker c.walk_answer.result _ _ (λ _ h. whole k _ (scope_of c.walk_params.new.scope) (scope_of c.walk_vars.new.scope) (scope_of c.walk_for_loop.new.scope) c.walk_params.new.notes.next c.walk_vars.new.notes.next c.walk_for_loop.new.notes.next (parameters_of c.deref.result.now) (accumulators_of c.deref-2.result.now) c.walk_params.new.notes.found c.walk_vars.new.notes.found c.walk_for_loop.new.notes.found c.walk_answer.new.notes.found s0 d1 found s1 n1 d2 c.in_ok-walk_vars.ensures.found s2 n2 c.in_ok-walk_for_loop.ensures.found s3 n3 h) c.walk_answer.ensures.found

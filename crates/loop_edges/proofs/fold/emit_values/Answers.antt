@@ -2,7 +2,7 @@ use Rattle.std.proofs.Common.{◌≡◌, ℕ, suc, ◌+◌, ◌<◌, List, ◌++
 use Rattle.std.specs.Prelude.{slice_index}
 use Rattle.std.proofs.Math.Seq.{drop-cons}
 use Rattle.kernel_tree.specs.Plain.{Program}
-use Rattle.label_fix.specs.DraftRun.{Entry}
+use Rattle.label_fix.specs.DraftRun.{DraftEntry}
 use Rattle.reg_assign.specs.Registers.{Assignment}
 use Rattle.loop_form.specs.declared.held_throughout.Held.{Held}
 use Rattle.loop_form.specs.HeldView.{view_of, view}
@@ -12,8 +12,8 @@ use Rattle.loop_edges.specs.EdgeCode.{fold_one, folds_code}
 use Rattle.loop_edges.proofs.fold.emit_values.Goals as goal
 
 -- one value more
-value_more : (R : ℕ → ℕ) (k : Program) (a : Assignment) (vs : List Held) (i p n : ℕ) (d : Held) (old new : List Entry) → i < length vs → n ≡ slice_index a.registers p
-    → ((rest : List Entry) → new ++ rest ≡ old ++ fold_one R k n (view_of (get_or vs i d)) rest) → (rest : List Entry) → new ++ folds_code R k a (p + 1) (view (drop (i + 1) vs)) rest ≡ old ++ folds_code R k a p (view (drop i vs)) rest
+value_more : (R : ℕ → ℕ) (k : Program) (a : Assignment) (vs : List Held) (i p n : ℕ) (d : Held) (old new : List DraftEntry) → i < length vs → n ≡ slice_index a.registers p
+    → ((rest : List DraftEntry) → new ++ rest ≡ old ++ fold_one R k n (view_of (get_or vs i d)) rest) → (rest : List DraftEntry) → new ++ folds_code R k a (p + 1) (view (drop (i + 1) vs)) rest ≡ old ++ folds_code R k a p (view (drop i vs)) rest
 value_more R k a vs i p n d old new lt e code rest =
     let v = view_of (get_or vs i d) in
     let place : p + 1 ≡ suc p = omega arith in

@@ -6,5 +6,5 @@ pub returns : goal.returns
 returns c = record {
   labels = c.in_ok-put.ensures.labels ∙ c.in_ok-emit_const.ensures.labels;
   code = λ rest.
-      c.in_ok-put.ensures.code rest ∙ ap (λ i. c.emit_const.new.draft.entries ++ Put i ∷ rest) c.spread.ensures ∙ c.in_ok-emit_const.ensures.code _;
+      c.in_ok-put.ensures.code rest ∙ ap (λ i. c.emit_const.new.draft.entries ++ Put i ∷ rest) c.broadcast.ensures ∙ c.in_ok-emit_const.ensures.code _;
 }

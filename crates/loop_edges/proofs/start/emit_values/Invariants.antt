@@ -1,5 +1,5 @@
 use Rattle.std.proofs.Common.{◌≡◌, List, ◌++◌, drop}
-use Rattle.label_fix.specs.DraftRun.{Entry}
+use Rattle.label_fix.specs.DraftRun.{DraftEntry}
 use Rattle.loop_form.specs.HeldView.{view}
 use Rattle.loop_form.specs.View.{program}
 use Rattle.loop_edges.specs.EdgeCode.{holds_code}
@@ -9,5 +9,5 @@ abbrev pub invariant-loop-value : goal.invariant-loop-value
 invariant-loop-value l = record {
   place : l.place ≡ l.value-index;
   labels : l.draft.labels ≡ l.fn.draft.labels;
-  code : (rest : List Entry) → l.draft.entries ++ holds_code (program l.facts.kernel.now) l.regs l.place (view (drop l.value-index l.values)) rest ≡ l.fn.draft.entries ++ holds_code (program l.facts.kernel.now) l.regs 0 (view l.values) rest;
+  code : (rest : List DraftEntry) → l.draft.entries ++ holds_code (program l.facts.kernel.now) l.regs l.place (view (drop l.value-index l.values)) rest ≡ l.fn.draft.entries ++ holds_code (program l.facts.kernel.now) l.regs 0 (view l.values) rest;
 }

@@ -3,10 +3,10 @@ use Rattle.kernel_tree.specs.declared.ast.Kernel.{Kernel}
 use Rattle.kernel_tree.specs.declared.ast.Param.{Param}
 use Rattle.kernel_tree.specs.declared.ast.Var.{Var}
 use Rattle.kernel_tree.specs.declared.fault.Binding.TheVariants as binding
-use Rattle.kernel_tree.specs.Plain.{parameters_of, accumulators_of, turns_of}
+use Rattle.kernel_tree.specs.Plain.{parameters_of, accumulators_of, for_loop_of}
 use Rattle.kernel_tree.specs.Typing.{local}
 use Rattle.kernel_tree.specs.Scopes.{param_local, var_local}
-use Rattle.loop_form.specs.declared.loop_item.Source.TheVariants.{LoopIndex}
+use Rattle.loop_form.specs.declared.loop_item.Operand.TheVariants.{LoopIndex}
 use Rattle.loop_form.specs.LoopItems.{bound}
 use Rattle.loop_form.specs.View.{program}
 use Rattle.loop_form.proofs.LoopLists.{loop-head, adds-same}
@@ -16,7 +16,7 @@ pub returns : goal.returns
 unfolding program
 returns c =
     let k = program c.args.kernel.now in
-    loop-head k (turns_of c.args.turns.now) c.add_params.new.names.items c.add_vars.new.names.items c.push.new.self.items _
+    loop-head k (for_loop_of c.args.for_loop.now) c.add_params.new.names.items c.add_vars.new.names.items c.push.new.self.items _
     (adds-same _ _ _ _ _ (ap (λ (ps : List Param). map param_local (parameters_of ps)) (c.deref.ensures.value ∙ ap (λ (t : Kernel). t.params.items) c.kernel-tree.ensures)) c.new-names.ensures.items c.in_ok-add_params.ensures)
     (adds-same _ _ _ _ _ (ap (λ (vs : List Var). map var_local (accumulators_of vs)) (c.deref-2.ensures.value ∙ ap (λ (t : Kernel). t.vars.items) c.kernel-tree.ensures)) refl c.in_ok-add_vars.ensures)
     c.in_ok-push.ensures.items

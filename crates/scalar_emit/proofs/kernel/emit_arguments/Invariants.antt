@@ -8,5 +8,5 @@ abbrev pub invariant-loop-param : goal.invariant-loop-param
 invariant-loop-param l = record {
   place : l.place ≡ l.param-index;
   labels : l.draft.labels ≡ l.fn.draft.labels;
-  code : (rest : List plain.Entry) → l.draft.entries ++ kernels.arguments_code l.place (parameters_of (drop l.param-index l.params)) rest ≡ l.fn.draft.entries ++ kernels.arguments_code 0 (parameters_of l.params) rest;
+  code : (rest : List plain.DraftEntry) → l.draft.entries ++ kernels.arguments_code l.place (parameters_of (drop l.param-index l.params)) rest ≡ l.fn.draft.entries ++ kernels.arguments_code 0 (parameters_of l.params) rest;
 }

@@ -5,7 +5,7 @@ use Rattle.kernel_tree.specs.Plain.{parameters_of, accumulators_of, program_of}
 use Rattle.kernel_tree.specs.Items.{loop_index}
 use Rattle.kernel_tree.specs.Typing.{Scope, empty, after_params}
 use Rattle.kernel_scope.specs.Scopes.{scope_of}
-use Rattle.label_fix.specs.DraftRun.{Entry, Put}
+use Rattle.label_fix.specs.DraftRun.{DraftEntry, Put}
 use Rattle.scalar_words.specs.KernelRegisters.{register_in, param_homes}
 use Rattle.scalar_emit.specs.Kernel.{zero_index}
 use Rattle.scalar_words.specs.View.{homes_of}
@@ -27,7 +27,7 @@ returns c =
       code = λ rest. c.in_ok-put.ensures.code rest ∙ ap (λ (w : Listed). c.emit_vars.new.draft.entries ++ Put w ∷ rest) c.small.ensures
           ∙ c.in_ok-emit_vars.ensures.code (zero_index rest)
           ∙ c.in_ok-emit_arguments.ensures.code _
-          ∙ ap (λ (l : List Entry). c.args.draft.now.entries ++ l)
+          ∙ ap (λ (l : List DraftEntry). c.args.draft.now.entries ++ l)
           (begin_is R k c.args.places.now (homes_of c.declare_params.new.homes.items) (scope_of c.declare_params.new.scope) c.len-first.result c.emit_arguments.new.draft.labels c.args.draft.now.labels (parameters_of c.deref-2.result.now) (accumulators_of c.deref-3.result.now) rest
           c.requires.places homes scope first c.in_ok-emit_arguments.ensures.labels (ap parameters_of c.deref-2.ensures.value) (ap accumulators_of c.deref-3.ensures.value));
     }

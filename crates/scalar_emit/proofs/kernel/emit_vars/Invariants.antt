@@ -16,5 +16,5 @@ invariant-loop-var l = record {
   kinds : VarsKinds (accumulators_of (drop l.var-index l.vars));
   item : l.next + vars_size (scope_of l.scope).index (accumulators_of (drop l.var-index l.vars)) ≡ l.fn.item + vars_size (scope_of l.fn.scope).index (accumulators_of l.vars);
   labels : l.draft.labels + kernels.vars_labels (scope_of l.scope).index (accumulators_of (drop l.var-index l.vars)) ≡ l.fn.draft.labels + kernels.vars_labels (scope_of l.fn.scope).index (accumulators_of l.vars);
-  code : (rest : List plain.Entry) → l.draft.entries ++ kernels.vars_code l.places (registers.register_in l.regs) (homes_of l.homes.items) (scope_of l.scope) l.place l.next l.draft.labels (accumulators_of (drop l.var-index l.vars)) rest ≡ l.fn.draft.entries ++ kernels.vars_code l.places (registers.register_in l.regs) (homes_of l.fn.homes.items) (scope_of l.fn.scope) 0 l.fn.item l.fn.draft.labels (accumulators_of l.vars) rest;
+  code : (rest : List plain.DraftEntry) → l.draft.entries ++ kernels.vars_code l.places (registers.register_in l.regs) (homes_of l.homes.items) (scope_of l.scope) l.place l.next l.draft.labels (accumulators_of (drop l.var-index l.vars)) rest ≡ l.fn.draft.entries ++ kernels.vars_code l.places (registers.register_in l.regs) (homes_of l.fn.homes.items) (scope_of l.fn.scope) 0 l.fn.item l.fn.draft.labels (accumulators_of l.vars) rest;
 }

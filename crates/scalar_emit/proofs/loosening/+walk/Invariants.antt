@@ -10,7 +10,7 @@ use Rattle.scalar_emit.proofs.loosening.+walk.Given as goal
 abbrev pub invariant-loosen_block-loop-stmt : goal.invariant-loosen_block-loop-stmt
 invariant-loosen_block-loop-stmt l = record {
   depth : block_depth (block_of (drop l.stmt-index l.block)) ≤ block_depth (block_of l.block);
-  loose : loosening.loosen_block (scope_of l.scope) (block_of l.turns.body.items) (block_of (drop l.stmt-index l.block)) (looses_of l.loose.items) ≡ loosening.loosen_block (scope_of l.scope) (block_of l.turns.body.items) (block_of l.block) (looses_of l.fn.loose.items);
+  loose : loosening.loosen_block (scope_of l.scope) (block_of l.for_loop.body.items) (block_of (drop l.stmt-index l.block)) (looses_of l.loose.items) ≡ loosening.loosen_block (scope_of l.scope) (block_of l.for_loop.body.items) (block_of l.block) (looses_of l.fn.loose.items);
 }
 
 -- a block stands above its statements

@@ -1,5 +1,5 @@
 use Rattle.std.proofs.Common.{◌+◌, List, ◌++◌, drop, ap, ◌∙◌}
-use Rattle.label_fix.specs.DraftRun.{Entry}
+use Rattle.label_fix.specs.DraftRun.{DraftEntry}
 use Rattle.loop_form.proofs.LoopLists.{next-entry}
 use Rattle.scalar_words.specs.View.{constants_of}
 use Rattle.scalar_emit.specs.Loop.{numbers_code}
@@ -15,6 +15,6 @@ loop-constant-preserved c =
     record {
       labels = c.in_ok-emit_key.ensures.labels ∙ l.invariant.labels;
       code = λ rest. c.in_ok-emit_key.ensures.code (numbers_code (constants_of more) rest)
-          ∙ ap (λ (es : List Entry). l.draft.entries ++ es) (number_step (drop l.constant-index cs) more c.constant-item.result rest e)
+          ∙ ap (λ (es : List DraftEntry). l.draft.entries ++ es) (number_step (drop l.constant-index cs) more c.constant-item.result rest e)
           ∙ l.invariant.code rest;
     }

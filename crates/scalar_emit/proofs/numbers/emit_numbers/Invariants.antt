@@ -7,5 +7,5 @@ use Rattle.scalar_emit.proofs.numbers.emit_numbers.Given as goal
 abbrev pub invariant-loop-constant : goal.invariant-loop-constant
 invariant-loop-constant l = record {
   labels : l.draft.labels ≡ l.fn.draft.labels;
-  code : (rest : List plain.Entry) → l.draft.entries ++ numbers_code (constants_of (drop l.constant-index l.constants)) rest ≡ l.fn.draft.entries ++ numbers_code (constants_of l.constants) rest;
+  code : (rest : List plain.DraftEntry) → l.draft.entries ++ numbers_code (constants_of (drop l.constant-index l.constants)) rest ≡ l.fn.draft.entries ++ numbers_code (constants_of l.constants) rest;
 }

@@ -1,7 +1,7 @@
 use Rattle.std.proofs.Common.{List, ◌++◌, refl, ap, ◌∙◌}
 use Rattle.kernel_tree.specs.Plain.{name_of, term_of}
 use Rattle.kernel_scope.specs.Scopes.{scope_of}
-use Rattle.label_fix.specs.DraftRun.{Entry}
+use Rattle.label_fix.specs.DraftRun.{DraftEntry}
 use Rattle.scalar_words.specs.View.{homes_of}
 use Rattle.scalar_values.specs.Sides.{side_view}
 use Rattle.scalar_values.specs.declared.extent.Extent.{Extent}
@@ -22,7 +22,7 @@ returns-clause-emits c =
       labels = c.in_ok-want_operator.ensures.labels ∙ c.in_ok-side.ensures.emits.labels;
       code = λ rest. c.in_ok-want_operator.ensures.code rest
           ∙ c.in_ok-side.ensures.emits.code _
-          ∙ ap (λ (l : List Entry). c.args.draft.now.entries ++ l)
+          ∙ ap (λ (l : List DraftEntry). c.args.draft.now.entries ++ l)
           (update_is L (homes_of c.args.homes.now) (scope_of c.args.scope.now) c.args.item.now c.args.draft.now.labels x c.args.op c.args.want c.binary_extent-extent.result (term_of c.args.value.now) (side_view c.in_ok-side.side) c.settles-leaves.result c.register_at-register.result.number rest
           extent c.in_ok-side.ensures.side leaves c.register_at-register.ensures);
     }

@@ -3,7 +3,7 @@ use Rattle.std.specs.Prelude.{IsTrue, is_some}
 use Rattle.circular_buffer.specs.Buffer.{keep_last}
 use Rattle.machine_model.specs.declared.outcome.Ending.{Ending}
 use Rattle.machine_model.specs.Debugged.{Past}
-use Rattle.sve_debug.specs.Held.{held_by}
+use Rattle.sve_debug.specs.DebuggerState.{held_by}
 use Rattle.sve_debug.specs.Reaches.{ReachesCounted}
 use Rattle.sve_debug.proofs.Runs.{is_over}
 use Rattle.sve_debug.proofs.Kept.{counted_first, counted_end, counted_over_end, counted_on, twins_noted, some_noted}

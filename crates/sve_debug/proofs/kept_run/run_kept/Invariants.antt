@@ -2,7 +2,7 @@ use Rattle.std.proofs.Common.{◌≡◌, ℕ, ◌+◌, ◌<◌, ◌≤◌, List,
 use Rattle.std.specs.Prelude.{IsTrue}
 use Rattle.std.specs.List.{All}
 use Rattle.machine_model.specs.Machine.{State}
-use Rattle.sve_debug.specs.Held.{Stands, IsTwin, held_by}
+use Rattle.sve_debug.specs.DebuggerState.{Stands, IsTwin, held_by}
 use Rattle.sve_debug.specs.Reaches.{ReachesCounted}
 use Rattle.sve_debug.specs.Replies.{Session}
 use Rattle.sve_debug.proofs.kept_run.run_kept.Given as goal

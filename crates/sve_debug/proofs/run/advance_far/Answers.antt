@@ -2,7 +2,7 @@ use Rattle.std.proofs.Common.{rules, ◌≡◌, ℕ, ◌+◌, ◌-◌, ◌<◌, 
 use Rattle.std.specs.Prelude.{is_some, is_none}
 use Rattle.machine_model.specs.declared.outcome.Ending.{Ending}
 use Rattle.circular_buffer.specs.Buffer.{keep_last}
-use Rattle.sve_debug.specs.Held.{held_by}
+use Rattle.sve_debug.specs.DebuggerState.{held_by}
 use Rattle.sve_debug.specs.Reaches.{Reaches}
 use Rattle.sve_debug.specs.Replies.{is_break}
 use Rattle.sve_debug.proofs.Runs.{counted_by, counted_is, shows_counted, kept_by, stood_on, told, reaches_now, reaches_first, reaches_next, reaches_break, reaches_last}

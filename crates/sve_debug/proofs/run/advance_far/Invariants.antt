@@ -2,7 +2,7 @@ use Rattle.std.proofs.Common.{◌≡◌, ℕ, ◌+◌, ◌-◌, ◌++◌, List, 
 use Rattle.std.specs.Prelude.{IsTrue}
 use Rattle.circular_buffer.specs.Buffer.{keep_last}
 use Rattle.machine_model.specs.Machine.{State}
-use Rattle.sve_debug.specs.Held.{Shows, held_by}
+use Rattle.sve_debug.specs.DebuggerState.{Shows, held_by}
 use Rattle.sve_debug.specs.Reaches.{Reaches}
 use Rattle.sve_debug.specs.Replies.{Session}
 use Rattle.sve_debug.proofs.Runs.{counted_by}

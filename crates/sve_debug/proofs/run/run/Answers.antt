@@ -2,7 +2,7 @@ use Rattle.std.proofs.Common.{◌≡◌, [], ◌++◌, Option, None, Some, true,
 use Rattle.std.specs.Prelude.{is_some}
 use Rattle.circular_buffer.specs.Buffer.{keep_last}
 use Rattle.machine_model.specs.declared.outcome.Ending.{Ending}
-use Rattle.sve_debug.specs.Held.{held_by}
+use Rattle.sve_debug.specs.DebuggerState.{held_by}
 use Rattle.sve_debug.specs.Reaches.{Reaches}
 use Rattle.sve_debug.proofs.Runs.{stands_over, reaches_first, reaches_on, reaches_end}
 use Rattle.sve_debug.proofs.run.run.Goals as goal

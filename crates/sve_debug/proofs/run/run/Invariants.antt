@@ -1,7 +1,7 @@
 use Rattle.std.proofs.Common.{◌≡◌, ℕ, ◌+◌, ◌<◌, ◌≤◌, List, [], None}
 use Rattle.std.specs.Prelude.{IsTrue}
 use Rattle.machine_model.specs.Machine.{State}
-use Rattle.sve_debug.specs.Held.{Shows, held_by}
+use Rattle.sve_debug.specs.DebuggerState.{Shows, held_by}
 use Rattle.sve_debug.specs.Reaches.{Reaches}
 use Rattle.sve_debug.specs.Replies.{Session}
 use Rattle.sve_debug.proofs.run.run.Given as goal

@@ -33,9 +33,9 @@ returns-in_err-on-clause-told g c start d h =
     subst (λ b. IfSome input (λ (bytes : List ℕ). b ≡ slice_get bytes 0)) c.in-Some.is c.in_ok-byte.ensures.byte in
     let test = c.loop-taken-test.true in
     let inside : c.loop-taken.taken + 1 ≤ most_input = omega (arith, limit, test) in
-    if_some (g.I.Source.left c.args.input.now) (λ (bytes : List ℕ). Tells (taken c.args.out.now) (taken c.turn.new.out) (session_text d bytes) c.from_residual-in_err-on.result)
-    (λ bytes is. under_cut c.loop-taken.debugger c.turn.new.debugger start d (take most_input bytes) c.loop-taken.line.items most_input c.loop-taken.taken c.in-Some.byte input (taken c.args.out.now) (taken c.loop-taken.out) (taken c.turn.new.out) c.turn.result c.from_residual-in_err-on.result inside c.loop-taken.invariant.pending next c.from_residual-in_err-on.ensures.0
-    (record { stands = c.turn.ensures.session start; told = c.turn.ensures.told start })
+    if_some (g.I.Source.left c.args.input.now) (λ (bytes : List ℕ). Tells (taken c.args.out.now) (taken c.answer_byte.new.out) (session_text d bytes) c.from_residual-in_err-on.result)
+    (λ bytes is. under_cut c.loop-taken.debugger c.answer_byte.new.debugger start d (take most_input bytes) c.loop-taken.line.items most_input c.loop-taken.taken c.in-Some.byte input (taken c.args.out.now) (taken c.loop-taken.out) (taken c.answer_byte.new.out) c.answer_byte.result c.from_residual-in_err-on.result inside c.loop-taken.invariant.pending next c.from_residual-in_err-on.ensures.0
+    (record { stands = c.answer_byte.ensures.session start; told = c.answer_byte.ensures.told start })
     (c.loop-taken.invariant.session start d h bytes is))
 
 pub returns-then-not-on-clause-told : goal.returns-then-not-on-clause-told
@@ -46,9 +46,9 @@ returns-then-not-on-clause-told g c start d h =
     subst (λ b. IfSome input (λ (bytes : List ℕ). b ≡ slice_get bytes 0)) c.in-Some.is c.in_ok-byte.ensures.byte in
     let test = c.loop-taken-test.true in
     let inside : c.loop-taken.taken + 1 ≤ most_input = omega (arith, limit, test) in
-    if_some (g.I.Source.left c.args.input.now) (λ (bytes : List ℕ). Tells {T = Unit {0}} (taken c.args.out.now) (taken c.turn.new.out) (session_text d bytes) (Ok tt))
-    (λ bytes is. under_quit {T = Unit {0}} c.loop-taken.debugger c.turn.new.debugger start d (take most_input bytes) c.loop-taken.line.items most_input c.loop-taken.taken c.in-Some.byte c.in_ok-on.on input (taken c.args.out.now) (taken c.loop-taken.out) (taken c.turn.new.out) tt inside c.loop-taken.invariant.pending next c.if-not-on.true c.in_ok-on.ensures.goes_on
-    (record { stands = c.turn.ensures.session start; told = c.in_ok-on.ensures.told start })
+    if_some (g.I.Source.left c.args.input.now) (λ (bytes : List ℕ). Tells {T = Unit {0}} (taken c.args.out.now) (taken c.answer_byte.new.out) (session_text d bytes) (Ok tt))
+    (λ bytes is. under_quit {T = Unit {0}} c.loop-taken.debugger c.answer_byte.new.debugger start d (take most_input bytes) c.loop-taken.line.items most_input c.loop-taken.taken c.in-Some.byte c.in_ok-on.on input (taken c.args.out.now) (taken c.loop-taken.out) (taken c.answer_byte.new.out) tt inside c.loop-taken.invariant.pending next c.if-not-on.true c.in_ok-on.ensures.goes_on
+    (record { stands = c.answer_byte.ensures.session start; told = c.in_ok-on.ensures.told start })
     (c.loop-taken.invariant.session start d h bytes is))
 
 pub loop-taken-init : goal.loop-taken-init
@@ -76,23 +76,23 @@ loop-taken-preserved g c =
     let test = c.loop-taken-test.true in
     let inside : c.loop-taken.taken + 1 ≤ most_input = omega (arith, limit, test) in
     let steps = c.loop-taken.invariant.steps in
-    let more = c.turn.ensures.steps in
+    let more = c.answer_byte.ensures.steps in
     let later = c.loop-taken.invariant.later in
-    let out_later = c.turn.ensures.later in
+    let out_later = c.answer_byte.ensures.later in
     let input_later = c.loop-taken.invariant.input_later in
     let next_later = c.next.ensures.later in
     record {
-      pending = pends c.loop-taken.line.items c.turn.new.line.items c.in-Some.byte c.in_ok-on.ensures.line c.loop-taken.invariant.pending;
+      pending = pends c.loop-taken.line.items c.answer_byte.new.line.items c.in-Some.byte c.in_ok-on.ensures.line c.loop-taken.invariant.pending;
       steps = omega (arith, steps, more);
       later = omega (arith, later, out_later);
       input_later = omega (arith, input_later, next_later);
       session = λ start d h bytes is.
-          under_next c.loop-taken.debugger c.turn.new.debugger start d (take most_input bytes) c.loop-taken.line.items c.turn.new.line.items most_input c.loop-taken.taken c.in-Some.byte c.in_ok-on.on input (g.I.Source.left c.next.new.input) (taken c.args.out.now) (taken c.loop-taken.out) (taken c.turn.new.out) inside c.loop-taken.invariant.pending next c.in_ok-byte.ensures.left c.in_ok-on.ensures.line c.if-not-on.false c.in_ok-on.ensures.goes_on
-          (record { stands = c.turn.ensures.session start; told = c.in_ok-on.ensures.told start })
+          under_next c.loop-taken.debugger c.answer_byte.new.debugger start d (take most_input bytes) c.loop-taken.line.items c.answer_byte.new.line.items most_input c.loop-taken.taken c.in-Some.byte c.in_ok-on.on input (g.I.Source.left c.next.new.input) (taken c.args.out.now) (taken c.loop-taken.out) (taken c.answer_byte.new.out) inside c.loop-taken.invariant.pending next c.in_ok-byte.ensures.left c.in_ok-on.ensures.line c.if-not-on.false c.in_ok-on.ensures.goes_on
+          (record { stands = c.answer_byte.ensures.session start; told = c.in_ok-on.ensures.told start })
           (c.loop-taken.invariant.session start d h bytes is);
       answered = λ start d h bytes is.
-          so_far_next c.loop-taken.debugger c.turn.new.debugger start d bytes c.loop-taken.line.items c.turn.new.line.items c.in-Some.byte c.in_ok-on.on input (g.I.Source.left c.next.new.input) (taken c.args.out.now) (taken c.loop-taken.out) (taken c.turn.new.out) c.loop-taken.invariant.pending next c.in_ok-byte.ensures.left c.in_ok-on.ensures.line c.if-not-on.false c.in_ok-on.ensures.goes_on
-          (record { stands = c.turn.ensures.session start; told = c.in_ok-on.ensures.told start })
+          so_far_next c.loop-taken.debugger c.answer_byte.new.debugger start d bytes c.loop-taken.line.items c.answer_byte.new.line.items c.in-Some.byte c.in_ok-on.on input (g.I.Source.left c.next.new.input) (taken c.args.out.now) (taken c.loop-taken.out) (taken c.answer_byte.new.out) c.loop-taken.invariant.pending next c.in_ok-byte.ensures.left c.in_ok-on.ensures.line c.if-not-on.false c.in_ok-on.ensures.goes_on
+          (record { stands = c.answer_byte.ensures.session start; told = c.in_ok-on.ensures.told start })
           (c.loop-taken.invariant.answered start d h bytes is);
     }
 

@@ -1,6 +1,6 @@
 use Rattle.std.proofs.Common.{◌≡◌, ℕ, ◌-◌, ◌*◌, ◌≤◌, List, Some, take}
 use Rattle.machine_model.specs.Machine.{State}
-use Rattle.sve_debug.specs.Held.{Stands}
+use Rattle.sve_debug.specs.DebuggerState.{Stands}
 use Rattle.sve_debug.specs.Replies.{Session}
 use Rattle.sve_debug.specs.Sessions.{most_input}
 use Rattle.sve_debug.proofs.Answered.{SoFar}

@@ -2,7 +2,7 @@ use Rattle.std.proofs.Common.{◌∙◌, ap, ap₂, refl, rules, pos}
 use Rattle.std.specs.Prelude.{◌-ℤ◌, neg_ℤ, FitsSigned}
 use Rattle.std.specs.Int.{int_max, w128}
 use Rattle.std.proofs.lemmas.Int.{to_z-of_z}
-use Rattle.value_bounds.proofs.Cuts.{in_type_of, cut, cut_of, negative, max_cut_one}
+use Rattle.value_bounds.proofs.SaturatedBounds.{in_type_of, cut, cut_of, negative, max_cut_one}
 use Rattle.value_bounds.proofs.operators.absolute.Goals as goal
 
 pub returns : goal.returns

@@ -1,6 +1,6 @@
 use Rattle.std.proofs.Common.{◌∙◌, ap, rules, pos}
 use Rattle.std.specs.Prelude.{◌-ℤ◌, neg_ℤ}
-use Rattle.value_bounds.proofs.Cuts.{in_type_of, cut, cut_of, negative}
+use Rattle.value_bounds.proofs.SaturatedBounds.{in_type_of, cut, cut_of, negative}
 use Rattle.value_bounds.proofs.operators.negated.Goals as goal
 
 pub returns : goal.returns

@@ -1,7 +1,7 @@
 use Rattle.std.proofs.Common.{◌∙◌, rules}
 use Rattle.std.specs.Prelude.{◌*ℤ◌}
 use Rattle.std.specs.Int.{int_min, int_max}
-use Rattle.value_bounds.proofs.Cuts.{in_type_of, cut_of, least_cut, greatest_cut}
+use Rattle.value_bounds.proofs.SaturatedBounds.{in_type_of, cut_of, least_cut, greatest_cut}
 use Rattle.value_bounds.proofs.operators.product.Goals as goal
 
 pub returns : goal.returns

@@ -1,6 +1,6 @@
 use Rattle.std.proofs.Common.{◌∙◌, rules}
 use Rattle.std.specs.Prelude.{◌+ℤ◌}
-use Rattle.value_bounds.proofs.Cuts.{in_type_of, cut_of}
+use Rattle.value_bounds.proofs.SaturatedBounds.{in_type_of, cut_of}
 use Rattle.value_bounds.proofs.operators.sum.Goals as goal
 
 pub returns : goal.returns

@@ -9,7 +9,7 @@ use Rattle.loop_form.specs.LoopView.{view}
 use Rattle.loop_form.specs.View.{program}
 use Rattle.lane_emit.specs.RegistersView.{vectors_in, predicates_in}
 use Rattle.chunk_emit.specs.Writable.{AreWritable}
-use Rattle.first_fault.specs.Split.{is_quit, region_of, rest_of}
+use Rattle.first_fault.specs.BreakRegion.{is_loop_break, region_of, rest_of}
 use Rattle.vector_emit.specs.VectorCode.{passes_by}
 use Rattle.vector_emit.proofs.passes.emit_passes.Goals as goal
 
@@ -45,7 +45,7 @@ returns c =
       labels = c.in_ok-emit_by.ensures.labels;
       code = λ rest.
           c.in_ok-emit_by.ensures.code rest
-          ∙ ap (λ its. c.args.draft.now.entries ++ passes_by (list_any is_quit its) (program r.facts.now.kernel.now) (vectors_in r) (predicates_in r) its n rest) items
-          ∙ ap (λ p. c.args.draft.now.entries ++ passes_by (list_any is_quit (loop_items_of k)) p (vectors_in r) (predicates_in r) (loop_items_of k) n rest) same
-          ∙ ap (λ (v : VectorRegs). c.args.draft.now.entries ++ passes_by (list_any is_quit (loop_items_of k)) k v.z v.p (loop_items_of k) n rest) c.loop_layout-layout.ensures.regs;
+          ∙ ap (λ its. c.args.draft.now.entries ++ passes_by (list_any is_loop_break its) (program r.facts.now.kernel.now) (vectors_in r) (predicates_in r) its n rest) items
+          ∙ ap (λ p. c.args.draft.now.entries ++ passes_by (list_any is_loop_break (loop_items_of k)) p (vectors_in r) (predicates_in r) (loop_items_of k) n rest) same
+          ∙ ap (λ (v : VectorRegs). c.args.draft.now.entries ++ passes_by (list_any is_loop_break (loop_items_of k)) k v.z v.p (loop_items_of k) n rest) c.loop_layout-layout.ensures.regs;
     }

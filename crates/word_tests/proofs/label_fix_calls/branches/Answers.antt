@@ -1,15 +1,15 @@
 use Rattle.std.proofs.Common.{◌≡◌, ◌+◌, ◌≤◌, List, [], ◌∷◌, ◌++◌, ap, arith}
-use Rattle.label_fix.specs.DraftRun.{Entry, Put, Branch, Place}
+use Rattle.label_fix.specs.DraftRun.{DraftEntry, Put, Branch, Place}
 use Rattle.label_fix.specs.Finished.{size}
 use Rattle.label_fix.proofs.PlacedRuns.{size-append}
 use Rattle.word_tests.proofs.label_fix_calls.branches.Goals as goal
 
-one : (e : Entry) → size (e ∷ []) ≤ 1
+one : (e : DraftEntry) → size (e ∷ []) ≤ 1
 one (Put i) = omega arith
 one (Branch k l) = omega arith
 one (Place l) = omega arith
 
-more : (new old : List Entry) (e : Entry) → ((rest : List Entry) → new ++ rest ≡ old ++ e ∷ rest) → size new ≤ size old + 1
+more : (new old : List DraftEntry) (e : DraftEntry) → ((rest : List DraftEntry) → new ++ rest ≡ old ++ e ∷ rest) → size new ≤ size old + 1
 more new old e h = let a = ap size (h []) in omega (arith, a, size-append new [], size-append old (e ∷ []), one e)
 
 pub finish-requires : goal.finish-requires

@@ -2,7 +2,7 @@ use Rattle.std.proofs.Common.{◌≡◌, ◌-◌, ◌<◌, ◌≤◌, length, fa
 use Rattle.std.specs.List.{All}
 use Rattle.debug_history.specs.Kept.{IsLast}
 use Rattle.machine_model.specs.Debugged.{now}
-use Rattle.sve_debug.specs.Held.{Stands, Shows, IsTwin, held_by}
+use Rattle.sve_debug.specs.DebuggerState.{Stands, Shows, IsTwin, held_by}
 use Rattle.sve_debug.specs.Replies.{is_too_far}
 use Rattle.sve_debug.proofs.Kept.{back_is, back_twins, back_stands, near_enough, goes_back}
 use Rattle.sve_debug.proofs.debugger.Debugger.back.Goals as goal

@@ -1,7 +1,7 @@
 use Rattle.std.proofs.Common.{◌≡◌, ◌==◌, ℕ, List, [], ◌∷◌, length, true, Some, None, refl, sym, ap, ◌∙◌, subst, arith}
 use Rattle.std.specs.Prelude.{not}
 use Rattle.std.proofs.lemmas.Bool.{eqb-true}
-use Rattle.sve_debug.specs.Held.{Stands}
+use Rattle.sve_debug.specs.DebuggerState.{Stands}
 use Rattle.sve_debug.specs.Lines.{command_of}
 use Rattle.sve_debug.specs.Replies.{Session, after_command, after_line, is_quit, quits}
 use Rattle.io_edges.proofs.Puts.{put_as}

@@ -1,5 +1,5 @@
 use Rattle.std.proofs.Common.{◌≡◌, List, ℕ, sym, ap, ◌∙◌, subst}
-use Rattle.sve_debug.specs.Held.{Stands, held_by}
+use Rattle.sve_debug.specs.DebuggerState.{Stands, held_by}
 use Rattle.sve_debug.specs.Replies.{counted_steps}
 use Rattle.sve_debug.proofs.debugger.Debugger.go.Goals as goal
 

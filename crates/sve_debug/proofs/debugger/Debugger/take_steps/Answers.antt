@@ -1,5 +1,5 @@
 use Rattle.std.proofs.Common.{sym, subst}
-use Rattle.sve_debug.specs.Held.{Stands}
+use Rattle.sve_debug.specs.DebuggerState.{Stands}
 use Rattle.sve_debug.proofs.debugger.Debugger.take_steps.Goals as goal
 
 pub returns-clause-session : goal.returns-clause-session

@@ -1,5 +1,0 @@
-use Rattle.chunk_pass.proofs.PassLaws as laws
-use Rattle.chunk_pass.proofs.turn_passes.Goals as goal
-
-pub returns : goal.returns
-returns c = laws.turn_law

@@ -1,8 +1,0 @@
-use Rattle.std.proofs.Common.{◌≡◌, drop}
-use Rattle.std.specs.List.{list_any}
-use Rattle.loop_form.specs.LoopView.{view}
-use Rattle.first_fault.specs.Split.{is_quit}
-use Rattle.first_fault.proofs.split.has_break.Given as goal
-
-abbrev pub invariant-loop-item : goal.invariant-loop-item
-invariant-loop-item l = list_any is_quit (view (drop l.item-index l.items)) ≡ list_any is_quit (view l.items)

@@ -1,0 +1,49 @@
+use Rattle.std.proofs.Common.{refl}
+use Rattle.std.proofs.lemmas.Result.{err_from_is_err_and}
+use Rattle.std.proofs.lemmas.List.{length-map}
+use Rattle.kernel_tree.specs.Plain.{word_of}
+use Rattle.kernel_syntax.specs.Headers.{for_loop_at}
+use Rattle.kernel_syntax.proofs.Chain.{fails_on}
+use Rattle.kernel_syntax.proofs.header.for_loop.Goals as goal
+
+pub returns-in_err-index-clause-value : goal.returns-in_err-index-clause-value
+unfolding for_loop_at
+returns-in_err-index-clause-value c =
+    let p = err_from_is_err_and c.from_residual.result c.from_residual.ensures.1 in
+    rw (p.1, p.2) (fails_on _ _ _ _ refl c.in_err-index.ensures.value)
+
+pub returns-in_err-from-clause-value : goal.returns-in_err-from-clause-value
+unfolding for_loop_at
+returns-in_err-from-clause-value c =
+    let p = err_from_is_err_and c.from_residual-in_err-from.result c.from_residual-in_err-from.ensures.1 in
+    rw (p.1, p.2, c.in_ok-index.ensures.value) (fails_on _ _ _ _ refl c.in_err-from.ensures.value)
+
+pub returns-in_err-range-clause-value : goal.returns-in_err-range-clause-value
+unfolding for_loop_at
+returns-in_err-range-clause-value c =
+    let p = err_from_is_err_and c.from_residual-in_err-range.result c.from_residual-in_err-range.ensures.1 in
+    rw (p.1, p.2, c.in_ok-index.ensures.value, c.in_ok-from.ensures.value) (fails_on _ _ _ _ refl c.in_err-range.ensures.value)
+
+pub returns-in_err-end-clause-value : goal.returns-in_err-end-clause-value
+unfolding for_loop_at
+returns-in_err-end-clause-value c =
+    let p = err_from_is_err_and c.from_residual-in_err-end.result c.from_residual-in_err-end.ensures.1 in
+    rw (p.1, p.2, c.in_ok-index.ensures.value, c.in_ok-from.ensures.value, c.in_ok-range.ensures.value) (fails_on _ _ _ _ refl c.in_err-end.ensures.value)
+
+pub returns-in_err-bound-clause-value : goal.returns-in_err-bound-clause-value
+unfolding for_loop_at
+returns-in_err-bound-clause-value c =
+    let p = err_from_is_err_and c.from_residual-in_err-bound.result c.from_residual-in_err-bound.ensures.1 in
+    rw (p.1, p.2, c.in_ok-index.ensures.value, c.in_ok-from.ensures.value, c.in_ok-range.ensures.value, c.in_ok-end.ensures.value) (fails_on _ _ _ _ refl c.in_err-bound.ensures.value)
+
+pub returns-in_err-inside-clause-value : goal.returns-in_err-inside-clause-value
+unfolding for_loop_at
+returns-in_err-inside-clause-value c =
+    let p = err_from_is_err_and c.from_residual-in_err-inside.result c.from_residual-in_err-inside.ensures.1 in
+    rw (p.1, p.2, c.in_ok-index.ensures.value, c.in_ok-from.ensures.value, c.in_ok-range.ensures.value, c.in_ok-end.ensures.value, c.in_ok-bound.ensures.value) (fails_on _ _ _ _ refl c.in_err-inside.ensures.value)
+
+pub returns-in_err-body-clause-value : goal.returns-in_err-body-clause-value
+unfolding for_loop_at
+returns-in_err-body-clause-value c =
+    let p = err_from_is_err_and c.from_residual-in_err-body.result c.from_residual-in_err-body.ensures.1 in
+    rw (p.1, p.2, c.in_ok-index.ensures.value, c.in_ok-from.ensures.value, c.in_ok-range.ensures.value, c.in_ok-end.ensures.value, c.in_ok-bound.ensures.value, c.in_ok-inside.ensures.value, length-map c.in_ok-inside.inside.now word_of) (fails_on _ _ _ _ refl c.in_err-body.ensures.value)

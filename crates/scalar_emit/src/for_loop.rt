@@ -1,0 +1,326 @@
+//! Emits a loop.
+
+ghost use Rattle.std.specs.Prelude.{◌≡◌, ◌+◌, ◌<◌, ◌^◌, [], ◌∷◌, OnOk, IfOk, option_map};
+ghost use Rattle.label_fix.specs.Draft.{word_view};
+ghost use Rattle.a64_code.specs.Table as table;
+ghost use Rattle.kernel_tree.specs.Plain.{name_of, for_loop_of, block_of};
+ghost use Rattle.kernel_tree.specs.Kinds.{BlockKinds};
+ghost use Rattle.kernel_scope.specs.Scopes.{scope_of};
+ghost use Rattle.scalar_emit.specs.Statements.{block_labels, block_code, block_homes};
+ghost use Rattle.label_fix.specs.Emits.{Emits};
+ghost use Rattle.scalar_words.specs.View.{form_of, homes_of, looses_of};
+ghost use Rattle.scalar_words.specs.Words.{word_code};
+ghost use Rattle.scalar_words.specs.Layout.{loose_in};
+ghost use Rattle.kernel_tree.specs.Items as items;
+ghost use Rattle.label_fix.specs.DraftRun as plain;
+ghost use Rattle.scalar_emit.specs.Loop as loops;
+
+use crate::branches::branch_ahead;
+use crate::numbers::emit_numbers;
+use crate::statements::emit_block;
+use crate::variable::declare_index;
+use a64_code::{A64, AddSubOp, AddSubShift, Cond, Reg, zero};
+use kernel_scope::Scope;
+use kernel_tree::{Loop, Ty};
+use label_fix::{BranchKind, Draft, Label, Word};
+use scalar_values::instructions::{index, next_iteration};
+use scalar_words::instructions::add_sub;
+use scalar_words::operations::emit_settle;
+use scalar_words::places::Places;
+use scalar_words::{Form, Home, Loose, register_at, register_named};
+use std::alloc::AllocError;
+use word_rows::Bits;
+
+// The statements of a loop whose variable is declared.
+fn emit_body<'a>(
+    draft: &mut Draft,
+    places: &Places,
+    homes: &mut Vec<Home<'a>>,
+    scope: &mut Scope<'a>,
+    last: Label,
+    for_loop: &'a Loop,
+    item: &mut usize,
+) -> Result<(), AllocError>
+    requires last { last < draft.old.labels }
+    requires kinds { BlockKinds (block_of for_loop.now.body.items) }
+    requires fits { item.old + items.block_size (scope_of scope.old).index (block_of for_loop.now.body.items) < 2 ^ 32 }
+    ensures homes { OnOk result (homes_of homes.new.items
+        ≡ block_homes places.now (homes_of homes.old.items) (loops.inside_of (scope_of scope.old)) item.old
+        (block_of for_loop.now.body.items)) }
+    ensures item { OnOk result (item.new ≡ item.old + items.block_size (scope_of scope.old).index
+        (block_of for_loop.now.body.items)) }
+    ensures emits { OnOk result (Emits draft.old draft.new
+        (draft.old.labels + block_labels (scope_of scope.old).index (block_of for_loop.now.body.items))
+        (block_code places.now (homes_of homes.old.items) (loops.inside_of (scope_of scope.old)) last item.old
+        draft.old.labels (block_of for_loop.now.body.items))) }
+{
+    scope.inside = true;
+    emit_block(draft, places, homes, scope, last, &for_loop.body, item)?;
+    Ok(())
+}
+
+// The same, after which the names before them are visible.
+fn emit_inside<'a>(
+    draft: &mut Draft,
+    places: &Places,
+    homes: &mut Vec<Home<'a>>,
+    scope: &mut Scope<'a>,
+    last: Label,
+    for_loop: &'a Loop,
+    item: &mut usize,
+) -> Result<(), AllocError>
+    requires last { last < draft.old.labels }
+    requires kinds { BlockKinds (block_of for_loop.now.body.items) }
+    requires fits { item.old + items.block_size (scope_of scope.old).index (block_of for_loop.now.body.items) < 2 ^ 32 }
+    ensures homes { OnOk result (homes_of homes.new.items ≡ homes_of homes.old.items) }
+    ensures item { OnOk result (item.new ≡ item.old + items.block_size (scope_of scope.old).index
+        (block_of for_loop.now.body.items)) }
+    ensures emits { OnOk result (Emits draft.old draft.new
+        (draft.old.labels + block_labels (scope_of scope.old).index (block_of for_loop.now.body.items))
+        (block_code places.now (homes_of homes.old.items) (loops.inside_of (scope_of scope.old)) last item.old
+        draft.old.labels (block_of for_loop.now.body.items))) }
+{
+    let known = homes.len();
+    emit_body(draft, places, homes, scope, last, for_loop, item)?;
+    homes.truncate(known);
+    Ok(())
+}
+
+// The labels of a loop: at its head, after it, before its statements, and after its last iteration.
+#[derive(Clone, Copy)]
+struct LoopLabels {
+    head: Label,
+    exit: Label,
+    top: Label,
+    last: Label,
+}
+
+// The head of a loop.
+fn emit_head(draft: &mut Draft) -> Result<Label, AllocError>
+    ensures head { IfOk result (λ l. l ≡ draft.old.labels) }
+    ensures emits { OnOk result (Emits draft.old draft.new (draft.old.labels + 1)
+        (λ rest. plain.Place draft.old.labels ∷ rest)) }
+{
+    let head = draft.label()?;
+    draft.place(head)?;
+    Ok(head)
+}
+
+// The comparison of a loop's variable with the register of its bound.
+fn emit_bound(draft: &mut Draft, bound: Reg) -> Result<(), AllocError>
+    ensures { OnOk result (Emits draft.old draft.new draft.old.labels (loops.bound_code bound.number)) }
+{
+    draft.put(add_sub(AddSubOp::Subs, zero(), index(), bound))?;
+    Ok(())
+}
+
+// How far an element of a type shifts its number.
+fn element_shift(ty: Ty) -> Bits<6>
+    ensures { result.number ≡ loops.element_shift ty }
+{
+    match ty {
+        Ty::I8 | Ty::U8 => Bits { number: 0 },
+        Ty::I16 | Ty::U16 => Bits { number: 1 },
+        Ty::I32 | Ty::U32 => Bits { number: 2 },
+        Ty::I64 | Ty::U64 => Bits { number: 3 },
+    }
+}
+
+// A register ahead by as many elements of a type as another has.
+fn ahead_word(ty: Ty, to: Reg, bound: Reg) -> Word
+    ensures { word_view result ≡ plain.word_of table.add
+        (to.number ∷ to.number ∷ loops.element_shift ty ∷ bound.number ∷ 0 ∷ []) }
+{
+    Word::A(A64::AddSubShifted {
+        op: AddSubOp::Add,
+        rd: to,
+        rn: to,
+        imm6: element_shift(ty),
+        rm: bound,
+        shift: AddSubShift::Lsl,
+    })
+}
+
+// What is to stand in a register before the first iteration.
+fn emit_form(draft: &mut Draft, bound: Reg, to: Reg, form: Form) -> Result<(), AllocError>
+    ensures { OnOk result (Emits draft.old draft.new draft.old.labels
+        (word_code (loops.enter_word bound.number to.number (form_of form)))) }
+{
+    match form {
+        Form::LowBits(_) => Ok(()),
+        Form::Ahead(ty) => {
+            draft.put(ahead_word(ty, to, bound))?;
+            Ok(())
+        }
+        Form::Behind => {
+            draft.put(add_sub(AddSubOp::Sub, to, to, bound))?;
+            Ok(())
+        }
+    }
+}
+
+// The same of the names that are held loosely.
+fn emit_moves(
+    draft: &mut Draft,
+    bound: Reg,
+    homes: &[Home],
+    loose: &[Loose],
+) -> Result<(), AllocError>
+    ensures { OnOk result (Emits draft.old draft.new draft.old.labels
+        (loops.enter_code bound.number (homes_of homes.now) (looses_of loose.now))) }
+{
+    for held in loose {
+        emit_form(draft, bound, register_named(homes, held.name), held.form)?;
+    }
+    Ok(())
+}
+
+// The head of a loop: its first test, and what stands in registers while iterations last.
+fn emit_entry(
+    draft: &mut Draft,
+    places: &Places,
+    homes: &[Home],
+    bound: Reg,
+) -> Result<LoopLabels, AllocError>
+    ensures head { IfOk result (λ l. l.head ≡ draft.old.labels) }
+    ensures exit { IfOk result (λ l. l.exit ≡ draft.old.labels + 1) }
+    ensures top { IfOk result (λ l. l.top ≡ draft.old.labels + 2) }
+    ensures last { IfOk result (λ l. l.last ≡ draft.old.labels + 3) }
+    ensures emits { OnOk result (Emits draft.old draft.new (draft.old.labels + 4)
+        (loops.entry_code bound.number draft.old.labels (homes_of homes.now) places.now)) }
+{
+    let head = emit_head(draft)?;
+    emit_bound(draft, bound)?;
+    let exit = branch_ahead(draft, BranchKind::If(Cond::Hs))?;
+    emit_moves(draft, bound, homes, places.loose())?;
+    emit_numbers(draft, places.constants())?;
+    let top = emit_head(draft)?;
+    let last = draft.label()?;
+    Ok(LoopLabels {
+        head,
+        exit,
+        top,
+        last,
+    })
+}
+
+// What stands in a register after the last iteration.
+fn emit_settled(draft: &mut Draft, bound: Reg, to: Reg, form: Form) -> Result<(), AllocError>
+    ensures { OnOk result (Emits draft.old draft.new draft.old.labels
+        (word_code (loops.settle_form bound.number to.number (form_of form)))) }
+{
+    match form {
+        Form::LowBits(ty) => emit_settle(draft, true, ty, to),
+        Form::Ahead(_) => Ok(()),
+        Form::Behind => {
+            draft.put(add_sub(AddSubOp::Add, to, to, bound))?;
+            Ok(())
+        }
+    }
+}
+
+// The same of the names that were held loosely.
+fn emit_extended(
+    draft: &mut Draft,
+    bound: Reg,
+    homes: &[Home],
+    loose: &[Loose],
+) -> Result<(), AllocError>
+    ensures { OnOk result (Emits draft.old draft.new draft.old.labels
+        (loops.settle_code bound.number (homes_of homes.now) (looses_of loose.now))) }
+{
+    for held in loose {
+        emit_settled(draft, bound, register_named(homes, held.name), held.form)?;
+    }
+    Ok(())
+}
+
+// Back to another iteration, below the bound or where the loop variable is not zero.
+fn emit_back(
+    draft: &mut Draft,
+    form: Option<Form>,
+    bound: Reg,
+    head: Label,
+    top: Label,
+) -> Result<(), AllocError>
+    requires top { top ≡ head + 2 }
+    requires given { top < draft.old.labels }
+    ensures { OnOk result (Emits draft.old draft.new draft.old.labels
+        (loops.back_code (option_map form_of form) bound.number head)) }
+{
+    match form {
+        Some(Form::Behind) => {
+            draft.branch(BranchKind::NotZero(9), top)?;
+            Ok(())
+        }
+        _ => {
+            emit_bound(draft, bound)?;
+            draft.branch(BranchKind::If(Cond::Lo), top)?;
+            Ok(())
+        }
+    }
+}
+
+// The end of an iteration, and of the loop.
+fn emit_again(
+    draft: &mut Draft,
+    places: &Places,
+    homes: &[Home],
+    for_loop: &Loop,
+    bound: Reg,
+    head: Label,
+    exit: Label,
+    top: Label,
+    last: Label,
+) -> Result<(), AllocError>
+    requires exit { exit ≡ head + 1 }
+    requires top { top ≡ head + 2 }
+    requires last { last ≡ head + 3 }
+    requires given { last < draft.old.labels }
+    ensures { OnOk result (Emits draft.old draft.new draft.old.labels
+        (loops.again_code (loose_in places.now.loose (name_of for_loop.now.index)) bound.number head (homes_of homes.now)
+        places.now.loose)) }
+{
+    draft.put(next_iteration())?;
+    let form = places.loose_form(&for_loop.index);
+    emit_back(draft, form, bound, head, top)?;
+    draft.place(last)?;
+    emit_extended(draft, bound, homes, places.loose())?;
+    draft.place(exit)?;
+    Ok(())
+}
+
+/// The loop from its head to its end; answers the label of the head.
+pub fn emit_loop<'a>(
+    draft: &mut Draft,
+    places: &Places,
+    homes: &mut Vec<Home<'a>>,
+    scope: &mut Scope<'a>,
+    for_loop: &'a Loop,
+    item: &mut usize,
+) -> Result<Label, AllocError>
+    requires kinds { BlockKinds (block_of for_loop.now.body.items) }
+    requires fits { item.old + (1 + items.block_size (scope_of scope.old).index (block_of for_loop.now.body.items)) < 2 ^
+        32 }
+    ensures head { IfOk result (λ l. l ≡ draft.old.labels) }
+    ensures item { OnOk result (item.new ≡ item.old +
+        (1 + items.block_size (scope_of scope.old).index (block_of for_loop.now.body.items))) }
+    ensures emits { OnOk result (Emits draft.old draft.new
+        (draft.old.labels + 4 + block_labels (scope_of scope.old).index (block_of for_loop.now.body.items))
+        (loops.iterations_code places.now (homes_of homes.old.items) (scope_of scope.old) (for_loop_of for_loop.now) item.old
+        draft.old.labels)) }
+{
+    let bound = register_at(homes, &for_loop.bound);
+    declare_index(scope, homes, for_loop)?;
+    let labels = emit_entry(draft, places, homes, bound)?;
+    let LoopLabels {
+        head,
+        exit,
+        top,
+        last,
+    } = labels;
+    *item += 1;
+    emit_inside(draft, places, homes, scope, last, for_loop, item)?;
+    emit_again(draft, places, homes, for_loop, bound, head, exit, top, last)?;
+    Ok(head)
+}
