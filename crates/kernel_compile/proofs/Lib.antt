@@ -11,4 +11,5 @@ pub mod VectorPlaced
 pub mod VectorJoin
 pub mod VectorFiles
 pub mod VectorEmitted
+mod ReservedWords
 pub mod Tried

@@ -1,6 +1,6 @@
 //! Compiles a kernel.
 
-ghost use Rattle.std.specs.Prelude.{◌≡◌, ◌+◌, ◌*◌, ◌≤◌, None, false, IfErr, IfOk, OnOk, length};
+ghost use Rattle.std.specs.Prelude.{◌≡◌, ◌+◌, ◌*◌, ◌≤◌, None, false, All, IfErr, IfOk, OnOk, length};
 ghost use Rattle.kernel_tree.specs.Items.{size_of};
 ghost use Rattle.loop_form.specs.View.{program};
 ghost use Rattle.machine_model.specs.Written.{file_of};
@@ -9,6 +9,7 @@ ghost use Rattle.dependence.specs.Classes.{class_of};
 ghost use Rattle.dependence.specs.declared.reason.Class.TheVariants.{Vector};
 ghost use Rattle.promises.specs.Faithful.{FreeFaithful, FreeEnds, CloseFaithful};
 ghost use Rattle.promises.specs.Refusals.{too_many, IsRefusal};
+ghost use Rattle.promises.specs.Reserved.{LeavesReserved};
 
 use crate::emit::{emit_iterations, emit_lanes};
 use crate::registers::{scalar_registers, vector_registers};
@@ -33,6 +34,7 @@ pub fn compile_kernel(alloc: Global, kernel: &Checked) -> Result<Code, CompileFa
     ensures close { IfOk result (λ code. CloseFaithful (program kernel.now) (file_of code.words.items)) }
     ensures ends { IfOk result (λ code. FreeEnds (program kernel.now) (file_of code.words.items)) }
     ensures short { IfOk result (λ code. length code.words.items ≤ 1000 + 60 * size_of (program kernel.now)) }
+    ensures reserved { IfOk result (λ code. All LeavesReserved code.words.items) }
     ensures enough { OnOk result (too_many (program kernel.now) ≡ None) }
     ensures refusal { IfErr result (IsRefusal (program kernel.now)) }
 {
@@ -47,6 +49,7 @@ fn words_of_class(alloc: Global, kernel: &Checked) -> Result<Vec<u32>, CompileFa
     ensures close { IfOk result (λ words. CloseFaithful (program kernel.now) (file_of words.items)) }
     ensures ends { IfOk result (λ words. FreeEnds (program kernel.now) (file_of words.items)) }
     ensures short { IfOk result (λ words. length words.items ≤ 1000 + 60 * size_of (program kernel.now)) }
+    ensures reserved { IfOk result (λ words. All LeavesReserved words.items) }
     ensures enough { OnOk result (too_many (program kernel.now) ≡ None) }
     ensures refusal { IfErr result (IsRefusal (program kernel.now)) }
 {
@@ -61,6 +64,7 @@ fn scalar_words(alloc: Global, kernel: &Checked) -> Result<Vec<u32>, CompileFaul
     ensures close { IfOk result (λ words. CloseFaithful (program kernel.now) (file_of words.items)) }
     ensures ends { IfOk result (λ words. FreeEnds (program kernel.now) (file_of words.items)) }
     ensures short { IfOk result (λ words. length words.items ≤ 1000 + 60 * size_of (program kernel.now)) }
+    ensures reserved { IfOk result (λ words. All LeavesReserved words.items) }
     ensures enough { OnOk result (too_many (program kernel.now) ≡ None) }
     ensures refusal { IfErr result (IsRefusal (program kernel.now)) }
 {
@@ -77,6 +81,7 @@ fn vector_words(alloc: Global, kernel: &Checked) -> Result<Vec<u32>, CompileFaul
     ensures close { IfOk result (λ words. CloseFaithful (program kernel.now) (file_of words.items)) }
     ensures ends { IfOk result (λ words. FreeEnds (program kernel.now) (file_of words.items)) }
     ensures short { IfOk result (λ words. length words.items ≤ 1000 + 60 * size_of (program kernel.now)) }
+    ensures reserved { IfOk result (λ words. All LeavesReserved words.items) }
     ensures enough { OnOk result (too_many (program kernel.now) ≡ None) }
     ensures refusal { IfErr result (IsRefusal (program kernel.now)) }
 {

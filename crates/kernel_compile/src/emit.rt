@@ -9,6 +9,7 @@ ghost use Rattle.machine_model.specs.Written.{file_of};
 ghost use Rattle.dependence.specs.Classes.{class_of};
 ghost use Rattle.dependence.specs.declared.reason.Class.TheVariants.{Vector};
 ghost use Rattle.promises.specs.Faithful.{FreeEnds, CloseFaithful, CloseSlowFaithful};
+ghost use Rattle.promises.specs.Reserved.{LeavesReserved};
 
 use kernel_tree::Checked;
 use label_fix::{BranchKind, Draft};
@@ -17,6 +18,7 @@ use loop_form::laws::few_items;
 use loop_lists::listing;
 use overlap_guard::{guard, meets_apart};
 use reg_assign::{Assigned, VectorRegs};
+use reserved_registers::{guard_leaves, scalar_code_leaves, vector_code_leaves, words_leave};
 use scalar_emit::{begin_runs, emit_begin, emit_scalar, scalar_runs};
 use std::alloc::{AllocError, Global};
 use vector_emit::{emit_vector, vector_runs};
@@ -30,10 +32,13 @@ pub fn emit_iterations(
     requires fits { FitsKernel (program kernel.now) X regs.now }
     ensures faithful { IfOk result (λ words. CloseSlowFaithful (program kernel.now) (file_of words.items)) }
     ensures short { IfOk result (λ words. length words.items ≤ 1000 + 60 * size_of (program kernel.now)) }
+    ensures reserved { IfOk result (λ words. All LeavesReserved words.items) }
 {
     few_items(kernel);
     begin_runs(kernel, regs);
     scalar_runs(kernel, regs);
+    scalar_code_leaves(kernel, regs);
+    words_leave();
     let items = listing(alloc, kernel)?;
     let mut draft = Draft::new(alloc);
     emit_begin(alloc, kernel, &items, regs, &mut draft)?;
@@ -57,6 +62,7 @@ pub fn emit_lanes(
     ensures close { IfOk result (λ words. CloseFaithful (program facts.now.kernel.now) (file_of words.items)) }
     ensures ends { IfOk result (λ words. FreeEnds (program facts.now.kernel.now) (file_of words.items)) }
     ensures short { IfOk result (λ words. length words.items ≤ 1000 + 60 * size_of (program facts.now.kernel.now)) }
+    ensures reserved { IfOk result (λ words. All LeavesReserved words.items) }
 {
     let kernel = facts.kernel;
     few_items(kernel);
@@ -64,6 +70,10 @@ pub fn emit_lanes(
     scalar_runs(kernel, &regs.x);
     meets_apart(kernel);
     vector_runs();
+    scalar_code_leaves(kernel, &regs.x);
+    guard_leaves();
+    vector_code_leaves(kernel, &regs.x);
+    words_leave();
     let mut draft = Draft::new(alloc);
     let vector = draft.label()?;
     emit_begin(alloc, kernel, &facts.listing, &regs.x, &mut draft)?;

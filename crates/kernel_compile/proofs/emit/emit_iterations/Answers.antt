@@ -1,9 +1,11 @@
-use Rattle.std.proofs.Common.{◌∙◌, ◌<◌, ◌^◌, All, length, ap, subst, arith}
+use Rattle.std.proofs.Common.{◌∙◌, ◌<◌, ◌^◌, All, length, sym, ap, subst, arith}
 use Rattle.loop_form.specs.View.{program}
 use Rattle.label_fix.specs.Finished.{size}
 use Rattle.label_fix.proofs.PlacedRuns.{words_length}
 use Rattle.scalar_words.specs.KernelRegisters.{register_in}
+use Rattle.promises.specs.Reserved.{LeavesReserved}
 use Rattle.kernel_compile.proofs.ScalarFaithful.{emitted, compiled}
+use Rattle.kernel_compile.proofs.ReservedWords.{iterations_alone}
 use Rattle.kernel_compile.proofs.emit.emit_iterations.Goals as goal
 
 -- the listing that is handed on
@@ -35,3 +37,10 @@ returns-clause-faithful c =
     let small : All (λ w. w < 2 ^ 32) c.in_ok-words.words.items = subst (λ ws. All (λ w. w < 2 ^ 32) ws) c.deref-3.ensures.value c.have_32_bits.ensures in
     compiled R k c.begin_runs.ensures c.scalar_runs.ensures c.emit_scalar.new.draft.labels _ c.emit_scalar.new.draft.entries _ c.in_ok-words.words.items e.following e.begun_by e.placed c.in_ok-words.ensures.fit
     (omega (arith, none, c.in_ok-emit_begin.ensures.words, c.in_ok-emit_scalar.ensures.words, c.few_items.ensures.size)) c.in_ok-words.ensures.words small
+
+pub returns-clause-reserved : goal.returns-clause-reserved
+returns-clause-reserved c =
+    let k = program c.args.kernel.now in
+    let R = register_in c.args.regs.now in
+    let alone = iterations_alone R k c.new-draft.result.labels c.emit_begin.new.draft.labels c.new-draft.result.entries c.emit_begin.new.draft.entries c.emit_scalar.new.draft.entries c.new-draft.ensures.entries c.in_ok-emit_begin.ensures.emits.code c.in_ok-emit_scalar.ensures.emits.code (c.scalar_code_leaves.ensures.begin c.new-draft.result.labels) (c.scalar_code_leaves.ensures.scalar c.emit_begin.new.draft.labels) in
+    subst (λ ws. All LeavesReserved ws) (sym c.in_ok-words.ensures.words) (c.words_leave.ensures c.emit_scalar.new.draft.labels c.emit_scalar.new.draft.entries c.in_ok-words.ensures.fit alone)

@@ -1,4 +1,4 @@
-use Rattle.std.proofs.Common.{◌∙◌, ◌≡◌, None, ◌<◌, ◌^◌, All, length, ap, subst, arith}
+use Rattle.std.proofs.Common.{◌∙◌, ◌≡◌, None, ◌<◌, ◌^◌, All, length, sym, ap, subst, arith}
 use Rattle.kernel_tree.specs.declared.checked.Checked.{Checked}
 use Rattle.kernel_tree.specs.Grammar.{IsTree}
 use Rattle.kernel_tree.specs.Typing.{check_fault}
@@ -8,6 +8,8 @@ use Rattle.machine_model.specs.Written.{file_of}
 use Rattle.label_fix.proofs.PlacedRuns.{words_length}
 use Rattle.overlap_guard.proofs.Bound.{few-arrays}
 use Rattle.scalar_words.specs.KernelRegisters.{register_in}
+use Rattle.promises.specs.Reserved.{LeavesReserved}
+use Rattle.kernel_compile.proofs.ReservedWords.{lanes_alone}
 use Rattle.kernel_compile.proofs.VectorJoin.{IsJoined}
 use Rattle.kernel_compile.proofs.VectorFiles.{Promised, vector_file}
 use Rattle.kernel_compile.proofs.VectorEmitted.{Emitted, is_whole, label_given, few_words}
@@ -120,3 +122,10 @@ returns-clause-close c = (promised c).close
 
 pub returns-clause-ends : goal.returns-clause-ends
 returns-clause-ends c = (promised c).ends
+
+pub returns-clause-reserved : goal.returns-clause-reserved
+returns-clause-reserved c =
+    let k = program c.args.facts.now.kernel.now in
+    let scalar = c.in_ok-scalar.field-0.at_iteration in
+    let alone = lanes_alone (drafts c) (c.scalar_code_leaves.ensures.begin c.label.new.self.labels) (c.scalar_code_leaves.ensures.scalar c.branch-draft.new.self.labels) (c.guard_leaves.ensures k scalar c.place.new.self.labels) (c.vector_code_leaves.ensures c.args.regs.now.z c.args.regs.now.p scalar c.guard.new.draft.labels) in
+    subst (λ ws. All LeavesReserved ws) (sym c.in_ok-words.ensures.words) (c.words_leave.ensures c.emit_vector.new.draft.labels c.emit_vector.new.draft.entries c.in_ok-words.ensures.fit alone)

@@ -1,0 +1,12 @@
+mod Words
+mod Steps
+pub mod Drafts
+mod FreeRegisters
+mod ScalarWords
+mod Values
+mod Statements
+mod Iterations
+mod Guards
+mod VectorWords
+mod Chunks
+mod Passes

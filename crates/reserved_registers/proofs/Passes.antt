@@ -1,0 +1,86 @@
+-- The vector code of a kernel's loop: what stands before the passes, the passes, and the fold after them.
+use Rattle.std.proofs.Common.{ℕ, suc, ◌≤◌, Bool, true, false, List, [], ◌∷◌, length, refl}
+use Rattle.std.specs.Prelude.{slice_index}
+use Rattle.std.specs.List.{list_any}
+use Rattle.guest_types.specs.declared.length.Width.{Width}
+use Rattle.kernel_tree.specs.declared.ops.Ty.{Ty}
+use Rattle.kernel_tree.specs.declared.ops.UpdateOp.{UpdateOp}
+use Rattle.kernel_tree.specs.Plain.{Program}
+use Rattle.kernel_meaning.specs.Operators as meaning
+use Rattle.kernel_meaning.specs.Operators.{wrapped, operator_of}
+use Rattle.label_fix.specs.DraftRun.{DraftEntry}
+use Rattle.reg_assign.specs.declared.interval.RegClass.TheVariants.{X, Z}
+use Rattle.reg_assign.specs.Registers.{Assignment}
+use Rattle.loop_form.specs.Lanes.{lane_width_of}
+use Rattle.loop_form.specs.LoopItems.{Item, loop_items_of}
+use Rattle.loop_form.specs.Needs.{Throughout, Scalar, Constant, Index, Accumulating, throughout}
+use Rattle.loop_form.specs.Registers.{FitsKernel}
+use Rattle.dependence.specs.Apart.{bound_place}
+use Rattle.scalar_words.specs.Layout.{register_at}
+use Rattle.scalar_words.specs.KernelRegisters.{kernel_homes, register_in}
+use Rattle.scalar_words.specs.Words.{settle_word}
+use Rattle.reductions.specs.Joins.{identity}
+use Rattle.lane_emit.specs.Stretch.{word}
+use Rattle.lane_emit.specs.LaneCode.{size_of}
+use Rattle.reductions.specs.AccumulatorLanes.{reduce_name}
+use Rattle.chunk_emit.specs.KernelLayout.{layout_of_loop, update_of}
+use Rattle.first_fault.specs.BreakRegion.{is_loop_break}
+use Rattle.chunk_pass.specs.PassCode.{chunk_words, iteration_words, plain_words}
+use Rattle.loop_edges.specs.EdgeCode.{type_of_var, number_code, hold_code, holds_code, join_code, fold_one, folds_code}
+use Rattle.vector_emit.specs.VectorCode.{passes_by, vector_code}
+use Rattle.reserved_registers.specs.Alone.{AreAlone, StaysAlone}
+use Rattle.reserved_registers.proofs.FreeRegisters.{Unreserved, AreFree, names_free, name_kept, assigned_below}
+use Rattle.reserved_registers.proofs.ScalarWords.{one_alone, const_alone, settle_leaves, binary_alone}
+use Rattle.reserved_registers.proofs.VectorWords.{reduce_quiet}
+use Rattle.reserved_registers.proofs.Chunks.{puts_alone, quiet_leaves, chunk_left, iteration_left, plain_left}
+
+-- ---- before the passes
+
+number_alone : (w : Width) (z v : ℕ) (rest : List DraftEntry) → AreAlone rest → AreAlone (number_code w z v rest)
+number_alone w z v rest h = const_alone 26 v _ (record { unreserved = refl }) (refl, h)
+
+hold_alone : (k : Program) (z : ℕ) (t : Throughout) (rest : List DraftEntry) → AreAlone rest → AreAlone (hold_code k z t rest)
+hold_alone k z (Scalar x) rest h = (refl, h)
+hold_alone k z (Constant t n) rest h = number_alone (lane_width_of k) z (meaning.word (wrapped t n)) rest h
+hold_alone k z Index rest h = h
+hold_alone k z (Accumulating x) rest h = number_alone (lane_width_of k) z (meaning.word (identity (update_of k x) (type_of_var k x))) rest h
+
+holds_alone : (k : Program) (a : Assignment) (j : ℕ) (ts : List Throughout) (rest : List DraftEntry) → AreAlone rest → AreAlone (holds_code k a j ts rest)
+holds_alone k a j [] rest h = h
+holds_alone k a j (t ∷ ts) rest h = hold_alone k (slice_index a.registers j) t _ (holds_alone k a (suc j) ts rest h)
+
+-- ---- after them
+
+join_alone : (w : Width) (op : UpdateOp) (t : Ty) (z x : ℕ) (rest : List DraftEntry) → Unreserved x → AreAlone rest → AreAlone (join_code w op t z x rest)
+join_alone w op t z x rest f h =
+    (quiet_leaves (word (reduce_name op t) (31 ∷ z ∷ 1 ∷ size_of w ∷ [])) (reduce_quiet op t), (refl, one_alone (settle_word true t 27) _ (settle_leaves true t 27 (record { unreserved = refl })) (binary_alone (operator_of op) t x x 27 rest f h)))
+
+module _ (R : ℕ → ℕ) (k : Program) (names : AreFree (kernel_homes R k)) where
+  fold_alone : (z : ℕ) (t : Throughout) (rest : List DraftEntry) → AreAlone rest → AreAlone (fold_one R k z t rest)
+  fold_alone z (Accumulating x) rest h = join_alone (lane_width_of k) (update_of k x) (type_of_var k x) z (register_at (kernel_homes R k) x) rest (name_kept (kernel_homes R k) x names) h
+  fold_alone z other rest h = h
+
+  folds_alone : (a : Assignment) (j : ℕ) (ts : List Throughout) (rest : List DraftEntry) → AreAlone rest → AreAlone (folds_code R k a j ts rest)
+  folds_alone a j [] rest h = h
+  folds_alone a j (t ∷ ts) rest h = fold_alone (slice_index a.registers j) t _ (folds_alone a (suc j) ts rest h)
+
+-- ---- the passes
+
+passes_alone : (c : Bool) (k : Program) (a b : Assignment) (items : List Item) (n : ℕ) (rest : List DraftEntry) → AreAlone rest → AreAlone (passes_by c k a b items n rest)
+passes_alone true k a b items n rest h =
+    let w = lane_width_of k in
+    let l = layout_of_loop k a b in
+    puts_alone (chunk_words w l (bound_place k) items) _ (chunk_left w l (bound_place k) items) (refl, (refl, puts_alone (iteration_words w l items) _ (iteration_left w l items) (refl, h)))
+passes_alone false k a b items n rest h =
+    let w = lane_width_of k in
+    let l = layout_of_loop k a b in
+    (refl, puts_alone (plain_words w l items) _ (plain_left w l items) (refl, h))
+
+-- ---- the whole
+
+pub vector_alone : (R : ℕ → ℕ) (k : Program) (a b : Assignment) (scalar n : ℕ) → AreFree (kernel_homes R k) → StaysAlone (vector_code R k a b scalar n)
+vector_alone R k a b scalar n names rest h =
+    (refl, holds_alone k a 0 (throughout k Z) _ (passes_alone (list_any is_loop_break (loop_items_of k)) k a b (loop_items_of k) n _ (folds_alone R k names a 0 (throughout k Z) _ h)))
+
+pub vector_stays : (k : Program) (x : Assignment) → length k.params ≤ 8 → FitsKernel k X x → (a b : Assignment) (scalar n : ℕ) → StaysAlone (vector_code (register_in x) k a b scalar n)
+vector_stays k x few f a b scalar n = vector_alone (register_in x) k a b scalar n (names_free (register_in x) (assigned_below k x f) k few)

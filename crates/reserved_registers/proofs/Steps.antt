@@ -1,0 +1,51 @@
+-- A step at a word that leaves the reserved registers alone.
+use Rattle.std.proofs.Common.{◌≡◌, ◌≢◌, ℕ, Bool, true, false, ◌&&◌, Option, Some, None, refl, sym, ap, ◌∙◌}
+use Rattle.std.specs.Prelude.{not, slice_index}
+use Rattle.guest_types.specs.Memory.{fetched}
+use Rattle.machine_model.specs.declared.outcome.StopKind.TheVariants.{Undefined}
+use Rattle.machine_model.specs.Frames.{SameUnless, OtherX}
+use Rattle.machine_model.specs.InstructionTable.{Listed, Scalar, Vector, listed}
+use Rattle.machine_model.specs.Machine.{State, Step, Went, Stopped, x_at}
+use Rattle.machine_model.specs.OneStep.{step, does, do_word, reads_word}
+use Rattle.machine_model.specs.VectorEffects.{field_of}
+use Rattle.machine_model.proofs.Frames.{went_leaves}
+use Rattle.machine_model.proofs.ScalarFrames.{scalar_leaves}
+use Rattle.promises.specs.Reserved.{register_written, writes_stack_pointer, is_reserved, none_reserved, leaves_reserved}
+use Rattle.reserved_registers.specs.Kept.{AreKept, StepsKeep}
+
+both : (a b : Bool) → (a && b) ≡ true → (a ≡ true) × (b ≡ true)
+both true b h = (refl, h)
+both false b h = absurd cc
+
+apart : (n d : ℕ) → is_reserved n ≡ true → not (is_reserved d) ≡ true → n ≢ d
+apart n d h k e = let same = ap is_reserved e in let free = ap not (sym same ∙ h) ∙ refl in absurd cc
+
+x_kept : (o : Option ℕ) (s t : State) (n : ℕ) → none_reserved o ≡ true → is_reserved n ≡ true → OtherX o s t → x_at t n ≡ x_at s n
+x_kept None s t n free h same = ap (λ x. slice_index x n) same
+x_kept (Some d) s t n free h same = same n (apart n d h free)
+
+sp_kept : (b : Bool) (before after : ℕ) → not b ≡ true → SameUnless b before after → after ≡ before
+sp_kept true before after h same = absurd cc
+sp_kept false before after h same = same
+
+does_keep : (i : Listed) (s t : State) → leaves_reserved i ≡ true → does i s ≡ Went t → AreKept s t
+does_keep (Scalar i) s t h e =
+    let l = scalar_leaves i.name i.numbers s t e in
+    let two = both (none_reserved (register_written (Scalar i))) (not (writes_stack_pointer (Scalar i))) h in
+    record { x = λ n r. x_kept (register_written (Scalar i)) s t n two.0 r l.x; sp = sp_kept (writes_stack_pointer (Scalar i)) s.sp t.sp two.1 l.sp }
+does_keep (Vector i) s t h e =
+    let l = went_leaves i.name (field_of i.name i.numbers) s t e in
+    let two = both (none_reserved (register_written (Vector i))) (not (writes_stack_pointer (Vector i))) h in
+    record { x = λ n r. x_kept (register_written (Vector i)) s t n two.0 r l.x; sp = l.sp }
+
+read : (word : ℕ) (i : Listed) → listed word ≡ Some i → reads_word word ≡ Some i
+unfolding reads_word
+read word i e = e
+
+step_is : (s : State) (word : ℕ) (i : Listed) → fetched s.memory s.pc ≡ Some word → listed word ≡ Some i → step s ≡ does i s
+step_is s word i at is =
+    ap (λ o. do_word o s) at
+    ∙ ap (λ o. elim o as (λ o. Step) [ None ↦ Stopped Undefined s.pc word s.memory | Some j ↦ does j s ]) (read word i is)
+
+pub steps_keep : StepsKeep
+steps_keep s t word at l e = does_keep l.instruction s t l.leaves (sym (step_is s word l.instruction at l.is) ∙ e)
