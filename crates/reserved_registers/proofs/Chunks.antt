@@ -5,7 +5,7 @@ use Rattle.guest_types.specs.declared.length.Width.{Width}
 use Rattle.word_rows.specs.Field.{Field}
 use Rattle.kernel_tree.specs.declared.ops.Ty.{Ty}
 use Rattle.kernel_tree.specs.declared.ops.Ty.TheVariants as ty
-use Rattle.sve_code.specs.Table.{uxtb, uxth}
+use Rattle.sve_code.specs.Table.{incp, uxtb, uxth}
 use Rattle.machine_model.specs.Frames.{x_field}
 use Rattle.machine_model.specs.InstructionTable.{Listed, Vector}
 use Rattle.machine_model.specs.VectorEffects.{field_of}
@@ -14,15 +14,15 @@ use Rattle.label_fix.specs.Emits.{puts}
 use Rattle.loop_form.specs.declared.loop_item.Operand.TheVariants.{LoopIndex}
 use Rattle.loop_form.specs.LoopItems.{Op, Item}
 use Rattle.loop_form.specs.LoopItems as ops
-use Rattle.lane_emit.specs.Stretch.{VectorInstruction}
-use Rattle.lane_emit.specs.LaneCode.{index_code}
+use Rattle.lane_emit.specs.Stretch.{VectorInstruction, word}
+use Rattle.lane_emit.specs.LaneCode.{size_of, index_code}
 use Rattle.lane_emit.specs.ItemCode.{mask_register, op_code}
 use Rattle.reductions.specs.AccumulatorLanes.{update_code}
 use Rattle.chunk_emit.specs.Registers.{Layout, z_of, base_of, is_used}
 use Rattle.chunk_emit.specs.ChunkCode.{with_index, index_of, memory_size, gather_name, gather_by, cut_reach, gather_code, vectors, op_words, item_words, past_cast, either_words, items_words}
 use Rattle.first_fault.specs.RegionCode.{Mode, Early, Single, narrow_words, load_words, step_words, region_words, exits_words, single_words}
 use Rattle.first_fault.specs.BreakRegion.{region_of, rest_of}
-use Rattle.chunk_pass.specs.PassCode.{index_words, advance_word, chunk_words, iteration_words, plain_words}
+use Rattle.vector_emit.proofs.FromBelow.{chunk_words, iteration_words, plain_words}
 use Rattle.promises.specs.Reserved.{none_reserved, leaves_reserved}
 use Rattle.reserved_registers.specs.Alone.{AreAlone}
 use Rattle.reserved_registers.proofs.VectorWords.{AreQuiet, update_quiet, op_quiet}
@@ -126,26 +126,30 @@ region_left mode w l (it ∷ items) = left_both (step_words mode w l it.item it.
 
 -- ---- a pass
 
-pass_index_left : (l : Layout) → AreLeft (index_words l)
-pass_index_left l = by_held (l.held LoopIndex)
-  where
-    by_held : (b : Bool) → AreLeft (if b then vectors (index_code (l.registers.source LoopIndex) 9) else [])
-    by_held true = (refl, tt)
-    by_held false = tt
+-- the word that makes the loop variable, where it has a register
+abbrev index_if : Bool → Layout → List Listed
+index_if b l = if b then vectors (index_code (l.registers.source LoopIndex) 9) else []
+
+abbrev advance : Width → Listed
+advance w = Vector (word incp (9 ∷ 0 ∷ size_of w ∷ []))
+
+pass_index_left : (b : Bool) (l : Layout) → AreLeft (index_if b l)
+pass_index_left true l = (refl, tt)
+pass_index_left false l = tt
 
 -- the items, and the word that advances X9
-end_left : (w : Width) (l : Layout) (items : List Item) → AreLeft (items_words w l items ++ advance_word w ∷ [])
-end_left w l items = left_both (items_words w l items) (advance_word w ∷ []) (items_left w l items) (refl, tt)
+end_left : (w : Width) (l : Layout) (items : List Item) → AreLeft (items_words w l items ++ advance w ∷ [])
+end_left w l items = left_both (items_words w l items) (advance w ∷ []) (items_left w l items) (refl, tt)
 
 pub chunk_left : (w : Width) (l : Layout) (n : ℕ) (items : List Item) → AreLeft (chunk_words w l n items)
 chunk_left w l n items =
-    let tail = items_words w l (rest_of items) ++ advance_word w ∷ [] in
-    (refl, left_both (index_words l) (exits_words w l (region_of items) ++ tail) (pass_index_left l) (refl, left_both (region_words Early w l (region_of items)) tail (region_left Early w l (region_of items)) (end_left w l (rest_of items))))
+    let tail = items_words w l (rest_of items) ++ advance w ∷ [] in
+    (refl, left_both (index_if (l.held LoopIndex) l) (exits_words w l (region_of items) ++ tail) (pass_index_left (l.held LoopIndex) l) (refl, left_both (region_words Early w l (region_of items)) tail (region_left Early w l (region_of items)) (end_left w l (rest_of items))))
 
 pub iteration_left : (w : Width) (l : Layout) (items : List Item) → AreLeft (iteration_words w l items)
 iteration_left w l items =
-    let tail = items_words w l (rest_of items) ++ advance_word w ∷ [] in
+    let tail = items_words w l (rest_of items) ++ advance w ∷ [] in
     (refl, (refl, left_both (single_words w l (region_of items)) tail (region_left Single w l (region_of items)) (end_left w l (rest_of items))))
 
 pub plain_left : (w : Width) (l : Layout) (items : List Item) → AreLeft (plain_words w l items)
-plain_left w l items = left_both (index_words l) (items_words w l items ++ advance_word w ∷ []) (pass_index_left l) (end_left w l items)
+plain_left w l items = left_both (index_if (l.held LoopIndex) l) (items_words w l items ++ advance w ∷ []) (pass_index_left (l.held LoopIndex) l) (end_left w l items)

@@ -8,7 +8,9 @@ use Rattle.kernel_tree.specs.declared.ops.UpdateOp.{UpdateOp}
 use Rattle.kernel_tree.specs.Plain.{Program}
 use Rattle.kernel_meaning.specs.Operators as meaning
 use Rattle.kernel_meaning.specs.Operators.{wrapped, operator_of}
-use Rattle.label_fix.specs.DraftRun.{DraftEntry}
+use Rattle.label_fix.specs.DraftRun.{DraftEntry, ins}
+use Rattle.label_fix.specs.Emits.{puts}
+use Rattle.a64_code.specs.Table.{umov}
 use Rattle.reg_assign.specs.declared.interval.RegClass.TheVariants.{X, Z}
 use Rattle.reg_assign.specs.Registers.{Assignment}
 use Rattle.loop_form.specs.Lanes.{lane_width_of}
@@ -18,15 +20,15 @@ use Rattle.loop_form.specs.Registers.{FitsKernel}
 use Rattle.dependence.specs.Apart.{bound_place}
 use Rattle.scalar_words.specs.Layout.{register_at}
 use Rattle.scalar_words.specs.KernelRegisters.{kernel_homes, register_in}
-use Rattle.scalar_words.specs.Words.{settle_word}
+use Rattle.scalar_words.specs.Words.{const_code, settle_word, word_code, binary_code}
 use Rattle.reductions.specs.Joins.{identity}
 use Rattle.lane_emit.specs.Stretch.{word}
-use Rattle.lane_emit.specs.LaneCode.{size_of}
-use Rattle.reductions.specs.AccumulatorLanes.{reduce_name}
+use Rattle.lane_emit.specs.LaneCode.{size_of, dup_code}
+use Rattle.reductions.specs.AccumulatorLanes.{reduce_name, reduce_code}
+use Rattle.chunk_emit.specs.ChunkCode.{vectors}
 use Rattle.chunk_emit.specs.KernelLayout.{layout_of_loop, update_of}
 use Rattle.first_fault.specs.BreakRegion.{is_loop_break}
-use Rattle.chunk_pass.specs.PassCode.{chunk_words, iteration_words, plain_words}
-use Rattle.loop_edges.specs.EdgeCode.{type_of_var, number_code, hold_code, holds_code, join_code, fold_one, folds_code}
+use Rattle.vector_emit.proofs.FromBelow.{type_of_var, hold_code, holds_code, fold_one, folds_code, chunk_words, iteration_words, plain_words}
 use Rattle.vector_emit.specs.VectorCode.{passes_by, vector_code}
 use Rattle.reserved_registers.specs.Alone.{AreAlone, StaysAlone}
 use Rattle.reserved_registers.proofs.FreeRegisters.{Unreserved, AreFree, names_free, name_kept, assigned_below}
@@ -36,7 +38,8 @@ use Rattle.reserved_registers.proofs.Chunks.{puts_alone, quiet_leaves, chunk_lef
 
 -- ---- before the passes
 
-number_alone : (w : Width) (z v : ℕ) (rest : List DraftEntry) → AreAlone rest → AreAlone (number_code w z v rest)
+-- a number in all elements of z, by X26
+number_alone : (w : Width) (z v : ℕ) (rest : List DraftEntry) → AreAlone rest → AreAlone (const_code 26 v (puts (vectors (dup_code w z 26)) rest))
 number_alone w z v rest h = const_alone 26 v _ (record { unreserved = refl }) (refl, h)
 
 hold_alone : (k : Program) (z : ℕ) (t : Throughout) (rest : List DraftEntry) → AreAlone rest → AreAlone (hold_code k z t rest)
@@ -51,7 +54,8 @@ holds_alone k a j (t ∷ ts) rest h = hold_alone k (slice_index a.registers j) t
 
 -- ---- after them
 
-join_alone : (w : Width) (op : UpdateOp) (t : Ty) (z x : ℕ) (rest : List DraftEntry) → Unreserved x → AreAlone rest → AreAlone (join_code w op t z x rest)
+-- the elements of z joined together by X27, and x joined with them
+join_alone : (w : Width) (op : UpdateOp) (t : Ty) (z x : ℕ) (rest : List DraftEntry) → Unreserved x → AreAlone rest → AreAlone (puts (vectors (reduce_code w op t 31 z)) (ins umov (27 ∷ 31 ∷ []) ∷ word_code (settle_word true t 27) (binary_code (operator_of op) t x x 27 rest)))
 join_alone w op t z x rest f h =
     (quiet_leaves (word (reduce_name op t) (31 ∷ z ∷ 1 ∷ size_of w ∷ [])) (reduce_quiet op t), (refl, one_alone (settle_word true t 27) _ (settle_leaves true t 27 (record { unreserved = refl })) (binary_alone (operator_of op) t x x 27 rest f h)))
 

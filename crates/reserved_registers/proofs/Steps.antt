@@ -18,7 +18,7 @@ both true b h = (refl, h)
 both false b h = absurd cc
 
 apart : (n d : ℕ) → is_reserved n ≡ true → not (is_reserved d) ≡ true → n ≢ d
-apart n d h k e = let same = ap is_reserved e in let free = ap not (sym same ∙ h) ∙ refl in absurd cc
+apart n d h k e = let same = ap is_reserved e in let free = ap not (sym same ∙ h) in absurd cc
 
 x_kept : (o : Option ℕ) (s t : State) (n : ℕ) → none_reserved o ≡ true → is_reserved n ≡ true → OtherX o s t → x_at t n ≡ x_at s n
 x_kept None s t n free h same = ap (λ x. slice_index x n) same
