@@ -24,3 +24,4 @@ pub mod ValuesPlaced
 pub mod IndexCode
 mod Examples
 pub mod OperatorCode
+pub mod TermCode

@@ -159,10 +159,7 @@ pub fn covers_truth(loose: &[Loose], scope: &Scope, term: &Expr) -> bool
             let whole = Extent::Whole;
             covers(loose, scope, whole, want, left) && covers(loose, scope, whole, want, right)
         }
-        Expr::And { left, right } => {
-            covers_truth(loose, scope, left) && covers_truth(loose, scope, right)
-        }
-        Expr::Or { left, right } => {
+        Expr::And { left, right } | Expr::Or { left, right } => {
             covers_truth(loose, scope, left) && covers_truth(loose, scope, right)
         }
         Expr::Not { arg } => covers_truth(loose, scope, arg),

@@ -147,10 +147,10 @@ pub fn hold_term(
             hold_index(constants, params, homes, scope, index)?;
             hold_element(constants, params, homes, scope, array, index)
         }
-        Expr::Unary { arg, .. } => hold_term(constants, params, homes, scope, arg),
-        Expr::Shift { arg, .. } => hold_term(constants, params, homes, scope, arg),
-        Expr::Cast { arg, .. } => hold_term(constants, params, homes, scope, arg),
-        Expr::Not { arg } => hold_term(constants, params, homes, scope, arg),
+        Expr::Unary { arg, .. }
+        | Expr::Shift { arg, .. }
+        | Expr::Cast { arg, .. }
+        | Expr::Not { arg } => hold_term(constants, params, homes, scope, arg),
         Expr::Binary { op, left, right } => {
             let number = addend_of(*op, right);
             hold_sides(constants, params, homes, scope, left, number, right)
@@ -159,8 +159,9 @@ pub fn hold_term(
             let number = immediate_of(right);
             hold_sides(constants, params, homes, scope, left, number, right)
         }
-        Expr::And { left, right } => hold_both(constants, params, homes, scope, left, right),
-        Expr::Or { left, right } => hold_both(constants, params, homes, scope, left, right),
+        Expr::And { left, right } | Expr::Or { left, right } => {
+            hold_both(constants, params, homes, scope, left, right)
+        }
         Expr::Select { cond, yes, no } => {
             hold_both(constants, params, homes, scope, yes, no)?;
             hold_term(constants, params, homes, scope, cond)
