@@ -148,24 +148,23 @@ fn debugger(alloc: Global, steps: Rc<Cell<u64>>) -> Result<Debugger<Counted>, Al
     Debugger::new(alloc, Counted { machine, steps })
 }
 
+// Steps, a way back, how many steps it does again, and its answer.
+static BACK: [(&str, &str, u64, &str); 3] = [
+    ("go 25000", "back 5001", 9_999, "steps 19999\n"),
+    ("go 25000", "back 5000", 0, "steps 20000\n"),
+    ("go 25000", "back 1", 4_999, "steps 24999\n"),
+];
+
 // A way back does as many steps again as lie between the last count that is kept and the target.
 #[test]
 fn steps_done_again(rt: HostRuntime) -> Result<(), Fail> {
-    for (steps, back, again, text) in [
-        (
-            b"go 25000".as_slice(),
-            b"back 5001".as_slice(),
-            9_999,
-            "steps 19999\n",
-        ),
-        (b"go 25000", b"back 5000", 0, "steps 20000\n"),
-        (b"go 25000", b"back 1", 4_999, "steps 24999\n"),
-    ] {
+    for (steps, back, again, text) in &BACK {
         let count = Rc::new(rt.alloc(), Cell::new(0))?;
         let mut debugger = debugger(rt.alloc(), Rc::clone(&count)?)?;
         let mut out = MemorySink::new(rt.alloc(), 4096, Vec::new(rt.alloc()))?;
-        assert!(rt; debugger.command(steps, &mut out).is_ok() && count.get() == 25_000);
-        assert!(rt; debugger.command(back, &mut out).is_ok() && count.get() == 25_000 + again);
+        assert!(rt; debugger.command(steps.as_bytes(), &mut out).is_ok() && count.get() == 25_000);
+        assert!(rt; debugger.command(back.as_bytes(), &mut out).is_ok());
+        assert!(rt; count.get().wrapping_sub(25_000) == *again, "{again}");
         assert!(rt; out.bytes().ends_with(text.as_bytes()), "{again}");
     }
     Ok(())

@@ -17,20 +17,14 @@ static EXAMPLE: [u8; 132] = [
     0x01, 0x00, 0x00, 0xd4,
 ];
 
-fn example() -> &'static [u8] {
-    &EXAMPLE
-}
-
 #[test]
 fn writes_and_loads_the_example(rt: HostRuntime) -> Result<(), Fail> {
     let file = write_elf(rt.alloc(), &[0x9100_0400, 0xd280_0ba8, 0xd400_0001])?;
-    assert!(rt; file.as_slice() == example());
     let image = load_elf(rt.alloc(), &file)?;
-    assert!(rt;
-        image.entry == 0x400078 && image.code_from == 0x400078 && image.code_end == 0x400084
-    );
-    let first = image.pages.first().ok_or("no page")?;
+    let found = [image.entry, image.code_from, image.code_end];
+    assert!(rt; file.as_slice() == EXAMPLE.as_slice() && found == [0x400078, 0x400078, 0x400084]);
+    let first = image.pages.first().expect(&rt, "a page");
     assert!(rt; first.page.number() == 0x400 && first.perm == Perm::ReadExec);
-    assert!(rt; first.bytes.as_slice().starts_with(example()) && image.pages.len() == 1);
+    assert!(rt; first.bytes.as_slice().starts_with(&EXAMPLE) && image.pages.len() == 1);
     Ok(())
 }

@@ -13,9 +13,8 @@ use lane_arith::merge::{merge, select};
 use lane_arith::reduce::reduce;
 use lane_arith::shift::shift;
 use lane_arith::unary::merge_one;
-use std::test::Fail;
 
-const WIDTHS: [Width; 4] = [Width::B, Width::H, Width::S, Width::D];
+static WIDTHS: [Width; 4] = [Width::B, Width::H, Width::S, Width::D];
 
 // The number whose top bit alone is set.
 fn least(width: Width) -> u64
@@ -55,7 +54,7 @@ fn mask(width: Width, kind: u32) -> PReg {
 
 #[test]
 fn operations_of_two(rt: HostRuntime) {
-    for width in WIDTHS {
+    for &width in &WIDTHS {
         let top = width.max();
         let low = least(width);
         for (op, a, b, want) in [
@@ -83,7 +82,7 @@ fn operations_of_two(rt: HostRuntime) {
 
 #[test]
 fn masks(rt: HostRuntime) {
-    for width in WIDTHS {
+    for &width in &WIDTHS {
         let left = filled(width, 5);
         let right = filled(width, 7);
         for kind in [0, 1, 2, 3] {
@@ -92,11 +91,18 @@ fn masks(rt: HostRuntime) {
             let chosen = select(width, &p, &left, &right);
             let minus = merge_one(LaneUnary::Neg, width, &p, &left, &right);
             for e in 0..width.all_lanes() {
-                let on = p.is_active(width, e);
-                assert_eq!(rt; sum.element(width, e), if on { 12 } else { 5 });
-                assert_eq!(rt; chosen.element(width, e), if on { 5 } else { 7 });
-                let negative = width.max() - 6;
-                assert_eq!(rt; minus.element(width, e), if on { negative } else { 5 });
+                let found = [
+                    sum.element(width, e),
+                    chosen.element(width, e),
+                    minus.element(width, e),
+                ];
+                let active = [12, 5, width.max() - 6];
+                let want = if p.is_active(width, e) {
+                    active
+                } else {
+                    [5, 7, 5]
+                };
+                assert!(rt; found == want, "{} bytes, element {e}", width.bytes());
             }
         }
     }
@@ -104,28 +110,46 @@ fn masks(rt: HostRuntime) {
 
 #[test]
 fn shifts(rt: HostRuntime) {
-    for width in WIDTHS {
+    for &width in &WIDTHS {
         let bits = width.bits();
         let low = least(width);
-        for (up, down, negative, positive) in [
-            (1, 1, low + low / 2, 1),
-            (bits - 1, bits, width.max(), 0),
+        for (up, left, down, negative, positive) in [
+            (1, 6, 1, low + low / 2, 1),
+            (bits - 1, low, bits, width.max(), 0),
         ] {
-            let z = shift(ShiftOp::Lsl, width, &filled(width, 3), up);
-            assert!(rt; is_filled(width, &z, if up == 1 { 6 } else { low }));
-            let z = shift(ShiftOp::Lsr, width, &filled(width, 2), down);
-            assert!(rt; is_filled(width, &z, positive));
-            let z = shift(ShiftOp::Asr, width, &filled(width, low), down);
-            assert!(rt; is_filled(width, &z, negative));
-            let z = shift(ShiftOp::Asr, width, &filled(width, 2), down);
-            assert!(rt; is_filled(width, &z, positive));
+            let two = filled(width, 2);
+            let found = [
+                is_filled(
+                    width,
+                    &shift(ShiftOp::Lsl, width, &filled(width, 3), up),
+                    left,
+                ),
+                is_filled(width, &shift(ShiftOp::Lsr, width, &two, down), positive),
+                is_filled(
+                    width,
+                    &shift(ShiftOp::Asr, width, &filled(width, low), down),
+                    negative,
+                ),
+                is_filled(width, &shift(ShiftOp::Asr, width, &two, down), positive),
+            ];
+            assert!(rt; found == [true; 4], "{} bytes: {found:?}", width.bytes());
         }
     }
 }
 
+// Extensions of 0xdead_beef_89ab_8280.
+static EXTENSIONS: [(LaneUnary, u64); 6] = [
+    (LaneUnary::SxtB, 0xffff_ffff_ffff_ff80),
+    (LaneUnary::UxtB, 0x80),
+    (LaneUnary::SxtH, 0xffff_ffff_ffff_8280),
+    (LaneUnary::UxtH, 0x8280),
+    (LaneUnary::SxtW, 0xffff_ffff_89ab_8280),
+    (LaneUnary::UxtW, 0x89ab_8280),
+];
+
 #[test]
 fn operations_of_one(rt: HostRuntime) {
-    for width in WIDTHS {
+    for &width in &WIDTHS {
         let all = mask(width, 3);
         for (op, a, want) in [
             (LaneUnary::Abs, least(width), least(width)),
@@ -139,79 +163,67 @@ fn operations_of_one(rt: HostRuntime) {
     }
     let z = filled(Width::D, 0xdead_beef_89ab_8280);
     let all = mask(Width::D, 3);
-    for (op, want) in [
-        (LaneUnary::SxtB, 0xffff_ffff_ffff_ff80),
-        (LaneUnary::UxtB, 0x80),
-        (LaneUnary::SxtH, 0xffff_ffff_ffff_8280),
-        (LaneUnary::UxtH, 0x8280),
-        (LaneUnary::SxtW, 0xffff_ffff_89ab_8280),
-        (LaneUnary::UxtW, 0x89ab_8280),
-    ] {
+    for &(op, want) in &EXTENSIONS {
         let extended = merge_one(op, Width::D, &all, &ZReg::zero(), &z);
         assert!(rt; is_filled(Width::D, &extended, want), "{want}");
     }
 }
 
 #[test]
-fn lengths(rt: HostRuntime) -> Result<(), Fail> {
+fn lengths(rt: HostRuntime) {
     for sixteenths in 1..17 {
-        let vl = Vl::new(128 * sixteenths).ok_or("no length")?;
-        for width in WIDTHS {
+        let vl = Vl::new(128 * sixteenths).expect(&rt, "a length");
+        for &width in &WIDTHS {
             let lanes = vl.lanes(width) as usize;
             let same = dup(width, vl, 0x1_0203_0405_0607);
             let row = index(width, vl, 3, -1);
+            let number = width.wrap(0x1_0203_0405_0607);
             for e in 0..width.all_lanes() {
-                let number = width.wrap(0x1_0203_0405_0607);
-                assert_eq!(rt; same.element(width, e), if e < lanes { number } else { 0 });
+                let found = [same.element(width, e), row.element(width, e)];
                 let counted = width.wrap(3u64.wrapping_sub(e as u64));
-                assert_eq!(rt; row.element(width, e), if e < lanes { counted } else { 0 });
+                let want = if e < lanes { [number, counted] } else { [0, 0] };
+                assert!(rt; found == want, "{} bytes, element {e}", width.bytes());
             }
-            let sum = reduce(
-                ReduceOp::UAdd,
-                width,
-                vl,
-                &mask(width, 3),
-                &filled(width, 2),
-            );
-            assert_eq!(rt; sum, 2 * lanes as u64);
+            let two = filled(width, 2);
+            let sum = reduce(ReduceOp::UAdd, width, vl, &mask(width, 3), &two);
+            assert!(rt; sum == 2 * lanes as u64, "{} bytes", width.bytes());
         }
     }
-    Ok(())
 }
 
 #[test]
-fn reductions(rt: HostRuntime) -> Result<(), Fail> {
-    let vl = Vl::new(384).ok_or("no length")?;
-    for width in WIDTHS {
-        let low = least(width);
+fn reductions(rt: HostRuntime) {
+    let vl = Vl::new(384).expect(&rt, "a length");
+    for &width in &WIDTHS {
+        let (low, top) = (least(width), width.max());
         let mut z = filled(width, 1);
         z.put(width, 0, low);
-        z.put(width, 1, width.max());
+        z.put(width, 1, top);
         for (op, none, one, all) in [
-            (ReduceOp::SMax, low, width.max(), 1),
-            (ReduceOp::UMax, 0, width.max(), width.max()),
-            (ReduceOp::SMin, low - 1, width.max(), low),
-            (ReduceOp::UMin, width.max(), width.max(), 1),
-            (ReduceOp::Or, 0, width.max(), width.max()),
-            (ReduceOp::And, width.max(), width.max(), 0),
+            (ReduceOp::SMax, low, top, 1),
+            (ReduceOp::UMax, 0, top, top),
+            (ReduceOp::SMin, low - 1, top, low),
+            (ReduceOp::UMin, top, top, 1),
+            (ReduceOp::Or, 0, top, top),
+            (ReduceOp::And, top, top, 0),
         ] {
-            for (kind, want) in [(0, none), (1, one), (3, all)] {
-                assert_eq!(rt; reduce(op, width, vl, &mask(width, kind), &z), want);
-            }
+            let found = [
+                reduce(op, width, vl, &mask(width, 0), &z),
+                reduce(op, width, vl, &mask(width, 1), &z),
+                reduce(op, width, vl, &mask(width, 3), &z),
+            ];
+            assert!(rt;
+                found == [none, one, all],
+                "{} bytes: {found:?}",
+                width.bytes()
+            );
         }
     }
     let bytes = filled(Width::B, 0xff);
-    assert_eq!(rt;
+    let found = [
         reduce(ReduceOp::UAdd, Width::B, vl, &mask(Width::B, 3), &bytes),
-        48 * 255
-    );
-    assert_eq!(rt;
         reduce(ReduceOp::UAdd, Width::B, vl, &mask(Width::B, 2), &bytes),
-        32 * 255
-    );
-    assert_eq!(rt;
         reduce(ReduceOp::Xor, Width::B, vl, &mask(Width::B, 1), &bytes),
-        0xff
-    );
-    Ok(())
+    ];
+    assert!(rt; found == [48 * 255, 32 * 255, 0xff]);
 }

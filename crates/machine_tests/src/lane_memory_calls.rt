@@ -111,10 +111,6 @@ static LOADS: [(Load, Width, usize, Result<u64, u64>); 34] = [
     ),
 ];
 
-fn loads() -> &'static [(Load, Width, usize, Result<u64, u64>)] {
-    &LOADS
-}
-
 // What LD1 gives of an element, or the address of its fault.
 fn read(pages: &Pages, read: Load, width: Width, e: usize) -> Option<Result<u64, u64>> {
     let (dtype, base, index, bits, mask) = read;
@@ -138,7 +134,7 @@ fn read(pages: &Pages, read: Load, width: Width, e: usize) -> Option<Result<u64,
 #[test]
 fn what_is_loaded(rt: HostRuntime) -> Result<(), Fail> {
     let pages = built(rt.alloc())?;
-    for (load, width, e, want) in loads() {
+    for (load, width, e, want) in &LOADS {
         let (dtype, base, ..) = *load;
         let got = read(&pages, *load, *width, *e);
         assert!(rt; got == Some(*want), "row {dtype} at {base}, element {e}");
@@ -166,10 +162,6 @@ static GATHERS: [(Gather, usize, Result<u64, u64>); 5] = [
     ((0x1ff0, 0, 0x2000, 1), 1, Err(0x3ff0)),
 ];
 
-fn gathers() -> &'static [(Gather, usize, Result<u64, u64>)] {
-    &GATHERS
-}
-
 // What a gather gives of an element, or the address of its fault.
 fn gathered(pages: &Pages, from: Gather, e: usize) -> Option<Result<u64, u64>> {
     let (base, first, second, mask) = from;
@@ -192,7 +184,7 @@ fn gathered(pages: &Pages, from: Gather, e: usize) -> Option<Result<u64, u64>> {
 #[test]
 fn what_is_gathered(rt: HostRuntime) -> Result<(), Fail> {
     let pages = built(rt.alloc())?;
-    for (from, e, want) in gathers() {
+    for (from, e, want) in &GATHERS {
         let (base, ..) = *from;
         let got = gathered(&pages, *from, *e);
         assert!(rt; got == Some(*want), "gather from {base}, element {e}");
@@ -204,8 +196,8 @@ fn what_is_gathered(rt: HostRuntime) -> Result<(), Fail> {
 #[test]
 fn first_faults(rt: HostRuntime) -> Result<(), Fail> {
     let pages = built(rt.alloc())?;
-    let row = LoadRow::new(10).ok_or("no row")?;
-    let vl = Vl::new(256).ok_or("no length")?;
+    let row = LoadRow { dtype: 10 };
+    let vl = Vl::new(256).expect(&rt, "a length");
     let pg = PReg { bits: [255; 32] };
     let mut ffr = PReg { bits: [255; 32] };
     let mut stops = Suppress::none();
@@ -224,18 +216,15 @@ fn first_faults(rt: HostRuntime) -> Result<(), Fail> {
 #[test]
 fn suppressed(rt: HostRuntime) -> Result<(), Fail> {
     let pages = built(rt.alloc())?;
-    let row = LoadRow::new(0).ok_or("no row")?;
-    let vl = Vl::new(128).ok_or("no length")?;
+    let row = LoadRow { dtype: 0 };
+    let vl = Vl::new(128).expect(&rt, "a length");
     let pg = PReg { bits: [255; 32] };
-    let mut ffr = PReg { bits: [255; 32] };
-    let mut stops = Suppress::each(3).ok_or("no stops")?;
-    let mode = LoadMode::FirstFault;
-    let some = load(&pages, mode, row, 0, 0, vl, &pg, &mut ffr, &mut stops);
-    assert!(rt; some.is_ok() && ffr.bits[0] == 0x07);
-    ffr.bits = [255; 32];
-    let mode = LoadMode::NonFault;
-    let some = load(&pages, mode, row, 0, 0, vl, &pg, &mut ffr, &mut stops);
-    assert!(rt; some.is_ok() && ffr.bits[0] == 0x03);
+    let mut stops = Suppress::each(3).expect(&rt, "stops");
+    for (mode, bits) in [(LoadMode::FirstFault, 0x07), (LoadMode::NonFault, 0x03)] {
+        let mut ffr = PReg { bits: [255; 32] };
+        let some = load(&pages, mode, row, 0, 0, vl, &pg, &mut ffr, &mut stops);
+        assert!(rt; some.is_ok() && ffr.bits[0] == bits, "{bits}");
+    }
     assert!(rt; Suppress::each(0).is_none());
     Ok(())
 }
@@ -301,10 +290,6 @@ static STORES: [(Store, Result<(), u64>, u64, u64); 12] = [
     ((3, 3, 0x28, u64::MAX, 128, 255), Ok(()), 0x30, 0),
 ];
 
-fn stores() -> &'static [(Store, Result<(), u64>, u64, u64)] {
-    &STORES
-}
-
 // The result of ST1, or the address of its fault.
 fn write(pages: &mut Pages, write: Store, z: &ZReg) -> Option<Result<(), u64>> {
     let (msz, size, base, index, bits, mask) = write;
@@ -321,12 +306,15 @@ fn write(pages: &mut Pages, write: Store, z: &ZReg) -> Option<Result<(), u64>> {
 fn what_is_stored(rt: HostRuntime) -> Result<(), Fail> {
     let mut z = ZReg { bytes: [0x33; 256] };
     z.put(Width::D, 0, 0x0807_0605_0403_0201);
-    for (store, want, at, number) in stores() {
+    for (store, want, at, number) in &STORES {
         let mut pages = built(rt.alloc())?;
         let (msz, _, base, ..) = *store;
         let got = write(&mut pages, *store, &z);
-        assert!(rt; got == Some(*want), "size {msz} at {base}");
-        assert!(rt; pages.load(*at, 8) == Ok(*number), "size {msz} at {base}");
+        let then = pages.load(*at, 8);
+        assert!(rt;
+            got == Some(*want) && then == Ok(*number),
+            "size {msz} at {base}"
+        );
     }
     Ok(())
 }

@@ -69,12 +69,12 @@ fn two_images(alloc: Global) -> Result<(Image, Image, Pages), AllocError> {
 #[test]
 fn pages_go(rt: HostRuntime) -> Result<(), Fail> {
     let (_high, low, mut pages) = two_images(rt.alloc())?;
-    assert!(rt; pages.store(0x100_0ffc, 8, 0x1122_3344_5566_7788) == Ok(()));
-    assert!(rt; pages.fetch(0x40_1000) == Some(0xd503_201f));
+    let stored = pages.store(0x100_0ffc, 8, 0x1122_3344_5566_7788);
+    assert!(rt; stored == Ok(()) && pages.fetch(0x40_1000) == Some(0xd503_201f));
     pages.unmap_image(&low);
-    assert!(rt; pages.byte(0x40_0000).is_none() && pages.byte(0x40_1000).is_none());
-    assert!(rt; pages.load(0x100_0ffc, 8) == Ok(0x1122_3344_5566_7788));
-    assert!(rt; pages.load(0x100_0000, 4) == Ok(0xd503_201f));
+    assert!(rt; [pages.byte(0x40_0000), pages.byte(0x40_1000)] == [None; 2]);
+    let loaded = [pages.load(0x100_0ffc, 8), pages.load(0x100_0000, 4)];
+    assert!(rt; loaded == [Ok(0x1122_3344_5566_7788), Ok(0xd503_201f)]);
     Ok(())
 }
 
@@ -82,51 +82,84 @@ fn pages_go(rt: HostRuntime) -> Result<(), Fail> {
 fn pages_below_stay(rt: HostRuntime) -> Result<(), Fail> {
     let (high, _low, mut pages) = two_images(rt.alloc())?;
     pages.unmap_image(&high);
-    assert!(rt; pages.byte(0x100_0000).is_none() && pages.byte(0x100_1000).is_none());
-    assert!(rt;
-        pages.fetch(0x40_0000) == Some(0xd503_201f) && pages.fetch(0x40_1000) == Some(0xd503_201f)
-    );
+    let gone = [pages.byte(0x100_0000), pages.byte(0x100_1000)];
+    let code = [pages.fetch(0x40_0000), pages.fetch(0x40_1000)];
+    assert!(rt; gone == [None; 2] && code == [Some(0xd503_201f); 2]);
     Ok(())
 }
+
+// An address, eight bytes that are stored there, and what comes of it.
+static STORED: [(u64, u64, Result<(), AccessFault>); 5] = [
+    (0x100_0ffc, 0x1122_3344_5566_7788, Ok(())),
+    (0x100_0010, 0x1122_3344_5566_7788, Ok(())),
+    (0x100_0013, 0xabcd, Ok(())),
+    (
+        0x100_1ff9,
+        u64::MAX,
+        Err(AccessFault {
+            address: 0x100_2000,
+            write: true,
+        }),
+    ),
+    (
+        0x40_0008,
+        1,
+        Err(AccessFault {
+            address: 0x40_0008,
+            write: true,
+        }),
+    ),
+];
+
+// An address, and the four bytes that are loaded from it then.
+static LOADED: [(u64, Result<u64, AccessFault>); 8] = [
+    (0x100_0ffc, Ok(0x5566_7788)),
+    (0x100_0ffe, Ok(0x3344_5566)),
+    (0x100_1000, Ok(0x1122_3344)),
+    (0x100_0010, Ok(0xcd66_7788)),
+    (0x100_0013, Ok(0xabcd)),
+    (0x100_1ffc, Ok(0)),
+    (
+        0x100_1ffe,
+        Err(AccessFault {
+            address: 0x100_2000,
+            write: false,
+        }),
+    ),
+    (
+        u64::MAX,
+        Err(AccessFault {
+            address: u64::MAX,
+            write: false,
+        }),
+    ),
+];
 
 #[test]
 fn loads_and_stores(rt: HostRuntime) -> Result<(), Fail> {
     let mut pages = built(rt.alloc(), 0x1000, 2, Perm::ReadWrite)?;
-    for (address, number, want) in [
-        (0x100_0ffc, 0x1122_3344_5566_7788, Ok(())),
-        (0x100_0010, 0x1122_3344_5566_7788, Ok(())),
-        (0x100_0013, 0xabcd, Ok(())),
-        (0x100_1ff9, u64::MAX, Err(AccessFault::write(0x100_2000))),
-        (0x40_0008, 1, Err(AccessFault::write(0x40_0008))),
-    ] {
+    for &(address, number, want) in &STORED {
         assert!(rt; pages.store(address, 8, number) == want, "{address:x}");
     }
-    for (address, want) in [
-        (0x100_0ffc, Ok(0x5566_7788)),
-        (0x100_0ffe, Ok(0x3344_5566)),
-        (0x100_1000, Ok(0x1122_3344)),
-        (0x100_0010, Ok(0xcd66_7788)),
-        (0x100_0013, Ok(0xabcd)),
-        (0x100_1ffc, Ok(0)),
-        (0x100_1ffe, Err(AccessFault::read(0x100_2000))),
-        (u64::MAX, Err(AccessFault::read(u64::MAX))),
-    ] {
+    for &(address, want) in &LOADED {
         assert!(rt; pages.load(address, 4) == want, "{address:x}");
     }
-    assert!(rt; pages.byte(0x100_0fff) == Some(0x55) && pages.byte(0x100_2000).is_none());
+    assert!(rt; [pages.byte(0x100_0fff), pages.byte(0x100_2000)] == [Some(0x55), None]);
     Ok(())
 }
+
+static FETCHED: [(u64, Option<u32>); 5] = [
+    (0x40_0000, Some(0xd503_201f)),
+    (0x40_0ffc, Some(0)),
+    (0x40_0002, None),
+    (0x40_1000, None),
+    (0x100_0000, None),
+];
 
 #[test]
 fn fetches(rt: HostRuntime) -> Result<(), Fail> {
     let pages = built(rt.alloc(), 0x1000, 1, Perm::Read)?;
-    for (address, want) in [
-        (0x40_0000, Some(0xd503_201f)),
-        (0x40_0ffc, Some(0)),
-        (0x40_0002, None),
-        (0x40_1000, None),
-        (0x100_0000, None),
-    ] {
+    for &(address, want) in &FETCHED {
         assert!(rt; pages.fetch(address) == want, "{address:x}");
     }
     Ok(())
@@ -166,18 +199,21 @@ fn put(pages: &mut Pages, address: u64, bytes: &[u8]) -> bool
     }
 }
 
+// An address, a length, and whether there is a span of it.
+static SPANS: [(u64, u32, bool); 5] = [
+    (0x100_0ffe, 3, false),
+    (0x100_1ffc, 4, true),
+    (0x100_2000, 1, false),
+    (0x100_0000, 0, false),
+    (0x40_0000, 4096, true),
+];
+
 #[test]
 fn spans(rt: HostRuntime) -> Result<(), Fail> {
     let mut pages = built(rt.alloc(), 0x1000, 2, Perm::ReadWrite)?;
     assert!(rt; put(&mut pages, 0x100_0ffc, &[0x11, 0x22, 0x33, 0x44]));
     assert!(rt; pages.span(0x100_0ffe, 2) == Some(&[0x33, 0x44]));
-    for (address, len, some) in [
-        (0x100_0ffe, 3, false),
-        (0x100_1ffc, 4, true),
-        (0x100_2000, 1, false),
-        (0x100_0000, 0, false),
-        (0x40_0000, 4096, true),
-    ] {
+    for &(address, len, some) in &SPANS {
         assert!(rt; pages.span(address, len).is_some() == some, "{address:x}");
     }
     assert!(rt; !put(&mut pages, 0x40_0000, &[0, 0, 0, 0]));
@@ -211,6 +247,15 @@ fn write_twelve(pages: &mut Pages) {
     let _after = pages.store(0x100_1ffc, 8, 0);
 }
 
+// A memory that is gone back to, and the numbers at page 0, across pages 1 and 2, and at page 3 then.
+static BACK: [(u8, u64, u64, u64); 5] = [
+    (7, 12, 12, 11),
+    (5, 10, 10, 10),
+    (5, 10, 10, 10),
+    (2, 7, 6, 7),
+    (0, 5, 4, 5),
+];
+
 #[test]
 fn goes_back(rt: HostRuntime) -> Result<(), Fail> {
     let mut pages = built(rt.alloc(), 0x1000, 4, Perm::ReadWrite)?;
@@ -218,20 +263,17 @@ fn goes_back(rt: HostRuntime) -> Result<(), Fail> {
     pages.begin(rt.alloc())?;
     write_twelve(&mut pages);
     assert!(rt; pages.kept() == 8 && pages.load(0x100_1ffc, 8) == Ok(0));
-    for (n, low, across, span) in [
-        (7, 12, 12, 11),
-        (5, 10, 10, 10),
-        (5, 10, 10, 10),
-        (2, 7, 6, 7),
-        (0, 5, 4, 5),
-    ] {
-        assert!(rt; go_back(&mut pages, n) && pages.kept() == n + 1, "{n}");
-        assert!(rt; pages.load(0x100_0010, 8) == Ok(low), "{n}");
-        assert!(rt;
-            pages.load(0x100_1ffc, 4) == Ok(across) && pages.load(0x100_2000, 4) == Ok(across),
-            "{n}"
-        );
-        assert!(rt; pages.load(0x100_3020, 4) == Ok(span), "{n}");
+    for &(n, low, across, span) in &BACK {
+        let n = usize::from(n);
+        let back = go_back(&mut pages, n);
+        let found = [
+            pages.load(0x100_0010, 8),
+            pages.load(0x100_1ffc, 4),
+            pages.load(0x100_2000, 4),
+            pages.load(0x100_3020, 4),
+        ];
+        let want = [Ok(low), Ok(across), Ok(across), Ok(span)];
+        assert!(rt; back && pages.kept() == n + 1 && found == want, "{n}");
         let _lost = pages.store(0x100_0010, 8, 99);
     }
     assert!(rt; !go_back(&mut pages, 1));
