@@ -10,48 +10,56 @@ use guest_types::register::ZReg;
 use guest_types::row::{LoadRow, StoreRow};
 use std::test::Fail;
 
+// The bits of a vector, the number of a load's row, and the sizes of a store's, with whether each is valid.
+static VALID: [(u32, u32, (u32, u32), bool); 6] = [
+    (0, 16, (0, 4), false),
+    (127, 16, (2, 1), false),
+    (128, 0, (0, 0), true),
+    (192, 17, (2, 1), false),
+    (2048, 15, (3, 3), true),
+    (2176, 255, (4, 4), false),
+];
+
 #[test]
 fn what_is_none(rt: HostRuntime) {
-    for (bits, dtype, (msz, size), valid) in [
-        (0, 16, (0, 4), false),
-        (127, 16, (2, 1), false),
-        (128, 0, (0, 0), true),
-        (192, 17, (2, 1), false),
-        (2048, 15, (3, 3), true),
-        (2176, 255, (4, 4), false),
-    ] {
-        assert!(rt; Vl::new(bits).is_some() == valid, "{bits} bits");
-        assert!(rt; LoadRow::new(dtype).is_some() == valid, "dtype {dtype}");
-        assert!(rt;
-            StoreRow::new(msz, size).is_some() == valid,
-            "{msz}, {size}"
-        );
+    for &(bits, dtype, (msz, size), valid) in &VALID {
+        let found = [
+            Vl::new(bits).is_some(),
+            LoadRow::new(dtype).is_some(),
+            StoreRow::new(msz, size).is_some(),
+        ];
+        assert!(rt; found == [valid; 3], "{bits} bits: {found:?}");
     }
     assert!(rt; PageNo::new(1 << 36).is_none());
 }
 
 #[test]
-fn lengths_and_rows(rt: HostRuntime) -> Result<(), Fail> {
-    let vl = Vl::new(384).ok_or("no length")?;
-    let lanes = [
+fn lengths_and_rows(rt: HostRuntime) {
+    let vl = Vl::new(384).expect(&rt, "a length");
+    let found = [
+        vl.bits(),
         vl.lanes(Width::B),
         vl.lanes(Width::H),
         vl.lanes(Width::S),
         vl.lanes(Width::D),
     ];
-    assert!(rt; vl.bits() == 384 && lanes == [48, 24, 12, 6]);
+    assert!(rt; found == [384, 48, 24, 12, 6]);
     let width = Width::H;
     assert!(rt; width.bytes() * width.all_lanes() == 256 && width.wrap(0x1_ffff) == width.max());
-    let load = LoadRow::new(8).ok_or("no row")?;
-    assert!(rt; load.is_signed() && load.memory() == Width::H && load.element() == Width::D);
-    let store = StoreRow::new(0, 2).ok_or("no row")?;
-    assert!(rt; store.memory() == Width::B && store.element() == Width::S);
-    Ok(())
+    let load = LoadRow::new(8).expect(&rt, "a row");
+    let store = StoreRow::new(0, 2).expect(&rt, "a row");
+    let widths = [
+        load.memory(),
+        load.element(),
+        store.memory(),
+        store.element(),
+    ];
+    assert!(rt; widths == [Width::H, Width::D, Width::B, Width::S] && load.is_signed());
 }
 
 #[test]
 fn pages(rt: HostRuntime) -> Result<(), Fail> {
-    let page = PageNo::new((1 << 36) - 1).ok_or("no page")?;
+    let page = PageNo::new((1 << 36) - 1).expect(&rt, "a page");
     assert!(rt; page.number() == 0xF_FFFF_FFFF);
     let mut bytes = PageBytes::new(vec![in rt.alloc(); 0u8; 4096]?);
     bytes.put(4095, 9);
@@ -71,7 +79,12 @@ fn registers(rt: HostRuntime) {
     assert!(rt; z.element(Width::S, 0) == 0x2345_0000);
     let mut p = PReg::none();
     p.put(12, true);
-    assert!(rt; p.bit(12) && p.is_active(Width::S, 3) && !p.is_active(Width::D, 1));
+    let found = [
+        p.bit(12),
+        p.is_active(Width::S, 3),
+        p.is_active(Width::D, 1),
+    ];
+    assert!(rt; found == [true, true, false]);
 }
 
 #[test]

@@ -36,13 +36,12 @@ fn registers(rt: HostRuntime) -> Result<(), Fail> {
 #[test]
 fn too_many(rt: HostRuntime) -> Result<(), Fail> {
     let three = [interval(5, 8), interval(5, 6), interval(5, 6)];
-    assert!(rt; need(&three) == 3);
     let fault = AssignFault::TooMany {
         class: RegClass::P,
         need: 3,
     };
     let refused = assign(rt.alloc(), &three, RegClass::P, 2).err();
-    assert!(rt; refused == Some(fault));
+    assert!(rt; need(&three) == 3 && refused == Some(fault));
     let text = format!(in rt.alloc(); "{fault}")?;
     assert!(rt; text.as_str() == "too many live p 3");
     Ok(())

@@ -2,16 +2,18 @@
 
 use text_parts::cut;
 
+// A text, its first part and the rest; where nothing follows, `-` stands for it.
+static CUTS: [(&str, &str, &str); 5] = [
+    ("set 0x10 05", "set", "0x10 05"),
+    (" set", "", "set"),
+    ("set ", "set", ""),
+    ("set", "set", "-"),
+    ("", "", "-"),
+];
+
 #[test]
 fn first_parts(rt: HostRuntime) {
-    // Where nothing follows, `-` stands for it.
-    for (text, first, rest) in [
-        ("set 0x10 05", "set", "0x10 05"),
-        (" set", "", "set"),
-        ("set ", "set", ""),
-        ("set", "set", "-"),
-        ("", "", "-"),
-    ] {
+    for (text, first, rest) in &CUTS {
         let (part, after) = cut(b' ', text.as_bytes());
         let after = after.unwrap_or(b"-");
         assert!(rt;
