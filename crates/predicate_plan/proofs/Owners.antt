@@ -8,8 +8,8 @@ use Rattle.kernel_tree.specs.Plain.{Term, Literal, Variable, Element, Unary, Ope
 use Rattle.kernel_tree.specs.Items.{index_of, stream_offset, term_size, index_size, index_items, action_size, block_size, otherwise_size, loop_start}
 use Rattle.kernel_tree.specs.Typing.{Scope, own, index_type, first, side_type, after_action, after_block, left, in_loop, var_scope, array_type}
 use Rattle.kernel_tree.proofs.Scopes.{index_after, scope_index}
-use Rattle.kernel_tree.specs.Kinds.{IsValue, IsTruth, ActionKinds, BlockKinds, OtherwiseKinds}
-use Rattle.loop_form.specs.LoopItems.{Item, Bound, accumulator_of, truth_home, gather_item, load_item, store_item, term_items, cond_items, after_env, break_items, leave_items, action_items, block_items, otherwise_items, loop_env, loop_items}
+use Rattle.kernel_tree.specs.Kinds.{IsValue, IsTruth, ActionKinds, BlockKinds, OtherwiseKinds, ForLoopKinds}
+use Rattle.loop_form.specs.LoopItems.{for_loop_items, Item, Bound, accumulator_of, truth_home, gather_item, load_item, store_item, term_items, cond_items, after_env, break_items, leave_items, action_items, block_items, otherwise_items, loop_env, loop_items}
 use Rattle.predicate_plan.specs.declared.part.MaskPart.{MaskPart}
 use Rattle.predicate_plan.specs.Masks.{meets, and_part, inner_masks, term_masks, action_masks, block_masks, otherwise_masks, mask_at, loop_masks, masks_of}
 use Rattle.predicate_plan.specs.Owners.{is_on, AreSettled, AreOwned}
@@ -264,7 +264,7 @@ for_loop_agrees from l =
 
 -- In a lane whose truths are those that the items of the loop leave, each item is done exactly where all parts of its mask
 -- are met.
-pub owners_met : (k : Program) (l : PlainLoop) (truth : ℕ → Bool) → k.for_loop ≡ Some l → BlockKinds l.body → AreSettled truth (loop_items k l) → AreOwned (mask_at (masks_of k)) truth (loop_items k l)
+owners_met : (k : Program) (l : PlainLoop) (truth : ℕ → Bool) → k.for_loop ≡ Some l → BlockKinds l.body → AreSettled truth (loop_items k l) → AreOwned (mask_at (masks_of k)) truth (loop_items k l)
 owners_met k l truth loop form settled =
     let from = loop_start k in
     let scope = in_loop (var_scope k) l in
@@ -274,3 +274,7 @@ owners_met k l truth loop form settled =
     subst (λ i. Agree (mask_at (masks_of k)) (from + 1) (block_masks i (from + 1) [] l.body)) (sym index)
     (subst (λ ms. Agree (mask_at ms) (from + 1) (block_masks (Some l.index) (from + 1) [] l.body)) masks (for_loop_agrees from l)) in
     block_owned (mask_at (masks_of k)) truth l.body form scope None (from + 1) (loop_env (var_scope k) l.index) [] [] refl agree settled (λ s. tt)
+
+pub loop_owners_met : (k : Program) (o : Option PlainLoop) (truth : ℕ → Bool) → k.for_loop ≡ o → ForLoopKinds o → AreSettled truth (for_loop_items k o) → AreOwned (mask_at (masks_of k)) truth (for_loop_items k o)
+loop_owners_met k None truth e f settled = tt
+loop_owners_met k (Some l) truth e f settled = owners_met k l truth e f settled
