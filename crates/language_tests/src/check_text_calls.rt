@@ -31,20 +31,22 @@ fn item(kind: ItemKind, ty: Option<Ty>, last_use: Option<u32>) -> Item {
     }
 }
 
-// y[i] is item 5, k item 6, x[i] item 7, the product item 8, the sum item 9, and the store item 10.
+// The loop is item 4, y[i] item 5, k item 6, x[i] item 7, the product item 8, the sum item 9, and the store item 10.
 #[test]
 fn items_and_values(rt: HostRuntime) -> Result<(), Fail> {
     let kernel = accept(rt.alloc(), AXPY.as_bytes())?;
     let items = listing(rt.alloc(), &kernel)?;
     let int = Some(Ty::I32);
-    assert_eq!(rt; items.len(), 11);
-    assert_eq!(rt; items[4], item(ItemKind::For, None, None));
-    assert_eq!(rt; items[5], item(ItemKind::Read, int, Some(9)));
-    assert_eq!(rt; items[6], item(ItemKind::Name, int, None));
-    assert_eq!(rt; items[7], item(ItemKind::Read, int, Some(8)));
-    assert_eq!(rt; items[8], item(ItemKind::Binary, int, Some(9)));
-    assert_eq!(rt; items[9], item(ItemKind::Binary, int, Some(10)));
-    assert_eq!(rt; items[10], item(ItemKind::Store, None, None));
+    let last = [
+        item(ItemKind::For, None, None),
+        item(ItemKind::Read, int, Some(9)),
+        item(ItemKind::Name, int, None),
+        item(ItemKind::Read, int, Some(8)),
+        item(ItemKind::Binary, int, Some(9)),
+        item(ItemKind::Binary, int, Some(10)),
+        item(ItemKind::Store, None, None),
+    ];
+    assert!(rt; items.len() == 11 && items.as_slice().ends_with(&last));
     Ok(())
 }
 
@@ -61,10 +63,12 @@ fn stream(param: u32, store: bool, item: u32) -> Stream {
 fn accesses_in_their_order(rt: HostRuntime) -> Result<(), Fail> {
     let kernel = accept(rt.alloc(), AXPY.as_bytes())?;
     let streams = streams(rt.alloc(), &kernel)?;
-    assert_eq!(rt; streams.len(), 3);
-    assert_eq!(rt; streams[0], stream(0, false, 5));
-    assert_eq!(rt; streams[1], stream(1, false, 7));
-    assert_eq!(rt; streams[2], stream(0, true, 10));
+    let want = [
+        stream(0, false, 5),
+        stream(1, false, 7),
+        stream(0, true, 10),
+    ];
+    assert!(rt; streams.as_slice() == want.as_slice());
     Ok(())
 }
 
@@ -72,10 +76,13 @@ fn accesses_in_their_order(rt: HostRuntime) -> Result<(), Fail> {
 #[test]
 fn reaches_of_indexes(rt: HostRuntime) -> Result<(), Fail> {
     let kernel = accept(rt.alloc(), LOOKED_UP.as_bytes())?;
-    assert_eq!(rt; index_reach(&kernel, 5), None);
-    assert_eq!(rt; index_reach(&kernel, 6), Some(65_536));
-    assert_eq!(rt; index_reach(&kernel, 8), None);
-    assert_eq!(rt; index_reach(&kernel, 10), None);
+    let found = [
+        index_reach(&kernel, 5),
+        index_reach(&kernel, 6),
+        index_reach(&kernel, 8),
+        index_reach(&kernel, 10),
+    ];
+    assert!(rt; found == [None, Some(65_536), None, None]);
     Ok(())
 }
 
@@ -87,15 +94,18 @@ fn interval(from: u32, last_use: u32) -> Interval {
 #[test]
 fn intervals_of_values(rt: HostRuntime) -> Result<(), Fail> {
     let kernel = accept(rt.alloc(), AXPY.as_bytes())?;
-    let intervals_z = intervals(rt.alloc(), &kernel, RegClass::Z)?;
-    assert_eq!(rt; intervals_z.len(), 5);
-    assert_eq!(rt; intervals_z[0], interval(0, 11));
-    assert_eq!(rt; intervals_z[1], interval(5, 9));
-    assert_eq!(rt; intervals_z[2], interval(7, 8));
-    assert_eq!(rt; intervals_z[3], interval(8, 9));
-    assert_eq!(rt; intervals_z[4], interval(9, 10));
-    assert_eq!(rt; intervals(rt.alloc(), &kernel, RegClass::P)?.len(), 0);
-    assert_eq!(rt; intervals(rt.alloc(), &kernel, RegClass::X)?.len(), 4);
+    let want = [
+        interval(0, 11),
+        interval(5, 9),
+        interval(7, 8),
+        interval(8, 9),
+        interval(9, 10),
+    ];
+    let z = intervals(rt.alloc(), &kernel, RegClass::Z)?;
+    assert!(rt; z.as_slice() == want.as_slice());
+    let p = intervals(rt.alloc(), &kernel, RegClass::P)?;
+    let x = intervals(rt.alloc(), &kernel, RegClass::X)?;
+    assert!(rt; [p.len(), x.len()] == [0, 4]);
     Ok(())
 }
 
@@ -103,19 +113,21 @@ fn intervals_of_values(rt: HostRuntime) -> Result<(), Fail> {
 fn items_of_the_loop(rt: HostRuntime) -> Result<(), Fail> {
     let kernel = accept(rt.alloc(), AXPY.as_bytes())?;
     let items = loop_items(rt.alloc(), &kernel)?;
-    assert_eq!(rt; items.len(), 5);
-    assert_eq!(rt; items[0].item, 5);
-    assert_eq!(rt; items[4].item, 10);
-    let product = matches!(
-        items[2].op,
-        LoopOp::Binary {
-            op: BinaryOp::Mul,
-            ty: Some(Ty::I32),
-            left: Operand::Outer(2),
-            right: Operand::Made(7),
-        }
+    let [first, _, product, _, last] = items.as_slice() else {
+        return Err("not five items".into());
+    };
+    assert!(rt; [first.item, last.item] == [5, 10]);
+    assert!(rt;
+        matches!(
+            product.op,
+            LoopOp::Binary {
+                op: BinaryOp::Mul,
+                ty: Some(Ty::I32),
+                left: Operand::Outer(2),
+                right: Operand::Made(7),
+            }
+        )
     );
-    assert!(rt; product);
     Ok(())
 }
 
@@ -128,11 +140,10 @@ fn needs_and_classes(rt: HostRuntime) -> Result<(), Fail> {
         p: 0,
         x: 2,
     };
-    assert_eq!(rt; needs(rt.alloc(), &axpy)?, needed);
-    assert_eq!(rt; lane_width(&axpy), Width::S);
-    assert_eq!(rt; class(&axpy), Class::Vector);
+    assert!(rt; needs(rt.alloc(), &axpy)? == needed && lane_width(&axpy) == Width::S);
     let spread = accept(rt.alloc(), SPREAD.as_bytes())?;
-    assert_eq!(rt; class(&spread), Class::Scalar { why: Why::Carried });
+    let carried = Class::Scalar { why: Why::Carried };
+    assert!(rt; [class(&axpy), class(&spread)] == [Class::Vector, carried]);
     Ok(())
 }
 
@@ -142,6 +153,6 @@ fn text_of_a_kernel(rt: HostRuntime) -> Result<(), Fail> {
     let text = check_text(rt.alloc(), &kernel)?;
     let lines =
         b"kernel spread ( a : [ u8 ] , n : u64 ) { for i in 0 .. n { a [ i + 1 ] = a [ i ] ; } }\nsize 5\nclass scalar carried\nneed x 1\n";
-    assert_eq!(rt; text.as_slice(), lines.as_slice());
+    assert!(rt; text.as_slice() == lines.as_slice());
     Ok(())
 }

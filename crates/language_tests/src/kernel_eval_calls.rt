@@ -1,14 +1,12 @@
 //! A kernel that counts, over a memory with no pages.
 
-ghost use Rattle.std.specs.Prelude.{◌≡◌, [], IfOk};
-ghost use Rattle.kernel_tree.specs.Plain.{name_of};
+ghost use Rattle.std.specs.Prelude.{[]};
 
 use guest_types::guest::GuestMemory;
 use guest_types::memory::AccessFault;
 use kernel_eval::scalar_run;
+use kernel_front::accept;
 use kernel_meaning::ScalarOutcome;
-use kernel_tree::{Answer, Checked, Expr, Kernel, Loop, Name, Param, Shape, Ty};
-use std::alloc::Global;
 use std::test::Fail;
 
 // A memory in which each access faults.
@@ -34,86 +32,34 @@ impl GuestMemory for Unmapped {
     }
 }
 
-fn name(alloc: Global, text: &str) -> Result<Name, Fail>
-    ensures { IfOk result (λ name. name_of name ≡ text.now) }
-{
-    let name = Name::new(alloc, text)?.ok_or("no name")?;
-    Ok(name)
-}
-
-// kernel f(n: u64) -> u64 { for i in 0..n { } return i; }
-fn count(alloc: Global) -> Result<Checked, Fail> {
-    let mut params = Vec::new(alloc);
-    params.push(Param {
-        name: name(alloc, "n")?,
-        shape: Shape::Scalar(Ty::U64),
-    })?;
-    let for_loop = Loop {
-        index: name(alloc, "i")?,
-        bound: name(alloc, "n")?,
-        body: Vec::new(alloc),
-    };
-    let answer = Answer {
-        ty: Ty::U64,
-        value: Expr::Var(name(alloc, "i")?),
-    };
-    let kernel = Kernel {
-        name: name(alloc, "f")?,
-        params,
-        vars: Vec::new(alloc),
-        body: Some(for_loop),
-        answer: Some(answer),
-    };
-    let mut types = Vec::new(alloc);
-    types.push(None)?;
-    types.push(None)?;
-    types.push(Some(Ty::U64))?;
-    types.push(None)?;
-    Ok(Checked::new(kernel, types))
-}
+// An argument, the most iterations, and what is counted, where they are enough.
+static COUNTED: [(u64, u64, Option<u64>); 4] = [
+    (3, 5, Some(3)),
+    (3, 3, Some(3)),
+    (3, 2, None),
+    (0, 0, Some(0)),
+];
 
 #[test]
 fn counts_iterations(rt: HostRuntime) -> Result<(), Fail> {
-    let alloc = rt.alloc();
-    let kernel = count(alloc)?;
+    let text = b"kernel f(n: u64) -> u64 { for i in 0..n { } return i; }";
+    let kernel = accept(rt.alloc(), text)?;
     let mut memory = Unmapped { stores: 0 };
-    for (args, limit, want) in [
-        (
-            3,
-            5,
-            ScalarOutcome::End {
-                result: 3,
-                begun: 3,
+    for &(argument, limit, counted) in &COUNTED {
+        let want = match counted {
+            Some(n) => ScalarOutcome::End {
+                result: n,
+                begun: n,
             },
-        ),
-        (
-            3,
-            3,
-            ScalarOutcome::End {
-                result: 3,
-                begun: 3,
-            },
-        ),
-        (3, 2, ScalarOutcome::Spent),
-        (
-            0,
-            0,
-            ScalarOutcome::End {
-                result: 0,
-                begun: 0,
-            },
-        ),
-    ] {
-        let outcome = scalar_run(alloc, &kernel, &[args], &mut memory, limit)?;
-        assert!(rt; outcome == want);
+            None => ScalarOutcome::Spent,
+        };
+        let outcome = scalar_run(rt.alloc(), &kernel, &[argument], &mut memory, limit)?;
+        assert!(rt; outcome == want, "{argument}, {limit}");
     }
-    let missing = scalar_run(alloc, &kernel, &[], &mut memory, 9)?;
-    assert!(rt;
-        missing
-            == ScalarOutcome::End {
-                result: 0,
-                begun: 0
-            }
-    );
+    let none = ScalarOutcome::End {
+        result: 0,
+        begun: 0,
+    };
+    assert!(rt; scalar_run(rt.alloc(), &kernel, &[], &mut memory, 9)? == none);
     Ok(())
 }

@@ -14,26 +14,23 @@ fn fault_of(alloc: Global, text: &str) -> Option<KernelFault> {
 #[test]
 fn accepts_a_sound_kernel(rt: HostRuntime) -> Result<(), Fail> {
     let kernel = accept(rt.alloc(), b"kernel f(x: u64) -> u64 { return x + 1; }")?;
-    assert_eq!(rt; kernel.kernel().name.text(), "f");
-    assert_eq!(rt; kernel.ty(0), None);
-    assert_eq!(rt; kernel.ty(1), Some(Ty::U64));
-    assert_eq!(rt; kernel.ty(3), Some(Ty::U64));
-    assert_eq!(rt; kernel.ty(4), None);
+    let types = [kernel.ty(0), kernel.ty(1), kernel.ty(3), kernel.ty(4)];
+    assert!(rt; types == [None, Some(Ty::U64), Some(Ty::U64), None]);
+    assert!(rt; kernel.kernel().name.text() == "f");
     Ok(())
 }
 
 #[test]
 fn refuses_the_others(rt: HostRuntime) {
-    let bad_byte = KernelFault::Unread(ReadFault::BadByte { at: 7 });
-    let no_tree = KernelFault::Unread(ReadFault::Syntax { token: 13 });
-    let broken = KernelFault::Broken(TypeFault::LiteralRange { item: 2 });
-    assert_eq!(rt; fault_of(rt.alloc(), "kernel @"), Some(bad_byte));
-    assert_eq!(rt;
+    let faults = [
+        fault_of(rt.alloc(), "kernel @"),
         fault_of(rt.alloc(), "kernel f(x: u64) -> u64 { return x + ; }"),
-        Some(no_tree)
-    );
-    assert_eq!(rt;
         fault_of(rt.alloc(), "kernel f(x: u8) -> u8 { return x + 300; }"),
-        Some(broken)
-    );
+    ];
+    let want = [
+        Some(KernelFault::Unread(ReadFault::BadByte { at: 7 })),
+        Some(KernelFault::Unread(ReadFault::Syntax { token: 13 })),
+        Some(KernelFault::Broken(TypeFault::LiteralRange { item: 2 })),
+    ];
+    assert!(rt; faults == want);
 }

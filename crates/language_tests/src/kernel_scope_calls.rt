@@ -10,38 +10,36 @@ use std::test::Fail;
 #[test]
 fn keeps_a_name_once(rt: HostRuntime) -> Result<(), Fail> {
     let alloc = rt.alloc();
-    let x = Name::new(alloc, "x")?.ok_or("no name")?;
+    let x = Name::new(alloc, "x")?.expect(&rt, "a name");
     let mut scope = empty(alloc, None);
     assert!(rt; !is_taken(&scope, &x));
     declare(&mut scope, &x, Binding::Value(Ty::U8))?;
     declare(&mut scope, &x, Binding::Value(Ty::I64))?;
-    assert_eq!(rt; declared_count(&scope), 1);
-    assert_eq!(rt; visible_count(&scope), 2);
-    assert_eq!(rt; lookup(&scope, &x), Some(Binding::Value(Ty::U8)));
+    assert!(rt; [declared_count(&scope), visible_count(&scope)] == [1, 2]);
+    assert!(rt; lookup(&scope, &x) == Some(Binding::Value(Ty::U8)));
     Ok(())
 }
 
 #[test]
 fn keeps_names_in_order(rt: HostRuntime) -> Result<(), Fail> {
     let alloc = rt.alloc();
-    let later = Name::new(alloc, "z")?.ok_or("no name")?;
-    let early = Name::new(alloc, "a")?.ok_or("no name")?;
+    let later = Name::new(alloc, "z")?.expect(&rt, "a name");
+    let early = Name::new(alloc, "a")?.expect(&rt, "a name");
     let mut scope = empty(alloc, None);
     reserve(&mut scope, &later)?;
     declare(&mut scope, &early, Binding::Index)?;
     declare(&mut scope, &later, Binding::Index)?;
-    assert_eq!(rt; scope.declared.as_slice(), ["z", "a"].as_slice());
+    assert!(rt; scope.declared.as_slice() == ["z", "a"].as_slice());
     Ok(())
 }
 
 #[test]
 fn takes_names_out_of_sight(rt: HostRuntime) -> Result<(), Fail> {
     let alloc = rt.alloc();
-    let x = Name::new(alloc, "x")?.ok_or("no name")?;
+    let x = Name::new(alloc, "x")?.expect(&rt, "a name");
     let mut scope = empty(alloc, None);
     declare(&mut scope, &x, Binding::Accumulator(Ty::U32))?;
     leave(&mut scope, 0);
-    assert_eq!(rt; lookup(&scope, &x), None);
-    assert!(rt; is_taken(&scope, &x));
+    assert!(rt; lookup(&scope, &x) == None && is_taken(&scope, &x));
     Ok(())
 }

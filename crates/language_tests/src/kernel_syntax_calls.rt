@@ -2,66 +2,59 @@
 
 use kernel_print::print_kernel;
 use kernel_syntax::{ReadFault, read_kernel};
-use std::alloc::Global;
+use std::alloc::{AllocError, Global};
 use std::test::Fail;
 
-// Why a text is refused.
-fn fault_of(alloc: Global, text: &str) -> Option<ReadFault> {
-    match read_kernel(alloc, text.as_bytes()) {
-        Ok(_) => None,
-        Err(fault) => Some(fault),
-    }
-}
+// Expressions, and their canonical texts: levels, association, signs and numbers.
+static EXPRESSIONS: [(&str, &str); 6] = [
+    ("a - b - c * d", "( a - b ) - ( c * d )"),
+    (
+        "a | b ^ c & d << 0x1f >> 2",
+        "a | ( b ^ ( c & ( ( d << 31 ) >> 2 ) ) )",
+    ),
+    (
+        "a < b && !c == d || ~e > 1",
+        "( ( a < b ) && ( ( ! c ) == d ) ) || ( ( ~ e ) > 1 )",
+    ),
+    (
+        "- - 5 + -(7) - -x",
+        "( ( - ( - 5 ) ) + ( - ( 7 ) ) ) - ( - x )",
+    ),
+    (
+        "select(a != 0, abs(a), max(1, -2))",
+        "select ( a != 0 , abs ( a ) , max ( 1 , - 2 ) )",
+    ),
+    ("a as i8 as u64 * ((b))", "( ( a as i8 ) as u64 ) * b"),
+];
 
-// The canonical text of the kernel that a text spells.
-fn printed(alloc: Global, text: &str) -> Result<String, ReadFault> {
+// The canonical text of a kernel that returns an expression.
+fn printed(alloc: Global, expression: &str) -> Result<String, ReadFault> {
+    let text = format!(in alloc; "kernel f() -> u8 {{ return {expression}; }}")?;
     let kernel = read_kernel(alloc, text.as_bytes())?;
     Ok(print_kernel(alloc, &kernel)?)
 }
 
-// Levels, association, signs and numbers of an expression.
 #[test]
 fn expressions_print_as_their_canonical_text(rt: HostRuntime) -> Result<(), Fail> {
-    let texts = [
-        ("a - b - c * d", "( a - b ) - ( c * d )"),
-        (
-            "a | b ^ c & d << 0x1f >> 2",
-            "a | ( b ^ ( c & ( ( d << 31 ) >> 2 ) ) )",
-        ),
-        (
-            "a < b && !c == d || ~e > 1",
-            "( ( a < b ) && ( ( ! c ) == d ) ) || ( ( ~ e ) > 1 )",
-        ),
-        (
-            "- - 5 + -(7) - -x",
-            "( ( - ( - 5 ) ) + ( - ( 7 ) ) ) - ( - x )",
-        ),
-        (
-            "select(a != 0, abs(a), max(1, -2))",
-            "select ( a != 0 , abs ( a ) , max ( 1 , - 2 ) )",
-        ),
-        ("a as i8 as u64 * ((b))", "( ( a as i8 ) as u64 ) * b"),
-    ];
-    for (text, canonical) in texts {
-        let whole = format!(in rt.alloc(); "kernel f() -> u8 {{ return {text}; }}")?;
+    for (text, canonical) in &EXPRESSIONS {
+        let found = printed(rt.alloc(), text)?;
         let want = format!(in rt.alloc(); "kernel f ( ) -> u8 {{ return {canonical} ; }}")?;
-        assert_eq!(rt;
-            printed(rt.alloc(), whole.as_str())?.as_str(),
-            want.as_str()
-        );
+        assert!(rt; found.as_str() == want.as_str(), "{found}");
     }
     Ok(())
 }
 
-// Rows of signs within brackets: the deepest tree that a text has.
+// The text of rows of signs within brackets, which has the deepest tree.
+fn deepest_text(alloc: Global) -> Result<String, AllocError> {
+    let signs = "!~~~~~~~~~~~~~~~~~~~~~~~~~~~~~~~~~~~~~~~~~~~~~~~~~~~~~~~~~~~~~~(";
+    let open = signs.repeat(alloc, 62)?;
+    let close = ")".repeat(alloc, 62)?;
+    Ok(format!(in alloc; "kernel f() -> u64 {{ return {open}x{close}; }}")?)
+}
+
 #[test]
 fn deepest(rt: HostRuntime) -> Result<(), Fail> {
-    let open = "!~~~~~~~~~~~~~~~~~~~~~~~~~~~~~~~~~~~~~~~~~~~~~~~~~~~~~~~~~~~~~~(".repeat(
-        rt.alloc(),
-        62,
-    )?;
-    let close = ")".repeat(rt.alloc(), 62)?;
-    let text = format!(in rt.alloc(); "kernel f() -> u64 {{ return {open}x{close}; }}")?;
-    assert_eq!(rt; fault_of(rt.alloc(), text.as_str()), None);
+    let text = deepest_text(rt.alloc())?;
+    assert!(rt; read_kernel(rt.alloc(), text.as_bytes()).is_ok());
     Ok(())
 }

@@ -4,44 +4,46 @@ use kernel_tokens::{TokenFault, read_tokens};
 use kernel_tree::UpdateOp;
 use kernel_tree::mark::Mark;
 use kernel_tree::token::Token;
+use std::alloc::Global;
 use std::test::Fail;
 
-// Each text with the number of its tokens, or the place of its first bad byte.
+// Texts with the number of their tokens, or the place of the first bad byte.
+static COUNTS: [(&str, Result<usize, TokenFault>); 17] = [
+    ("", Ok(0)),
+    ("a<=b", Ok(3)),
+    ("a<<=b", Ok(4)),
+    ("x min=1", Ok(3)),
+    ("min =1", Ok(3)),
+    ("minx=1", Ok(3)),
+    ("0x", Ok(2)),
+    ("0xAf", Ok(1)),
+    ("a//b\nc", Ok(2)),
+    ("//", Ok(0)),
+    ("1/", Err(TokenFault::BadByte { at: 1 })),
+    ("...", Err(TokenFault::BadByte { at: 2 })),
+    ("a\x0b", Err(TokenFault::BadByte { at: 1 })),
+    ("0x7fffffffffffffffffffffffffffffff", Ok(1)),
+    (
+        " 0x80000000000000000000000000000000",
+        Err(TokenFault::BadByte { at: 1 }),
+    ),
+    ("000170141183460469231731687303715884105727", Ok(1)),
+    (
+        "(170141183460469231731687303715884105728",
+        Err(TokenFault::BadByte { at: 1 }),
+    ),
+];
+
+fn count(alloc: Global, text: &str) -> Result<usize, TokenFault> {
+    let tokens = read_tokens(alloc, text.as_bytes())?;
+    Ok(tokens.len())
+}
+
 #[test]
-fn counts(rt: HostRuntime) -> Result<(), Fail> {
-    let texts = [
-        (b"".as_slice(), Ok(0)),
-        (b"a<=b".as_slice(), Ok(3)),
-        (b"a<<=b".as_slice(), Ok(4)),
-        (b"x min=1".as_slice(), Ok(3)),
-        (b"min =1".as_slice(), Ok(3)),
-        (b"minx=1".as_slice(), Ok(3)),
-        (b"0x".as_slice(), Ok(2)),
-        (b"0xAf".as_slice(), Ok(1)),
-        (b"a//b\nc".as_slice(), Ok(2)),
-        (b"//".as_slice(), Ok(0)),
-        (b"1/".as_slice(), Err(1)),
-        (b"...".as_slice(), Err(2)),
-        (b"a\x0b".as_slice(), Err(1)),
-        (b"0x7fffffffffffffffffffffffffffffff".as_slice(), Ok(1)),
-        (b" 0x80000000000000000000000000000000".as_slice(), Err(1)),
-        (
-            b"000170141183460469231731687303715884105727".as_slice(),
-            Ok(1),
-        ),
-        (
-            b"(170141183460469231731687303715884105728".as_slice(),
-            Err(1),
-        ),
-    ];
-    for (text, count) in texts {
-        let want = count.map_err(|at| TokenFault::BadByte { at });
-        assert_eq!(rt;
-            read_tokens(rt.alloc(), text).map(|tokens| tokens.len()),
-            want
-        );
+fn counts(rt: HostRuntime) {
+    for (text, want) in &COUNTS {
+        assert!(rt; count(rt.alloc(), text) == *want, "{text}");
     }
-    Ok(())
 }
 
 #[test]

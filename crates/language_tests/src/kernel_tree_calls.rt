@@ -1,7 +1,8 @@
 use kernel_print::print_kernel;
-use kernel_tree::ast::{Expr, Kernel, Loop, Param, Shape, Stmt};
+use kernel_syntax::read_kernel;
+use kernel_tree::ast::{Expr, Stmt};
 use kernel_tree::name::Name;
-use kernel_tree::ops::{BinaryOp, CompareOp, Ty, UnaryOp};
+use kernel_tree::ops::{BinaryOp, CompareOp, UnaryOp};
 use std::alloc::Global;
 use std::test::Fail;
 
@@ -38,45 +39,29 @@ fn spread(alloc: Global) -> Result<Stmt, Fail> {
     })
 }
 
-fn kernel(alloc: Global, stmt: Stmt) -> Result<Kernel, Fail> {
-    let mut params = Vec::new(alloc);
-    params.push(Param {
-        name: name(alloc, "a")?,
-        shape: Shape::Array(Ty::U8),
-    })?;
-    params.push(Param {
-        name: name(alloc, "n")?,
-        shape: Shape::Scalar(Ty::U64),
-    })?;
-    let mut body = Vec::new(alloc);
-    body.push(stmt)?;
-    Ok(Kernel {
-        name: name(alloc, "spread")?,
-        params,
-        vars: Vec::new(alloc),
-        body: Some(Loop {
-            index: name(alloc, "i")?,
-            bound: name(alloc, "n")?,
-            body,
-        }),
-        answer: None,
-    })
+// The text of a kernel whose loop has one statement.
+fn printed(alloc: Global, stmt: Stmt) -> Result<String, Fail> {
+    let mut kernel = read_kernel(
+        alloc,
+        b"kernel spread(a: [u8], n: u64) { for i in 0..n { } }",
+    )?;
+    if let Some(for_loop) = &mut kernel.body {
+        for_loop.body.push(stmt)?;
+    }
+    Ok(print_kernel(alloc, &kernel)?)
 }
 
 #[test]
 fn prints_a_kernel(rt: HostRuntime) -> Result<(), Fail> {
-    let alloc = rt.alloc();
-    let text = print_kernel(alloc, &kernel(alloc, spread(alloc)?)?)?;
-    assert_eq!(rt;
-        text.as_str(),
-        "kernel spread ( a : [ u8 ] , n : u64 ) { for i in 0 .. n { a [ i + 1 ] = a [ i ] ; } }"
-    );
+    let text = printed(rt.alloc(), spread(rt.alloc())?)?;
+    let want =
+        "kernel spread ( a : [ u8 ] , n : u64 ) { for i in 0 .. n { a [ i + 1 ] = a [ i ] ; } }";
+    assert!(rt; text.as_str() == want, "{text}");
     Ok(())
 }
 
-#[test]
-fn puts_operands_in_parentheses(rt: HostRuntime) -> Result<(), Fail> {
-    let alloc = rt.alloc();
+// break if -(5) <= -7;
+fn leave(alloc: Global) -> Result<Stmt, Fail> {
     let negated = Expr::Unary {
         op: UnaryOp::Neg,
         arg: literal(alloc, 5)?,
@@ -86,21 +71,24 @@ fn puts_operands_in_parentheses(rt: HostRuntime) -> Result<(), Fail> {
         left: Box::new(alloc, negated)?,
         right: literal(alloc, -7)?,
     };
-    let stmt = Stmt::Break { cond };
-    let text = print_kernel(alloc, &kernel(alloc, stmt)?)?;
-    assert_eq!(rt;
-        text.as_str(),
-        "kernel spread ( a : [ u8 ] , n : u64 ) { for i in 0 .. n { break if ( - ( 5 ) ) <= ( - 7 ) ; } }"
-    );
+    Ok(Stmt::Break { cond })
+}
+
+#[test]
+fn puts_operands_in_parentheses(rt: HostRuntime) -> Result<(), Fail> {
+    let text = printed(rt.alloc(), leave(rt.alloc())?)?;
+    let want =
+        "kernel spread ( a : [ u8 ] , n : u64 ) { for i in 0 .. n { break if ( - ( 5 ) ) <= ( - 7 ) ; } }";
+    assert!(rt; text.as_str() == want, "{text}");
     Ok(())
 }
 
 #[test]
 fn takes_names_alone(rt: HostRuntime) -> Result<(), Fail> {
     let alloc = rt.alloc();
-    assert_eq!(rt; name(alloc, "_v2")?.text(), "_v2");
-    assert!(rt; Name::new(alloc, "kernel")?.is_none());
-    assert!(rt; Name::new(alloc, "2v")?.is_none());
-    assert!(rt; Name::new(alloc, "")?.is_none());
+    assert!(rt; name(alloc, "_v2")?.text() == "_v2");
+    for text in ["kernel", "2v", ""] {
+        assert!(rt; Name::new(alloc, text)?.is_none(), "{text}");
+    }
     Ok(())
 }

@@ -17,7 +17,7 @@ fn faults_print_as_their_texts(rt: HostRuntime) -> Result<(), Fail> {
     ];
     for (fault, want) in texts {
         let text = format!(in rt.alloc(); "{fault}")?;
-        assert_eq!(rt; text.as_str(), want);
+        assert!(rt; text.as_str() == want, "{text}");
     }
     Ok(())
 }
