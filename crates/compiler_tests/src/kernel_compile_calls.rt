@@ -11,8 +11,7 @@ use std::test::Fail;
 fn ends_by_the_exit_call(rt: HostRuntime) -> Result<(), Fail> {
     let kernel = accept(rt.alloc(), b"kernel f(x: u64) -> u64 { return x + 1; }")?;
     let words = compile_kernel(rt.alloc(), &kernel)?.words;
-    let n = words.len();
-    assert!(rt; n >= 3 && words[n - 2] == 0xd280_0ba8 && words[n - 1] == 0xd400_0001);
+    assert!(rt; words.len() >= 3 && words.as_slice().ends_with(&[0xd280_0ba8, 0xd400_0001]));
     Ok(())
 }
 
@@ -44,14 +43,11 @@ const MANY: &str = "kernel many(a: [u8], y: [u8], n: u64) { for i in 0..n {
 fn too_many_values(rt: HostRuntime) -> Result<(), Fail> {
     let kernel = accept(rt.alloc(), MANY.as_bytes())?;
     let fault = compile_kernel(rt.alloc(), &kernel).err().ok_or("compiled")?;
-    assert!(rt;
-        fault
-            == CompileFault::TooManyLive {
-                class: RegClass::Z,
-                need: 40
-            }
-    );
+    let many = CompileFault::TooManyLive {
+        class: RegClass::Z,
+        need: 40,
+    };
     let text = format!(in rt.alloc(); "{fault}")?;
-    assert!(rt; text.as_str() == "too many live z 40");
+    assert!(rt; fault == many && text.as_str() == "too many live z 40");
     Ok(())
 }

@@ -6,6 +6,8 @@ mod kernel_compile_calls;
 #[cfg(test)]
 mod reductions_calls;
 #[cfg(test)]
+mod registers;
+#[cfg(test)]
 mod scalar_emit_calls;
 #[cfg(test)]
 mod sweep_kernel_calls;

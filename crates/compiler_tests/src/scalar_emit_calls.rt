@@ -1,39 +1,20 @@
 //! The words of a kernel that counts, as GNU `as` writes them.
 
-ghost use Rattle.std.specs.Prelude.{IfOk};
-ghost use Rattle.reg_assign.specs.declared.interval.RegClass.TheVariants.{X};
-ghost use Rattle.loop_form.specs.Registers.{FitsKernel};
-ghost use Rattle.loop_form.specs.View.{program};
-
+use crate::registers::registers_of;
 use kernel_front::accept;
-use kernel_tree::Checked;
 use label_fix::Draft;
-use loop_form::counted_registers;
-use loop_form::laws::{few_items, ordered_intervals};
-use loop_lists::{intervals, listing};
-use reg_assign::{Assigned, RegClass, assign};
+use loop_form::laws::few_items;
+use loop_lists::listing;
+use reg_assign::RegClass;
 use scalar_emit::{emit_begin, emit_scalar};
-use std::alloc::Global;
 use std::test::Fail;
-
-fn registers(alloc: Global, kernel: &Checked) -> Result<Assigned, Fail>
-    ensures { IfOk result (λ regs. FitsKernel (program kernel.now) X regs) }
-{
-    ordered_intervals(kernel, RegClass::X);
-    let intervals = intervals(alloc, kernel, RegClass::X)?;
-    let most = counted_registers(RegClass::X);
-    match assign(alloc, &intervals, RegClass::X, most) {
-        Ok(regs) => Ok(regs),
-        Err(_) => Err(Fail::new("too few registers")),
-    }
-}
 
 #[test]
 fn counts(rt: HostRuntime) -> Result<(), Fail> {
     let alloc = rt.alloc();
     let text = b"kernel f(n: u64) -> u64 { for i in 0..n { } return i; }";
     let kernel = accept(alloc, text)?;
-    let regs = registers(alloc, &kernel)?;
+    let regs = registers_of(alloc, &kernel, RegClass::X)?;
     let items = listing(alloc, &kernel)?;
     let mut draft = Draft::new(alloc);
     few_items(&kernel);

@@ -11,9 +11,9 @@ fn a_sweep_has_a_line_for_each_length(rt: HostRuntime) -> Result<(), Fail> {
     for line in text.lines() {
         vl = vl.saturating_add(128);
         let front = format!(in rt.alloc(); "vl {vl} result 0x000012ac4883693c steps ")?;
-        assert!(rt; line.starts_with(front.as_str()), "{line}");
-        assert!(rt; line.ends_with(" sum 20465644"), "{line}");
+        let told = line.starts_with(front.as_str()) && line.ends_with(" sum 20465644");
+        assert!(rt; told, "{line}");
     }
-    assert_eq!(rt; vl, 2048);
+    assert!(rt; vl == 2048);
     Ok(())
 }

@@ -3,7 +3,7 @@ use Rattle.reg_assign.specs.declared.interval.Interval.{Interval}
 use Rattle.reg_assign.specs.Intervals.{Ascend}
 use Rattle.reg_assign.specs.Registers.{IsAssignment}
 use Rattle.loop_form.specs.View.{program}
-use Rattle.compiler_tests.proofs.scalar_emit_calls.registers.Goals as goal
+use Rattle.compiler_tests.proofs.registers.registers_of.Goals as goal
 
 pub assign-requires-clause-few : goal.assign-requires-clause-few
 unfolding program
@@ -17,5 +17,5 @@ pub returns-in-Ok : goal.returns-in-Ok
 unfolding program
 returns-in-Ok c = record {
   intervals = c.in-Ok.ensures.kept ∙ c.deref.ensures.value ∙ c.in_ok-intervals.ensures;
-  assigned = subst (λ n. IsAssignment n c.in-Ok.regs) c.counted_registers-most.ensures c.in-Ok.ensures.fits;
+  assigned = subst (λ n. IsAssignment n c.in-Ok.regs) c.counted_registers.ensures c.in-Ok.ensures.fits;
 }

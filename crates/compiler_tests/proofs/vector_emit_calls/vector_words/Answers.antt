@@ -5,7 +5,7 @@ use Rattle.label_fix.proofs.PlacedRuns.{size-append}
 use Rattle.kernel_tree.specs.declared.checked.Checked.{Checked}
 use Rattle.loop_form.specs.View.{program}
 use Rattle.dependence.specs.Classes.{class_of}
-use Rattle.compiler_tests.proofs.vector_emit_calls.words_of.Goals as goal
+use Rattle.compiler_tests.proofs.vector_emit_calls.vector_words.Goals as goal
 
 pub emit_vector-requires-clause-class : goal.emit_vector-requires-clause-class
 unfolding program
