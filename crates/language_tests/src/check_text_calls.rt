@@ -4,13 +4,14 @@ use check_text::check_text;
 use dependence::reason::{Class, Why};
 use guest_types::length::Width;
 use kernel_front::accept;
-use kernel_tree::{BinaryOp, Ty};
+use kernel_tree::{BinaryOp, Checked, Ty};
 use loop_class::class;
 use loop_form::need::Needs;
 use loop_form::{Item, ItemKind, LoopOp, Operand, Stream};
 use loop_items::loop_items;
 use loop_lists::{index_reach, intervals, lane_width, listing, needs, streams};
 use reg_assign::{Interval, RegClass};
+use std::alloc::{AllocError, Global};
 use std::test::Fail;
 
 const AXPY: &str =
@@ -90,6 +91,13 @@ fn interval(from: u32, last_use: u32) -> Interval {
     Interval { from, last_use }
 }
 
+// How many values stand in predicate registers and in general ones.
+fn counts(alloc: Global, kernel: &Checked) -> Result<[usize; 2], AllocError> {
+    let p = intervals(alloc, kernel, RegClass::P)?;
+    let x = intervals(alloc, kernel, RegClass::X)?;
+    Ok([p.len(), x.len()])
+}
+
 // k is held throughout, and each value until the item that uses it.
 #[test]
 fn intervals_of_values(rt: HostRuntime) -> Result<(), Fail> {
@@ -102,10 +110,7 @@ fn intervals_of_values(rt: HostRuntime) -> Result<(), Fail> {
         interval(9, 10),
     ];
     let z = intervals(rt.alloc(), &kernel, RegClass::Z)?;
-    assert!(rt; z.as_slice() == want.as_slice());
-    let p = intervals(rt.alloc(), &kernel, RegClass::P)?;
-    let x = intervals(rt.alloc(), &kernel, RegClass::X)?;
-    assert!(rt; [p.len(), x.len()] == [0, 4]);
+    assert!(rt; z.as_slice() == want.as_slice() && counts(rt.alloc(), &kernel)? == [0, 4]);
     Ok(())
 }
 
@@ -132,7 +137,7 @@ fn items_of_the_loop(rt: HostRuntime) -> Result<(), Fail> {
 }
 
 #[test]
-fn needs_and_classes(rt: HostRuntime) -> Result<(), Fail> {
+fn needs_of_a_kernel(rt: HostRuntime) -> Result<(), Fail> {
     let axpy = accept(rt.alloc(), AXPY.as_bytes())?;
     let needed = Needs {
         size: 11,
@@ -141,9 +146,19 @@ fn needs_and_classes(rt: HostRuntime) -> Result<(), Fail> {
         x: 2,
     };
     assert!(rt; needs(rt.alloc(), &axpy)? == needed && lane_width(&axpy) == Width::S);
-    let spread = accept(rt.alloc(), SPREAD.as_bytes())?;
+    Ok(())
+}
+
+fn class_of(alloc: Global, text: &str) -> Result<Class, Fail> {
+    let kernel = accept(alloc, text.as_bytes())?;
+    Ok(class(&kernel))
+}
+
+#[test]
+fn classes(rt: HostRuntime) -> Result<(), Fail> {
+    let found = [class_of(rt.alloc(), AXPY)?, class_of(rt.alloc(), SPREAD)?];
     let carried = Class::Scalar { why: Why::Carried };
-    assert!(rt; [class(&axpy), class(&spread)] == [Class::Vector, carried]);
+    assert!(rt; found == [Class::Vector, carried]);
     Ok(())
 }
 

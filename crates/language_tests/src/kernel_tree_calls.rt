@@ -1,6 +1,6 @@
 use kernel_print::print_kernel;
 use kernel_syntax::read_kernel;
-use kernel_tree::ast::{Expr, Stmt};
+use kernel_tree::ast::{Expr, Loop, Stmt};
 use kernel_tree::name::Name;
 use kernel_tree::ops::{BinaryOp, CompareOp, UnaryOp};
 use std::alloc::Global;
@@ -39,15 +39,19 @@ fn spread(alloc: Global) -> Result<Stmt, Fail> {
     })
 }
 
+// Puts a statement into a loop.
+fn put(for_loop: &mut Option<Loop>, stmt: Stmt) -> Result<(), Fail> {
+    match for_loop {
+        Some(for_loop) => Ok(for_loop.body.push(stmt)?),
+        None => Err(Fail::new("no loop")),
+    }
+}
+
 // The text of a kernel whose loop has one statement.
 fn printed(alloc: Global, stmt: Stmt) -> Result<String, Fail> {
-    let mut kernel = read_kernel(
-        alloc,
-        b"kernel spread(a: [u8], n: u64) { for i in 0..n { } }",
-    )?;
-    if let Some(for_loop) = &mut kernel.body {
-        for_loop.body.push(stmt)?;
-    }
+    let text = b"kernel spread(a: [u8], n: u64) { for i in 0..n { } }";
+    let mut kernel = read_kernel(alloc, text)?;
+    put(&mut kernel.body, stmt)?;
     Ok(print_kernel(alloc, &kernel)?)
 }
 
