@@ -135,7 +135,8 @@ fn walk_loop<'a>(
     requires index { (scope_of scope.old).index ≡ Some (items.index_of (for_loop_of for_loop.now)) }
     ensures scope { IfOk result (λ _. scope_of scope.new
         ≡ typing.after_for_loop (scope_of scope.old) (Some (for_loop_of for_loop.now))) }
-    ensures next { IfOk result (λ _. notes.new.next ≡ notes.old.next + items.for_loop_size (Some (for_loop_of for_loop.now))) }
+    ensures next { IfOk result (λ _. notes.new.next
+        ≡ notes.old.next + items.for_loop_size (Some (for_loop_of for_loop.now))) }
     ensures found { IfOk result (λ _. notes.new.found
         ≡ typing.sooner notes.old.found (typing.least
         (typing.for_loop_faults (scope_of scope.old) notes.old.next (Some (for_loop_of for_loop.now))))) }

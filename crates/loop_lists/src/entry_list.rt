@@ -51,7 +51,8 @@ fn list_for_loop<'a>(
     requires index { loop_index (program kernel.now) ≡ option_map index_of (option_map for_loop_of for_loop.now) }
     ensures items { entries_view entries.new.items ≡ entries_view entries.old.items
         ++ for_loop_entries (program kernel.now) from (option_map for_loop_of for_loop.now) }
-    ensures len { array_vec_len entries.new ≡ array_vec_len entries.old + for_loop_size (option_map for_loop_of for_loop.now) }
+    ensures len { array_vec_len entries.new
+        ≡ array_vec_len entries.old + for_loop_size (option_map for_loop_of for_loop.now) }
 {
     if let Some(for_loop) = for_loop {
         put(kernel, entries, from, Content::Plain(ItemKind::For), from);
