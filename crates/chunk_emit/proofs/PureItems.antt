@@ -25,8 +25,8 @@ use Rattle.lane_emit.specs.Right.{IsOf, ZRight, PRight, within}
 use Rattle.lane_emit.specs.Stretch.{OnlyZ, OnlyP}
 use Rattle.lane_emit.specs.ItemCode.{Chunk, AllOf, operand, mask_register, op_code, new_value, new_truth, value_after, truth_after, OperandsRight, Makes, makes_truth, made_type, AllTyped, ItemRuns}
 use Rattle.lane_emit.proofs.ItemRuns.{lanes_right_law}
-use Rattle.reductions.specs.Folds.{after_all, AreOf, given_to, ShareAlike}
-use Rattle.reductions.specs.AccumulatorLanes as accumulators
+use Rattle.lane_emit.specs.Folds.{after_all, AreOf, given_to, ShareAlike}
+use Rattle.lane_emit.specs.AccumulatorLanes as accumulators
 use Rattle.chunk_emit.specs.Registers.{Layout, z_of, p_of, IsValueUsed, IsTruthUsed}
 use Rattle.chunk_emit.specs.ChunkCode.{vectors, op_words, puts}
 use Rattle.chunk_emit.specs.Chunk.{Setting, chunk_of, sum_at, TruthExact, SumRight, Holds}

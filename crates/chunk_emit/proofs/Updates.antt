@@ -19,11 +19,11 @@ use Rattle.vector_order.specs.Operands.{operand_value, on_mask}
 use Rattle.vector_order.specs.Items.{item_act, with_share, share}
 use Rattle.lane_emit.specs.Right.{IsOf, within}
 use Rattle.lane_emit.specs.ItemCode.{operand, mask_of, mask_register}
-use Rattle.reductions.specs.Joins.{joined}
-use Rattle.reductions.specs.Folds.{after_all, AreOf, given_to, ShareAlike}
-use Rattle.reductions.specs.AccumulatorLanes.{update_code, Updated}
-use Rattle.reductions.proofs.Orders.{after_of}
-use Rattle.reductions.proofs.Lanes.{update_taken}
+use Rattle.lane_emit.specs.Joins.{joined}
+use Rattle.lane_emit.specs.Folds.{after_all, AreOf, given_to, ShareAlike}
+use Rattle.lane_emit.specs.AccumulatorLanes.{update_code, Updated}
+use Rattle.lane_emit.proofs.FoldOrders.{after_of}
+use Rattle.lane_emit.proofs.AccumulatorUpdates.{update_taken}
 use Rattle.chunk_emit.specs.Registers.{Layout, z_of, p_of}
 use Rattle.chunk_emit.specs.ChunkCode.{op_words, puts}
 use Rattle.chunk_emit.specs.Chunk.{Setting, chunk_of, count_of, sum_at, SumRight, Holds}
@@ -33,7 +33,7 @@ use Rattle.chunk_emit.proofs.DraftVectors.{do_goes}
 use Rattle.chunk_emit.proofs.ItemLanes.{OwnColumn, own_fine}
 use Rattle.chunk_emit.proofs.ChunkStates.{Moves, holds_on, mask_right, operand_right}
 use Rattle.chunk_emit.proofs.PureItems.{sum_same, taken_same, pure_column}
-use Rattle.reductions.specs.AccumulatorLanes as accumulators
+use Rattle.lane_emit.specs.AccumulatorLanes as accumulators
 
 -- ---- shares
 

@@ -14,8 +14,8 @@ use Rattle.loop_form.specs.declared.loop_item.Operand.TheVariants.{Made}
 use Rattle.vector_order.specs.Operands.{operand_value}
 use Rattle.lane_emit.specs.Right.{IsOf, ZRight, PRight, within}
 use Rattle.lane_emit.specs.ItemCode.{Chunk, AllOf, operand, truth_of}
-use Rattle.reductions.specs.Folds.{after_all, AreOf, given_to, ShareAlike}
-use Rattle.reductions.specs.AccumulatorLanes.{LanesHold}
+use Rattle.lane_emit.specs.Folds.{after_all, AreOf, given_to, ShareAlike}
+use Rattle.lane_emit.specs.AccumulatorLanes.{LanesHold}
 use Rattle.chunk_emit.specs.Registers.{Layout, z_of, p_of}
 
 -- ---- a chunk

@@ -16,7 +16,7 @@ use Rattle.loop_form.specs.LoopItems as ops
 use Rattle.lane_emit.specs.Stretch.{VectorInstruction, word}
 use Rattle.lane_emit.specs.LaneCode.{size_of, shift_word}
 use Rattle.lane_emit.specs.ItemCode.{mask_register, op_code}
-use Rattle.reductions.specs.AccumulatorLanes.{update_code}
+use Rattle.lane_emit.specs.AccumulatorLanes.{update_code}
 use Rattle.chunk_emit.specs.Registers.{Layout, z_of, base_of, is_used}
 pub use Rattle.label_fix.specs.Emits.{puts}
 

@@ -26,9 +26,9 @@ use Rattle.vector_order.specs.Operands.{nth_value, operand_value}
 use Rattle.vector_order.specs.Orders.{Lane}
 use Rattle.vector_order.specs.Order.{Steady}
 use Rattle.lane_emit.specs.Right.{IsOf, ZRight, PRight}
-use Rattle.reductions.specs.Joins.{joined}
-use Rattle.reductions.specs.Folds.{together}
-use Rattle.reductions.specs.AccumulatorLanes.{LanesHold}
+use Rattle.lane_emit.specs.Joins.{joined}
+use Rattle.lane_emit.specs.Folds.{together}
+use Rattle.lane_emit.specs.AccumulatorLanes.{LanesHold}
 use Rattle.chunk_emit.specs.Registers.{Layout}
 use Rattle.chunk_emit.specs.KernelLayout.{layout_of_loop}
 

@@ -205,7 +205,8 @@ pub fn load(
 
 /// By how many bits the index of an element is shifted: its size.
 pub fn index_shift(ty: Ty) -> u32
-    ensures { result ≡ code.memory_size ty }
+    ensures value { result ≡ code.memory_size ty }
+    ensures within { result < 4 }
 {
     match ty {
         Ty::I8 | Ty::U8 => 0,

@@ -12,9 +12,9 @@ use Rattle.vector_order.specs.Items.{acts_of}
 use Rattle.vector_order.specs.Shares.{apply_lanes}
 use Rattle.vector_order.specs.Order.{is_accumulator, Steady, EndsAlike, SameChunk}
 use Rattle.vector_order.proofs.LoopHead.{started_accs, steady_accs}
-use Rattle.reductions.specs.Folds.{after_all, given_to}
+use Rattle.lane_emit.specs.Folds.{after_all, given_to}
 use Rattle.lane_emit.specs.Right.{IsOf}
-use Rattle.reductions.specs.Joins.{joined}
+use Rattle.lane_emit.specs.Joins.{joined}
 use Rattle.chunk_emit.specs.Chunk.{Setting, sum_at}
 use Rattle.chunk_emit.specs.Head.{Ground, IsGround, Between, SumSoFar, layout, most_lanes}
 use Rattle.chunk_pass.specs.Chunks.{items_of, IsSetting, IsChunk, GivenRight, Done, FineIsDone}

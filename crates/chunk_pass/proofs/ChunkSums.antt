@@ -9,11 +9,11 @@ use Rattle.kernel_meaning.specs.Eval.{Names, is_named, value_at}
 use Rattle.vector_order.specs.Orders.{Lane}
 use Rattle.vector_order.specs.Shares.{apply_lanes}
 use Rattle.lane_emit.specs.Right.{IsOf}
-use Rattle.reductions.specs.Joins.{joined, identity, Joins}
-use Rattle.reductions.specs.Folds.{after_all, taken, together, AreOf, given_to, ShareAlike}
-use Rattle.reductions.proofs.JoinLaws.{joins}
-use Rattle.reductions.proofs.Orders.{after_of, taken_of, together_of, after_split, chunk_taken}
-use Rattle.reductions.proofs.Shares.{accumulator_law}
+use Rattle.lane_emit.specs.Joins.{joined, identity, Joins}
+use Rattle.lane_emit.specs.Folds.{after_all, taken, together, AreOf, given_to, ShareAlike}
+use Rattle.lane_emit.proofs.JoinLaws.{joins}
+use Rattle.lane_emit.proofs.FoldOrders.{after_of, taken_of, together_of, after_split, chunk_taken}
+use Rattle.lane_emit.proofs.FoldShares.{accumulator_law}
 
 module _ (op : UpdateOp) (t : Ty) where
   law : Joins op t

@@ -9,7 +9,7 @@ use Rattle.machine_model.specs.States.{IsState}
 use Rattle.loop_form.specs.declared.loop_item.Operand.{Operand}
 use Rattle.loop_form.specs.declared.loop_item.Operand.TheVariants.{LoopIndex}
 use Rattle.dependence.specs.Apart.{bound_place}
-use Rattle.reductions.specs.AccumulatorLanes as accumulators
+use Rattle.lane_emit.specs.AccumulatorLanes as accumulators
 use Rattle.chunk_emit.specs.Head.{Ground, IsGround, AtHead, layout, width, limit}
 
 -- What words before a chunk leave: memory, the registers of arguments and of the iteration, P1, and the vector registers of

@@ -19,7 +19,7 @@ use Rattle.loop_form.specs.Entries.{entries_of, for_loop_entries, loop_entries}
 use Rattle.vector_order.specs.Orders.{Lane, Lanes}
 use Rattle.vector_order.specs.Operands.{operand_value}
 use Rattle.lane_emit.specs.Right.{IsOf, within}
-use Rattle.reductions.specs.Folds.{after_all, given_to}
+use Rattle.lane_emit.specs.Folds.{after_all, given_to}
 use Rattle.chunk_emit.specs.KernelLayout.{last_in, item_last_use}
 use Rattle.chunk_emit.specs.LoopFits.{FitsSetting}
 use Rattle.chunk_emit.specs.Chunk.{Setting, HeldRight, IsTop, sum_at, SumRight, Holds}
@@ -29,7 +29,7 @@ use Rattle.chunk_emit.proofs.FitsTyped.{loop_index_typed}
 use Rattle.first_fault.proofs.PrefixBits.{top_active}
 use Rattle.chunk_pass.specs.Chunks.{IsSetting, IsChunk}
 use Rattle.chunk_pass.proofs.LaneHeads.{limit_below}
-use Rattle.reductions.specs.AccumulatorLanes as accumulators
+use Rattle.lane_emit.specs.AccumulatorLanes as accumulators
 use Rattle.chunk_emit.proofs.FitsBases.{place_within}
 
 -- the setting of n lanes from iteration i on

@@ -11,7 +11,7 @@ use Rattle.vector_order.specs.Elsewhere.{Elsewhere}
 use Rattle.vector_order.specs.Orders.{Lane, Lanes, Fine, Fail, by_item}
 use Rattle.vector_order.specs.Items.{acts_of}
 use Rattle.vector_order.specs.Order.{Fresh}
-use Rattle.reductions.specs.Folds.{AreOf, given_to, ShareAlike}
+use Rattle.lane_emit.specs.Folds.{AreOf, given_to, ShareAlike}
 use Rattle.chunk_emit.specs.Chunk.{Setting, sum_at}
 use Rattle.chunk_emit.specs.Head.{Ground, IsGround, Between, layout, width, most_lanes, limit}
 use Rattle.first_fault.specs.Region.{On, lane_left, region_way}

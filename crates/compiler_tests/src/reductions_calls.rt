@@ -2,7 +2,8 @@
 
 use guest_types::length::Width;
 use kernel_tree::{Ty, UpdateOp};
-use reductions::{reduce_word, start_word, update_word};
+use lane_emit::update_word;
+use reductions::{reduce_word, start_word};
 use sve_code::encode;
 use word_rows::Bits;
 

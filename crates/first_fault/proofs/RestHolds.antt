@@ -16,8 +16,8 @@ use Rattle.loop_form.specs.LoopItems.{Op, Item}
 use Rattle.loop_form.specs.LoopItems as ops
 use Rattle.vector_order.specs.Operands.{on_mask, load_effect}
 use Rattle.vector_order.specs.Items.{op_effect, item_act, acts_of}
-use Rattle.reductions.specs.Folds.{after_all, AreOf, given_to, ShareAlike}
-use Rattle.reductions.specs.AccumulatorLanes as accumulators
+use Rattle.lane_emit.specs.Folds.{after_all, AreOf, given_to, ShareAlike}
+use Rattle.lane_emit.specs.AccumulatorLanes as accumulators
 use Rattle.chunk_emit.specs.Registers.{Layout}
 use Rattle.chunk_emit.specs.Chunk.{Setting, sum_at, SumRight, Holds}
 use Rattle.chunk_emit.specs.Fits.{Assigned}

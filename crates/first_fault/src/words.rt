@@ -9,7 +9,7 @@ ghost use Rattle.chunk_emit.specs.ChunkCode as code;
 ghost use Rattle.first_fault.specs.RegionCode as region;
 
 use a64_code::{A64, AddSubOp, AddSubShift, Reg};
-use chunk_emit::load_type;
+use chunk_emit::{index_shift, load_type};
 use guest_types::length::Width;
 use kernel_tree::Ty;
 use label_fix::Word;
@@ -72,18 +72,6 @@ pub fn non_fault(width: Width, ty: Ty, d: VectorReg, m: GoverningReg) -> Word
     })
 }
 
-// The binary logarithm of a type's bytes.
-fn log_bytes(ty: Ty) -> Bits<6>
-    ensures { result.number ≡ code.memory_size ty }
-{
-    match ty {
-        Ty::I8 | Ty::U8 => Bits { number: 0 },
-        Ty::I16 | Ty::U16 => Bits { number: 1 },
-        Ty::I32 | Ty::U32 => Bits { number: 2 },
-        Ty::I64 | Ty::U64 => Bits { number: 3 },
-    }
-}
-
 /// X26 = the address of an element.
 pub fn address(ty: Ty, base: Reg, index: OffsetReg) -> Word
     ensures { word_view result ≡ region.address_word ty base.number index.number }
@@ -92,7 +80,9 @@ pub fn address(ty: Ty, base: Reg, index: OffsetReg) -> Word
         op: AddSubOp::Add,
         rd: Bits { number: 26 },
         rn: base,
-        imm6: log_bytes(ty),
+        imm6: Bits {
+            number: index_shift(ty),
+        },
         rm: general(index),
         shift: AddSubShift::Lsl,
     })

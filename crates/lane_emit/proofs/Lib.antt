@@ -12,4 +12,8 @@ pub mod ItemRuns
 pub mod Throughout
 pub mod PlacesWithin
 pub mod PlaceMoved
+pub mod JoinLaws
+pub mod FoldOrders
+pub mod FoldShares
+pub mod AccumulatorUpdates
 mod Examples

@@ -2,6 +2,9 @@ pub mod Right
 pub mod Stretch
 pub mod LaneCode
 pub mod ItemCode
+pub mod Joins
+pub mod Folds
+pub mod AccumulatorLanes
 pub mod View
 pub mod LoopRegisters
 pub mod RegistersView

@@ -14,10 +14,10 @@ ghost use Rattle.guest_types.specs.Length.{width_bytes};
 ghost use Rattle.kernel_tree.specs.Limits.{most_offset};
 
 use crate::instructions::{bytes_at, compare, element_at, greater, part, step, tested, with_top};
-use crate::laws::{fit_arrays, near_bound};
-use crate::used::{arrays, bound};
+use crate::laws::fit_arrays;
+use crate::used::arrays;
 use a64_code::{AddSubOp, Cond, Reg, zero};
-use dependence::{Extent, Used};
+use dependence::{Extent, Used, bound_place};
 use guest_types::length::Width;
 use kernel_tree::Checked;
 use label_fix::{BranchKind, Draft, Label};
@@ -380,8 +380,7 @@ pub fn guard(kernel: &Checked, fail: Label, draft: &mut Draft) -> Result<(), All
         (guard.guard_code (program kernel.now) fail draft.old.labels)) }
 {
     fit_arrays(kernel);
-    near_bound(kernel);
     let used = arrays(kernel);
-    emit_used(draft, register(bound(kernel)), fail, &used)?;
+    emit_used(draft, register(bound_place(kernel)), fail, &used)?;
     Ok(())
 }

@@ -34,12 +34,13 @@ use Rattle.lane_emit.proofs.Residues.{held, held-below}
 use Rattle.lane_emit.proofs.Orders.{smin-held, smax-held}
 use Rattle.lane_emit.proofs.BitwiseLanes.{Small, small_all, at-part}
 use Rattle.lane_emit.proofs.Stretches.{width-size}
-use Rattle.reductions.specs.Joins as joins
-use Rattle.reductions.specs.Folds.{together}
-use Rattle.reductions.specs.AccumulatorLanes.{Holds, reduce_name, ReductionIsTogether}
-use Rattle.reductions.proofs.JoinLaws as laws
-use Rattle.reductions.proofs.Orders.{together_of}
-use Rattle.reductions.proofs.Lanes.{low_sum, through, at_most_64, low_held, low_joined, takes_in, ranged, only_z}
+use Rattle.lane_emit.specs.Joins as joins
+use Rattle.lane_emit.specs.Folds.{together}
+use Rattle.lane_emit.specs.AccumulatorLanes.{Holds}
+use Rattle.reductions.specs.Reductions.{reduce_name, ReductionIsTogether}
+use Rattle.lane_emit.proofs.JoinLaws as laws
+use Rattle.lane_emit.proofs.FoldOrders.{together_of}
+use Rattle.lane_emit.proofs.AccumulatorUpdates.{low_sum, through, at_most_64, low_held, low_joined, takes_in, ranged, only_z}
 
 -- the reduction of an operator
 abbrev reduce_op : UpdateOp → Ty → ReduceOp

@@ -1,3 +1,3 @@
-pub mod Joins
-pub mod Folds
-pub mod AccumulatorLanes
+pub mod Reductions
+pub mod EdgeCode
+pub mod Edges

@@ -1,38 +1,35 @@
-//! The accumulators of a loop in the lanes of vector registers.
+//! Accumulators over a loop of chunks: the code before it and after it, with the values that are held throughout.
 #![tactic(auto)]
 
+mod accumulators;
+mod fold;
+mod start;
 mod words;
 
-ghost use Rattle.reductions.specs.AccumulatorLanes.{StartIsIdentity, UpdateIsTaken, ReductionIsTogether};
-ghost use Rattle.reductions.specs.Folds.{FoldIsOrdered, ChunkIsTaken, AccumulatorIsFold};
+ghost use Rattle.reductions.specs.Edges.{StartRuns, FoldRuns, FewHeld};
+ghost use Rattle.reductions.specs.Reductions.{ReductionIsTogether};
 
-pub use words::{reduce_word, start_word, update_word};
+pub use fold::emit_fold;
+pub use start::emit_start;
+pub use words::{reduce_word, start_word};
 
-/// Updates of an accumulator, applied in iteration order, are what the lanes took in, joined together and then with the
-/// accumulator.
-pub fn fold_is_ordered()
-    ensures { FoldIsOrdered }
+/// The code before the loop leads to the state before the first pass: the values from before the loop are in all elements of
+/// their registers, and the lanes of accumulators hold what changes nothing. It takes at most as many words as the
+/// bound counts steps of laying them, and one.
+pub fn start_runs()
+    ensures { StartRuns }
 {}
 
-/// Lanes after a chunk hold together what they held before it and what the chunk gave.
-pub fn chunk_is_taken()
-    ensures { ChunkIsTaken }
+/// The code after the loop joins the elements of each accumulator that the loop updates with its general register: it
+/// leads to the state before an iteration of the scalar loop, with the names as the passes left them. It takes at most as
+/// many words as the bound counts steps of joining them.
+pub fn fold_runs()
+    ensures { FoldRuns }
 {}
 
-/// An accumulator after the shares of some lanes, applied in iteration order, is what the lanes took in for it, joined
-/// together and then with its value before.
-pub fn accumulator_is_fold()
-    ensures { AccumulatorIsFold }
-{}
-
-/// A lane that no update touched holds the identity.
-pub fn start_is_identity()
-    ensures { StartIsIdentity }
-{}
-
-/// An update under a mask: each lane in which the mask is true takes in its value, and the others stay.
-pub fn update_is_taken()
-    ensures { UpdateIsTaken }
+/// No more values are held throughout a loop than its kernel has items.
+pub fn few_held()
+    ensures { FewHeld }
 {}
 
 /// The reduction of all lanes is what they took in, joined together, in the bits of the accumulator's type.

@@ -17,7 +17,7 @@ use Rattle.loop_form.specs.LoopItems as ops
 use Rattle.lane_emit.specs.Stretch.{VectorInstruction, word}
 use Rattle.lane_emit.specs.LaneCode.{size_of, index_code}
 use Rattle.lane_emit.specs.ItemCode.{mask_register, op_code}
-use Rattle.reductions.specs.AccumulatorLanes.{update_code}
+use Rattle.lane_emit.specs.AccumulatorLanes.{update_code}
 use Rattle.chunk_emit.specs.Registers.{Layout, z_of, base_of, is_used}
 use Rattle.chunk_emit.specs.ChunkCode.{with_index, index_of, memory_size, gather_name, gather_by, cut_reach, gather_code, vectors, op_words, item_words, past_cast, either_words, items_words}
 use Rattle.first_fault.specs.RegionCode.{Mode, Early, Single, narrow_words, load_words, step_words, region_words, exits_words, single_words}

@@ -21,14 +21,13 @@ use Rattle.dependence.specs.Apart.{bound_place}
 use Rattle.scalar_words.specs.Layout.{register_at}
 use Rattle.scalar_words.specs.KernelRegisters.{kernel_homes, register_in}
 use Rattle.scalar_words.specs.Words.{const_code, settle_word, word_code, binary_code}
-use Rattle.reductions.specs.Joins.{identity}
+use Rattle.lane_emit.specs.Joins.{identity}
 use Rattle.lane_emit.specs.Stretch.{word}
 use Rattle.lane_emit.specs.LaneCode.{size_of, dup_code}
-use Rattle.reductions.specs.AccumulatorLanes.{reduce_name, reduce_code}
 use Rattle.chunk_emit.specs.ChunkCode.{vectors}
 use Rattle.chunk_emit.specs.KernelLayout.{layout_of_loop, update_of}
 use Rattle.first_fault.specs.BreakRegion.{is_loop_break}
-use Rattle.vector_emit.proofs.FromBelow.{type_of_var, hold_code, holds_code, fold_one, folds_code, chunk_words, iteration_words, plain_words}
+use Rattle.vector_emit.proofs.FromBelow.{reduce_name, reduce_code, type_of_var, hold_code, holds_code, fold_one, folds_code, chunk_words, iteration_words, plain_words}
 use Rattle.vector_emit.specs.VectorCode.{passes_by, vector_code}
 use Rattle.reserved_registers.specs.Alone.{AreAlone, StaysAlone}
 use Rattle.reserved_registers.proofs.FreeRegisters.{Unreserved, AreFree, names_free, name_kept, assigned_below}

@@ -23,7 +23,8 @@ use Rattle.lane_emit.specs.Right.{fits}
 use Rattle.lane_emit.specs.Stretch.{VectorInstruction, word}
 use Rattle.lane_emit.specs.LaneCode.{size_of, z_copy, extension, z_extend, z_settle, unary_leaves, binary_leaves, unary_code, merged, least_name, greatest_name, binary_code, shift_word, right_name, lane_count, shift_by, cast_code, greater_name, greater_or_same_name, test_code}
 use Rattle.lane_emit.specs.ItemCode.{Registers, op_code}
-use Rattle.reductions.specs.AccumulatorLanes.{update_name, reduce_name}
+use Rattle.lane_emit.specs.AccumulatorLanes.{update_name}
+use Rattle.vector_emit.proofs.FromBelow.{reduce_name}
 
 abbrev pub AreQuiet : List VectorInstruction → Type 0
 AreQuiet [] = Unit {0}

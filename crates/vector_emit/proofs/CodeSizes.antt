@@ -28,12 +28,12 @@ use Rattle.scalar_words.specs.Words.{settle_word, binary_code}
 use Rattle.scalar_words.proofs.WordCounts.{one_word, operator_words, const_words}
 use Rattle.lane_emit.specs.LaneCode.{dup_code}
 use Rattle.chunk_emit.specs.ChunkCode.{vectors, puts}
-use Rattle.reductions.specs.Joins.{identity}
+use Rattle.lane_emit.specs.Joins.{identity}
 use Rattle.chunk_emit.specs.KernelLayout.{layout_of_loop, update_of}
 use Rattle.first_fault.specs.BreakRegion.{is_loop_break}
 use Rattle.chunk_pass.specs.PassCode.{lanes_word, chunk_words, iteration_words, plain_words}
-use Rattle.loop_edges.specs.EdgeCode.{type_of_var, number_code, hold_code, holds_code, start_code, join_code, fold_one, folds_code, fold_code}
-use Rattle.loop_edges.proofs.StartCounts.{few_held}
+use Rattle.reductions.specs.EdgeCode.{type_of_var, number_code, hold_code, holds_code, start_code, join_code, fold_one, folds_code, fold_code}
+use Rattle.reductions.proofs.StartCounts.{few_held}
 use Rattle.vector_emit.specs.VectorCode.{any_lane, passes_by, passes_code, vector_code}
 use Rattle.vector_emit.proofs.PassSizes.{chunk_few, iteration_few, plain_few}
 

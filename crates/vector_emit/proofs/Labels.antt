@@ -14,9 +14,9 @@ use Rattle.lane_emit.specs.LaneCode.{dup_code}
 use Rattle.scalar_words.proofs.Constants.{const_back}
 use Rattle.kernel_meaning.specs.Operators as meaning
 use Rattle.kernel_meaning.specs.Operators.{wrapped}
-use Rattle.reductions.specs.Joins.{identity}
+use Rattle.lane_emit.specs.Joins.{identity}
 use Rattle.chunk_emit.specs.KernelLayout.{update_of}
-use Rattle.loop_edges.specs.EdgeCode.{type_of_var, hold_code, holds_code, start_code}
+use Rattle.reductions.specs.EdgeCode.{type_of_var, hold_code, holds_code, start_code}
 
 pub following_puts : (d : Laid) (is : List Listed) (rest : List DraftEntry) → Resolves d (puts is rest) → Resolves d rest
 following_puts d [] rest h = h

@@ -31,9 +31,9 @@ use Rattle.scalar_words.proofs.KernelNames.{names_fit}
 use Rattle.chunk_emit.specs.Head.{Ground, IsGround, AtHead, most_lanes, limit}
 use Rattle.first_fault.specs.BreakRegion.{is_loop_break}
 use Rattle.chunk_pass.specs.Chunks.{items_of}
-use Rattle.loop_edges.specs.EdgeCode.{fold_code}
-use Rattle.loop_edges.proofs.StartRuns.{start_runs}
-use Rattle.loop_edges.proofs.FoldEnds.{folds_at}
+use Rattle.reductions.specs.EdgeCode.{fold_code}
+use Rattle.reductions.proofs.StartRuns.{start_runs}
+use Rattle.reductions.proofs.FoldEnds.{folds_at}
 use Rattle.vector_emit.specs.VectorCode.{passes_by, passes_code, vector_code}
 use Rattle.vector_emit.specs.VectorRuns.{Follows, edge_steps, vector_base, vector_unit, vector_most, ReachesScalar, VectorRuns}
 use Rattle.vector_emit.specs.VectorRuns as follows

@@ -24,7 +24,7 @@ use Rattle.loop_form.specs.declared.loop_item.Operand.TheVariants.{LoopIndex}
 use Rattle.dependence.specs.Apart.{bound_place}
 use Rattle.scalar_words.proofs.Truths.{tested, tested_goes, tested_flags, tested_other}
 use Rattle.lane_emit.specs.Right.{PRight}
-use Rattle.reductions.specs.AccumulatorLanes.{LanesHold}
+use Rattle.lane_emit.specs.AccumulatorLanes.{LanesHold}
 use Rattle.chunk_emit.specs.Chunk.{IsTop}
 use Rattle.chunk_emit.specs.Head.{Ground, IsGround, AtHead, HeldAll, IndexHeld, layout, width, most_lanes, limit}
 use Rattle.vector_emit.specs.VectorCode.{any_lane}

@@ -16,7 +16,7 @@ use Rattle.chunk_emit.specs.ChunkCode.{puts}
 use Rattle.chunk_emit.specs.KernelLayout.{layout_of_loop}
 use Rattle.first_fault.specs.BreakRegion.{is_loop_break}
 use Rattle.chunk_pass.specs.PassCode.{lanes_word, chunk_words, iteration_words, plain_words}
-use Rattle.loop_edges.specs.EdgeCode.{start_code, fold_code}
+use Rattle.reductions.specs.EdgeCode.{start_code, fold_code}
 
 -- PTEST P0, P0: Z is clear where a lane came through
 abbrev pub any_lane : Listed

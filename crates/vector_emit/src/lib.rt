@@ -1,7 +1,6 @@
 //! The vector code of a kernel's loop: the start, the passes, the fold, and the branch to scalar code.
 #![tactic(auto)]
 
-mod bound;
 mod passes;
 mod vector;
 

@@ -9,7 +9,6 @@ ghost use Rattle.label_fix.specs.DraftRun as plain;
 ghost use Rattle.loop_form.specs.LoopView.{view};
 ghost use Rattle.loop_form.specs.Registers.{FitsKernel};
 ghost use Rattle.loop_form.specs.View.{program};
-ghost use Rattle.dependence.specs.Apart.{bound_place};
 ghost use Rattle.dependence.specs.Classes.{class_of};
 ghost use Rattle.dependence.specs.declared.reason.Class.TheVariants.{Vector};
 ghost use Rattle.label_fix.specs.Emits.{Emits};
@@ -21,10 +20,10 @@ ghost use Rattle.first_fault.specs.BreakRegion.{is_loop_break, region_of, rest_o
 ghost use Rattle.vector_emit.specs.Parts as parts;
 ghost use Rattle.vector_emit.specs.VectorCode as code;
 
-use crate::bound::bound;
 use a64_code::{A64, AddSubOp, AddSubShift, Cond, Reg};
 use chunk_emit::{LoopLayout, loop_layout};
 use chunk_pass::{emit_chunk, emit_iteration, emit_plain, lanes};
+use dependence::bound_place;
 use first_fault::{has_break, writable_items};
 use label_fix::{BranchKind, Draft, Label, Word};
 use loop_form::{LoopFacts, LoopItem};
@@ -216,6 +215,9 @@ pub fn emit_passes(
     writable_items(facts.kernel, regs);
     let items = loop_items(alloc, facts.kernel)?;
     let layout = loop_layout(facts, regs, &items);
-    emit_by(alloc, &layout, bound(facts.kernel), &items, draft)?;
+    let bound = Bits {
+        number: bound_place(facts.kernel),
+    };
+    emit_by(alloc, &layout, bound, &items, draft)?;
     Ok(())
 }

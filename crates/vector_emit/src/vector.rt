@@ -14,8 +14,8 @@ ghost use Rattle.vector_emit.specs.VectorCode.{vector_code};
 
 use crate::passes::emit_passes;
 use label_fix::{BranchKind, Draft, Label};
-use loop_edges::{emit_fold, emit_start};
 use loop_form::LoopFacts;
+use reductions::{emit_fold, emit_start};
 use reg_assign::VectorRegs;
 use std::alloc::{AllocError, Global};
 

@@ -16,7 +16,7 @@ two_words t n d m b x is some = sym (shifted n t d m b x some) ∙ ap (λ k. gat
 
 pub returns-in_ok-put-3 : goal.returns-in_ok-put-3
 returns-in_ok-put-3 c =
-    let both = two_words c.args.ty c.index_shift-shift.result c.args.d.number c.args.mask.number c.args.base.number c.args.index.number c.index_shift-shift.ensures c.if-shift-eq0.false in
+    let both = two_words c.args.ty c.index_shift-shift.result c.args.d.number c.args.mask.number c.args.base.number c.args.index.number c.index_shift-shift.ensures.value c.if-shift-eq0.false in
     record {
       labels = c.in_ok-put-3.ensures.labels ∙ c.in_ok-put-2.ensures.labels;
       code = λ rest.

@@ -1,2 +1,0 @@
-pub mod EdgeCode
-pub mod Edges
