@@ -63,7 +63,7 @@ pub fn return_to(core: &mut Core, rn: Reg)
 
 // The answer to an exception.
 #[inline(always)]
-fn taken(core: &Core, op: ExceptionOp, imm16: Bits<16>) -> Step
+fn exception_answer(core: &Core, op: ExceptionOp, imm16: Bits<16>) -> Step
     ensures { (memory : Memory) (rest : VectorState) → let here = state_of core.now memory rest in
         IsAnswer (act (exception_name op) (imm16.number ∷ []) here) result here here }
 {
@@ -96,6 +96,6 @@ pub fn exception(core: &Core, op: ExceptionOp, imm16: Bits<16>, answer: &mut Ste
     ensures { (memory : Memory) (rest : VectorState) → let here = state_of core.now memory rest in
         IsAnswer (act (exception_name op) (imm16.number ∷ []) here) (said result answer.new) here here }
 {
-    *answer = taken(core, op, imm16);
+    *answer = exception_answer(core, op, imm16);
     false
 }

@@ -37,6 +37,7 @@ pub fn put_number(out: &mut String, n: u128) -> Result<(), AllocError>
     put(out, buffer.format(n))
 }
 
+// The text of a type.
 pub fn type_str(ty: Ty) -> &'static str
     ensures { result.now ≡ type_text ty }
 {
@@ -60,6 +61,7 @@ pub fn put_type(out: &mut String, ty: Ty) -> Result<(), AllocError>
     put(out, type_str(ty))
 }
 
+// The text of a mark that is a reserved word; of the others none.
 pub fn reserved_str(mark: Mark) -> &'static str
     ensures { result.now ≡ reserved_text mark }
 {
@@ -82,6 +84,7 @@ pub fn reserved_str(mark: Mark) -> &'static str
     }
 }
 
+// The text of a mark.
 pub fn mark_str(mark: Mark) -> &'static str
     ensures { result.now ≡ mark_text mark }
 {
@@ -122,6 +125,7 @@ pub fn put_mark(out: &mut String, mark: Mark) -> Result<(), AllocError>
     put(out, mark_str(mark))
 }
 
+// The text of a comparison.
 pub fn compare_str(op: CompareOp) -> &'static str
     ensures { result.now ≡ compare_text op }
 {
@@ -135,6 +139,7 @@ pub fn compare_str(op: CompareOp) -> &'static str
     }
 }
 
+// The text of an update.
 pub fn update_str(op: UpdateOp) -> &'static str
     ensures { result.now ≡ update_text op }
 {
