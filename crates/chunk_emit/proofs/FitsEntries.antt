@@ -1,9 +1,9 @@
 -- What the listing of a loop gives to its items: until when their values are needed, and that the values from before the loop
 -- that they take are held throughout it.
 use Rattle.std.proofs.Common.{◌≡◌, ℕ, zero, suc, ◌+◌, ◌-◌, ℤ, pos, negsuc, Bool, true, false, cond, List, [], ◌∷◌, ◌++◌, length, map, Option, Some, None, refl, sym, ap, ◌∙◌, subst, arith, inl, inr, append_assoc, length-append}
-use Rattle.std.specs.Prelude.{is_some, option_map, filter, slice_get, slice_index, bytes_eq, ◌||◌, ◌&&◌, ◌⊎◌}
+use Rattle.std.specs.Prelude.{is_some, option_map, filter, slice_get, slice_index, bytes_eq, ◌||◌, ◌⊎◌}
 use Rattle.std.specs.List.{list_any}
-use Rattle.std.proofs.lemmas.Bool.{and_parts, eqb-true, eq-eqb}
+use Rattle.std.proofs.lemmas.Bool.{and_parts, eqb-true, eq-eqb, and_from, or_left, or_right}
 use Rattle.std.proofs.lemmas.List.Folds.{list_any-append}
 use Rattle.kernel_tree.specs.declared.ops.Ty.{Ty}
 use Rattle.kernel_tree.specs.Plain.{Parameter, Accumulator, Program}
@@ -42,14 +42,6 @@ has_place t (u ∷ us) e = by (is_same u t) e (has_place t us)
     by true e more = refl
     by false e more = later (place_in t us) (more e)
 
-or_left : (a b : Bool) → a ≡ true → a || b ≡ true
-or_left true b e = refl
-or_left false b e = absurd cc
-
-or_right : (a b : Bool) → b ≡ true → a || b ≡ true
-or_right true b e = refl
-or_right false b e = e
-
 any_left : {A : Type 0} (p : A → Bool) (xs ys : List A) → list_any p xs ≡ true → list_any p (xs ++ ys) ≡ true
 any_left p xs ys e = list_any-append p xs ys ∙ or_left (list_any p xs) (list_any p ys) e
 
@@ -69,10 +61,6 @@ same_number-refl : (n : ℤ) → same_number n n ≡ true
 same_number-refl (pos n) = eq-eqb n n refl
 same_number-refl (negsuc n) = eq-eqb n n refl
 
-both_true : (a b : Bool) → a ≡ true → b ≡ true → a && b ≡ true
-both_true true b e f = f
-both_true false b e f = absurd cc
-
 pub same_number-told : (m n : ℤ) → same_number m n ≡ true → m ≡ n
 same_number-told (pos m) (pos n) e = ap pos (eqb-true m n e)
 same_number-told (negsuc m) (negsuc n) e = ap negsuc (eqb-true m n e)
@@ -90,7 +78,7 @@ constant_here before t n = by (list_any (is_constant t n) before) refl
   where
     by : (b : Bool) → list_any (is_constant t n) before ≡ b → (list_any (same_as (needs.Constant t n)) (cond b [] (needs.Constant t n ∷ [])) ≡ true) ⊎ (list_any (is_constant t n) before ≡ true)
     by true e = inr e
-    by false e = inl (or_left _ false (both_true _ _ (same_type-refl t) (same_number-refl n)))
+    by false e = inl (or_left _ false (and_from _ _ (same_type-refl t) (same_number-refl n)))
 
 -- an item that is the literal
 constant_at : (before : List Entry) (t u : Option Ty) (n : ℤ) (c : Content) → same_type u t ≡ true → is_literal n c ≡ true → (list_any (same_as (needs.Constant t n)) (new_constant before u c) ≡ true) ⊎ (list_any (is_constant t n) before ≡ true)
@@ -240,7 +228,7 @@ until_here k class xs e ys split number =
     ap (slice_index (map (last_in class (entries_of k)) (loop_entries k))) place ∙ ap (λ es. slice_index (map (last_in class (entries_of k)) es) (length xs)) (sym split) ∙ index_here (last_in class (entries_of k)) xs e ys
 
 content_given : (k : Program) (t : Option Ty) (c : Content) (xs : List Entry) (e : Entry) (ys : List Entry) → e.type ≡ t → e.content ≡ c → xs ++ e ∷ ys ≡ loop_entries k → GivesContent k t c
-content_given k t (IsLiteral n) xs e ys kind is split = literal_held k t n (ap (list_any (is_constant t n)) (sym split) ∙ any_here (is_constant t n) xs e ys (both_true _ _ (ap (λ o. same_type o t) kind ∙ same_type-refl t) (ap (is_literal n) is ∙ same_number-refl n)))
+content_given k t (IsLiteral n) xs e ys kind is split = literal_held k t n (ap (list_any (is_constant t n)) (sym split) ∙ any_here (is_constant t n) xs e ys (and_from _ _ (ap (λ o. same_type o t) kind ∙ same_type-refl t) (ap (is_literal n) is ∙ same_number-refl n)))
 content_given k t (IsName x) xs e ys kind is split =
     let named : list_any (names x) (loop_entries k) ≡ true = ap (list_any (names x)) (sym split) ∙ any_here (names x) xs e ys (ap (is_named x) is ∙ bytes_same x) in
     ((λ p u h. scalar_held k p x u h named), (λ h. index_is_held k x h named))

@@ -2,6 +2,7 @@
 use Rattle.std.proofs.Common.{◌≡◌, ℕ, Bool, true, false, cond, List, [], ◌∷◌, ◌++◌, length, map, Option, Some, None, refl, sym, ap, ◌∙◌, subst, append_assoc}
 use Rattle.std.specs.Prelude.{bytes_eq}
 use Rattle.std.specs.List.{list_any}
+use Rattle.std.proofs.lemmas.Bool.{or_parts}
 use Rattle.kernel_tree.specs.declared.ops.Ty.{Ty}
 use Rattle.kernel_tree.specs.declared.ops.UpdateOp.{UpdateOp}
 use Rattle.kernel_tree.specs.Plain.{Accumulator, Program}
@@ -21,7 +22,6 @@ use Rattle.dependence.specs.Classes.{is_read, computed_content, computed_index, 
 use Rattle.dependence.specs.declared.reason.Class.TheVariants.{Vector}
 use Rattle.dependence.proofs.ClassLaws.{class_facts, gather_facts}
 use Rattle.guest_types.specs.declared.length.Width.TheVariants.{D}
-use Rattle.vector_order.proofs.OneAccess.{or_false}
 use Rattle.chunk_emit.specs.KernelLayout.{update_of}
 use Rattle.chunk_emit.proofs.FitsEntries.{Gives, AllGive, loop_gives, any_here}
 use Rattle.chunk_emit.proofs.FitsUpdates.{one_operator, any_none}
@@ -53,7 +53,7 @@ known_right k (x ∷ xs) ys h = known_right k xs ys h.1
 unread_in : (es : List Entry) (vs : List Accumulator) (x : List ℕ) (t : Ty) → list_any (is_read es) vs ≡ false → var_type x vs ≡ Some t → list_any (names x) es ≡ false
 unread_in es [] x t e f = absurd cc
 unread_in es (v ∷ vs) x t e f =
-    let parts = or_false (is_read es v) (list_any (is_read es) vs) e in
+    let parts = or_parts (is_read es v) (list_any (is_read es) vs) e in
     by (bytes_eq v.name x) refl f (unread_in es vs x t parts.1) parts.0
   where
     by : (b : Bool) → bytes_eq v.name x ≡ b → cond b (Some v.type) (var_type x vs) ≡ Some t → (var_type x vs ≡ Some t → list_any (names x) es ≡ false) → list_any (names v.name) es ≡ false → list_any (names x) es ≡ false

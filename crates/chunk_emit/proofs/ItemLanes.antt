@@ -1,19 +1,13 @@
 -- Columns lane by lane: an act that changes its own lane alone, and one that stores.
-use Rattle.std.proofs.Common.{◌≡◌, ◌≢◌, ℕ, zero, suc, ◌+◌, ◌-◌, ◌<◌, ◌≤◌, Bool, true, false, Option, Some, None, Result, Ok, Err, refl, sym, ap, ap₂, ◌∙◌, subst, arith, ⊎_elim}
+use Rattle.std.proofs.Common.{◌≡◌, ℕ, zero, suc, ◌+◌, ◌-◌, ◌<◌, ◌≤◌, Bool, true, false, Option, Some, None, Result, Ok, Err, refl, sym, ap, ap₂, ◌∙◌, subst, arith, ⊎_elim}
 use Rattle.std.specs.Prelude.{if◌then◌else◌}
-use Rattle.std.proofs.lemmas.Bool.{eq-eqb, ne_eqb}
 use Rattle.std.proofs.lemmas.Bool.Decides.{eqb_tells}
 use Rattle.guest_types.specs.declared.memory.AccessFault.{AccessFault}
 use Rattle.guest_types.specs.Memory.{Memory, stored}
 use Rattle.guest_types.specs.Elements.{first_true}
 use Rattle.guest_types.specs.LaneMemory.{StoredLanes, AllStored, StoreFault, store_on, store_lanes}
 use Rattle.vector_order.specs.Orders.{Lane, Lanes, Keeps, Writes, Act, Out, Fine, Fail, with_lane, wrote, done, act_does, go_on, column}
-
-pub lane_other : (ls : ℕ → Lane) (i j : ℕ) (l : Lane) → i ≢ j → with_lane ls i l j ≡ ls j
-lane_other ls i j l ne = ap (λ b. if b then l else ls j) (ne_eqb i j ne)
-
-pub lane_same : (ls : ℕ → Lane) (i : ℕ) (l : Lane) → with_lane ls i l i ≡ l
-lane_same ls i l = ap (λ b. if b then l else ls i) (eq-eqb i i refl)
+use Rattle.vector_order.proofs.Interchange.{lane_other, lane_same}
 
 -- ---- tests over elements
 

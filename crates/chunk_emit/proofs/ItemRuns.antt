@@ -11,13 +11,14 @@ use Rattle.machine_model.specs.InstructionTable.{Listed}
 use Rattle.machine_model.specs.Machine.{State}
 use Rattle.label_fix.specs.DraftRun.{DraftEntry, Put, Laid}
 use Rattle.label_fix.proofs.StretchSteps.{stay, chain, stop_after, stop_more}
-use Rattle.vector_order.specs.Orders.{Lanes, Out, Fine, Fail, go_on, column, by_item}
+use Rattle.vector_order.specs.Orders.{Lanes, Out, go_on, column, by_item}
 use Rattle.loop_form.specs.declared.loop_item.Operand.{Operand}
 use Rattle.loop_form.specs.declared.loop_item.Operand.TheVariants.{Constant, Outer, LoopIndex, Made}
 use Rattle.loop_form.specs.LoopItems.{Op}
 use Rattle.loop_form.specs.LoopItems as ops
 use Rattle.vector_order.specs.Operands.{operand_value, on_mask}
 use Rattle.vector_order.specs.Items.{item_act, acts_of}
+use Rattle.vector_order.proofs.Interchange.{go_twice}
 use Rattle.lane_emit.specs.ItemCode.{mask_register}
 use Rattle.chunk_emit.specs.Registers.{Layout}
 use Rattle.chunk_emit.specs.ChunkCode.{past_cast, op_words, item_words, either_words, items_words, puts}
@@ -185,10 +186,6 @@ module _ (l : Layout) (fit : Assigned l) (f : Setting) (d : Laid) (rest : List D
       (subst (λ o. PairDoes (ops.Cast is.own is.cast is.x) (ops.Store is.a is.base is.ty is.c (Made q)) o) (sym is.joined_is)
       (cast_store is.own is.cast is.x is.a is.base is.ty is.c (subst (FitsOp l f q) is.op_is k) (subst (FitsOp l f p) is.next_is j))))
 
-in_turn : (o : Out) (g h : Lanes → Out) → go_on (go_on o g) h ≡ go_on o (λ s. go_on (g s) h)
-in_turn (Fine s) g h = refl
-in_turn (Fail m) g h = refl
-
 pub items_run : ItemsRun
 items_run l f d rest [] p t s fit k h = does_fine s (stay 0) h
 items_run l f d rest (it ∷ []) p t s fit k h =
@@ -211,5 +208,5 @@ items_run l f d rest (it ∷ next ∷ items) p t s fit k h =
         let words = item_words f.w l (record next { op = joined }) in
         let here = pair_does l fit f d (puts (items_words f.w l items) rest) (holds_later h it.item k.0 k.1) it.mask next.mask k.2 k.5.2 k.5.0 k.5.1 (k.4 joined e) it.op next.op joined (taken it.item it.op next.op joined e) k.3 k.5.3 in
         subst (λ es. Does l f d es s rest (following_items p (it ∷ next ∷ items)) (length (words ++ items_words f.w l items)) (by_item (acts_of f.names (it ∷ next ∷ items)) f.n f.i t)) (sym (puts-append words (items_words f.w l items) rest))
-        (subst (λ o. Does l f d (puts words (puts (items_words f.w l items) rest)) s rest (following_items p (it ∷ next ∷ items)) (length (words ++ items_words f.w l items)) o) (in_turn (column (item_act f.names it) f.n f.i t) (column (item_act f.names next) f.n f.i) (by_item (acts_of f.names items) f.n f.i))
+        (subst (λ o. Does l f d (puts words (puts (items_words f.w l items) rest)) s rest (following_items p (it ∷ next ∷ items)) (length (words ++ items_words f.w l items)) o) (go_twice (column (item_act f.names it) f.n f.i t) (column (item_act f.names next) f.n f.i) (by_item (acts_of f.names items) f.n f.i))
         (then_does (length (words ++ items_words f.w l items)) (by_item (acts_of f.names items) f.n f.i) (length-append words (items_words f.w l items)) here last))

@@ -3,6 +3,7 @@ use Rattle.std.proofs.Common.{◌≡◌, ℕ, Bool, true, false, cond, ◌||◌,
 use Rattle.std.specs.Prelude.{is_some, filter, bytes_eq}
 use Rattle.std.specs.List.{list_any}
 use Rattle.std.proofs.lemmas.List.Folds.{list_any-append}
+use mathlib.Core.Bool.{or-true}
 use Rattle.kernel_tree.specs.declared.ops.Ty.{Ty}
 use Rattle.kernel_tree.specs.Plain.{Parameter, Accumulator, Program}
 use Rattle.kernel_tree.specs.Items.{loop_index}
@@ -73,11 +74,7 @@ module _ (x : List ℕ) where
   var_in es (v ∷ vs) h = by (is_updated es v) h (var_in es vs)
     where
       or_more : (b : Bool) → b ≡ true → (bytes_eq v.name x || b) ≡ true
-      or_more b e = ap (λ c. bytes_eq v.name x || c) e ∙ or_true (bytes_eq v.name x)
-        where
-          or_true : (c : Bool) → c || true ≡ true
-          or_true true = refl
-          or_true false = refl
+      or_more b e = ap (λ c. bytes_eq v.name x || c) e ∙ or-true (bytes_eq v.name x)
 
       first : (b : Bool) → bytes_eq v.name x ≡ b → b || list_any is_sum (map accumulating_of (filter (is_updated es) vs)) ≡ true → (list_any is_sum (map accumulating_of (filter (is_updated es) vs)) ≡ true → list_any (is_var x) vs ≡ true) → bytes_eq v.name x || list_any (is_var x) vs ≡ true
       first true e h more = ap (λ b. b || list_any (is_var x) vs) e

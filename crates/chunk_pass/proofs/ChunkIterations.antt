@@ -1,6 +1,7 @@
 -- How the iterations of a chunk end, by their items in the lanes.
 use Rattle.std.proofs.Common.{◌≡◌, ◌⊎◌, ℕ, zero, suc, ◌+◌, ◌<◌, false, List, [], ◌∷◌, ◌++◌, Some, None, Result, Ok, Err, inl, inr, refl, sym, ap, ◌∙◌, subst, arith}
 use Rattle.std.specs.List.{list_any}
+use Rattle.std.proofs.lemmas.Bool.{or_parts}
 use Rattle.guest_types.specs.declared.memory.AccessFault.{AccessFault}
 use Rattle.guest_types.specs.Memory.{Memory, stored}
 use Rattle.kernel_tree.specs.Plain.{PlainLoop}
@@ -14,13 +15,13 @@ use Rattle.loop_form.specs.LoopItems.{Op, Item}
 use Rattle.loop_form.specs.LoopItems as ops
 use Rattle.vector_order.specs.Orders.{Lane, Effect, Halts, Keeps, Writes, Act}
 use Rattle.vector_order.specs.Regions.{AllQuiet}
-use Rattle.vector_order.proofs.OneAccess.{or_false}
 use Rattle.vector_order.specs.Items.{item_act, acts_of}
 use Rattle.vector_order.specs.Fates.{ByBreak, ByFault, cause_of, Fate, Through, Ended, wrote_on, effect_on, fate, SameEnd}
 use Rattle.first_fault.specs.Region as region
 use Rattle.first_fault.specs.Region.{Way, On, Fell, halted, way_of, way_on, lane_left, region_way}
 use Rattle.first_fault.specs.BreakRegion.{breaks_loop, is_loop_break}
 use Rattle.first_fault.specs.IterationWays.{IsIteration}
+use Rattle.first_fault.proofs.RegionItems.{halted_goes}
 use Rattle.chunk_pass.specs.Halts.{Breaks, Faults}
 
 pub acts-append : (names : Names) (xs ys : List Item) → acts_of names (xs ++ ys) ≡ acts_of names xs ++ acts_of names ys
@@ -95,7 +96,7 @@ no_break (ops.Break c) m e = absurd cc
 fate_unbroken : (names : Names) (items : List Item) (j : ℕ) (m : Memory) (l : Lane) → list_any is_loop_break items ≡ false → Unbroken (fate names items j m l)
 fate_unbroken names [] j m l e = tt
 fate_unbroken names (it ∷ items) j m l e =
-    let parts = or_false (is_loop_break it) (list_any is_loop_break items) e in
+    let parts = or_parts (is_loop_break it) (list_any is_loop_break items) e in
     by (item_act names it j m l) parts.0 (λ n k. fate_unbroken names items j n k parts.1)
   where
     by : (f : Effect) → is_loop_break it ≡ false → ((n : Memory) (k : Lane) → Unbroken (fate names items j n k)) → Unbroken (effect_on (cause_of it.op) f m l (fate names items j))
@@ -109,10 +110,6 @@ fate_unbroken names (it ∷ items) j m l e =
 
 -- ---- after the break region
 
-halted_not_on : (op : Op) (next : Lane → Way) (new : Lane) → way_on (halted op) next ≡ On new → ⊥
-halted_not_on (ops.Load a base t c) next new e = cc
-halted_not_on other next new e = cc
-
 -- an iteration that goes on does the rest with what its lane then holds
 fate_following : (names : Names) (items rest : List Item) (j : ℕ) (m : Memory) (l new : Lane) → AllQuiet (acts_of names items) → region_way names items j m l ≡ On new → fate names (items ++ rest) j m l ≡ fate names rest j m new
 fate_following names [] rest j m l new quiet e = let same : l ≡ new = cc in ap (fate names rest j m) same
@@ -121,7 +118,7 @@ fate_following names (it ∷ items) rest j m l new quiet e = by (item_act names 
     by : (f : Effect) → item_act names it j m l ≡ f → way_on (way_of (halted it.op) f) (region_way names items j m) ≡ On new → ((k : Lane) → region_way names items j m k ≡ On new → fate names (items ++ rest) j m k ≡ fate names rest j m new)
         → effect_on (cause_of it.op) f m l (fate names (items ++ rest) j) ≡ fate names rest j m new
     by (Keeps k) is h more = more k h
-    by Halts is h more = absurd (halted_not_on it.op (region_way names items j m) new h)
+    by Halts is h more = absurd (halted_goes it.op (region_way names items j m) new h)
     by (Writes a k v) is h more = absurd (quiet.0.never j m l a k v is)
 
 goes_through : (iteration_end : BlockEnd Names) (f : Fate) → SameEnd iteration_end f → Unbroken f → Breaks iteration_end → ⊥

@@ -4,6 +4,7 @@ use Rattle.std.specs.Prelude.{bytes_eq, find, option_map, unwrap_or, if◌then�
 use Rattle.std.specs.List.{list_any}
 use Rattle.std.proofs.lemmas.Bool.Decides.{eqb_tells}
 use Rattle.std.proofs.lemmas.List.Folds.{list_any-append}
+use Rattle.std.proofs.lemmas.Bool.{or_parts}
 use Rattle.guest_types.specs.declared.memory.AccessFault.{AccessFault}
 use Rattle.guest_types.specs.Memory.{Memory, stored}
 use Rattle.kernel_tree.specs.declared.ops.Ty.{Ty}
@@ -16,7 +17,6 @@ use Rattle.loop_form.specs.LoopItems.{Op, Item}
 use Rattle.loop_form.specs.LoopItems as ops
 use Rattle.vector_order.specs.Orders.{Share, Lane, Lanes, Effect, Halts, Keeps, Writes, Act, Out, Fine, Fail, with_lane, wrote, done, act_does, go_on, column, by_item}
 use Rattle.vector_order.specs.Operands.{on_mask, with_value, load_effect, store_effect}
-use Rattle.vector_order.proofs.OneAccess.{or_false}
 use Rattle.vector_order.proofs.Interchange.{lane_same, lane_other}
 use Rattle.vector_order.specs.Items.{op_effect, item_act, acts_of, with_share}
 use Rattle.vector_order.specs.Shares.{apply_shares, apply_lanes}
@@ -101,7 +101,7 @@ module _ (x : List ℕ) where
   pub items_nothing : (names : Names) (items : List Item) (n i j : ℕ) (s t : Lanes) → list_any (is_add x) items ≡ false → by_item (acts_of names items) n i s ≡ Fine t → GaveNothing (s.lane j) → GaveNothing (t.lane j)
   items_nothing names [] n i j s t h d g = let same : s ≡ t = cc in subst (λ (t : Lanes). GaveNothing (t.lane j)) same g
   items_nothing names (it ∷ items) n i j s t h d g =
-      let parts = or_false (is_add x it) (list_any (is_add x) items) h in
+      let parts = or_parts (is_add x it) (list_any (is_add x) items) h in
       by (column (item_act names it) n i s) refl d parts.0 (λ u f. items_nothing names items n i j u t parts.1 f)
     where
       by : (o : Out) → column (item_act names it) n i s ≡ o → go_on o (by_item (acts_of names items) n i) ≡ Fine t → is_add x it ≡ false → ((u : Lanes) → by_item (acts_of names items) n i u ≡ Fine t → GaveNothing (u.lane j) → GaveNothing (t.lane j)) → GaveNothing (t.lane j)
@@ -130,7 +130,7 @@ module _ (x : List ℕ) where
   shares_still : (shares : List Share) (ns : Names) → list_any is_for shares ≡ false → value_at (apply_shares shares ns) x ≡ value_at ns x
   shares_still [] ns h = refl
   shares_still (s ∷ shares) ns h =
-      let parts = or_false (bytes_eq s.name x) (list_any is_for shares) h in
+      let parts = or_parts (bytes_eq s.name x) (list_any is_for shares) h in
       shares_still shares (assigned s.name (binary_value s.op s.type (value_at ns s.name) s.value) ns) parts.1 ∙ value_other s.name (binary_value s.op s.type (value_at ns s.name) s.value) ns parts.0
 
   pub lanes_still : (n i : ℕ) (lane : ℕ → Lane) (ns : Names) → ((j : ℕ) → i ≤ j → j < i + n → GaveNothing (lane j)) → value_at (apply_lanes n i lane ns) x ≡ value_at ns x

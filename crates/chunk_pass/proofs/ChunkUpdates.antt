@@ -3,6 +3,7 @@ use Rattle.std.proofs.Common.{◌≡◌, ℕ, ◌+◌, ℤ, Bool, false, ◌||�
 use Rattle.std.specs.Prelude.{bytes_eq}
 use Rattle.std.specs.List.{list_any}
 use Rattle.std.proofs.lemmas.List.Folds.{list_any-append}
+use Rattle.std.proofs.lemmas.Bool.{or_parts}
 use Rattle.kernel_tree.specs.Plain.{Term, Literal, Variable, Element, Unary, Operation, Shift, Conversion, Choice, Comparison, Both, Either, Not, Action, Define, Put, Update, Choose, Leave, Block, Done, Then, Otherwise, Nothing, Else, PlainLoop, Program}
 use Rattle.kernel_tree.specs.Items.{stream_offset, loop_index, index_items, term_size, action_size, block_size, otherwise_size, loop_start}
 use Rattle.kernel_tree.specs.Typing.{Scope, own, first, index_type, side_type, after_action, after_block, left, in_loop, var_scope, array_type}
@@ -12,7 +13,6 @@ use Rattle.loop_form.specs.Entries.{Entry, IsPlain, entry, term_entries, action_
 use Rattle.loop_form.specs.LoopItems.{Bound, Op, Item, truth_home, load_item, gather_item, term_items, cond_items, store_item, accumulator_of, after_env, break_items, leave_items, action_items, block_items, otherwise_items, loop_env, loop_items}
 use Rattle.loop_form.specs.LoopItems as ops
 use Rattle.loop_form.specs.Needs.{updates}
-use Rattle.vector_order.proofs.OneAccess.{or_false}
 
 abbrev pub adds : List ℕ → Op → Bool
 adds x (ops.Update y op t v) = bytes_eq y x
@@ -53,10 +53,10 @@ module _ (x : List ℕ) where
   -- ---- statements
 
   following : (es fs : List Entry) → list_any (updates x) (es ++ fs) ≡ false → list_any (updates x) fs ≡ false
-  following es fs h = (or_false (list_any (updates x) es) (list_any (updates x) fs) (sym (list_any-append (updates x) es fs) ∙ h)).1
+  following es fs h = (or_parts (list_any (updates x) es) (list_any (updates x) fs) (sym (list_any-append (updates x) es fs) ∙ h)).1
 
   before : (es fs : List Entry) → list_any (updates x) (es ++ fs) ≡ false → list_any (updates x) es ≡ false
-  before es fs h = (or_false (list_any (updates x) es) (list_any (updates x) fs) (sym (list_any-append (updates x) es fs) ∙ h)).0
+  before es fs h = (or_parts (list_any (updates x) es) (list_any (updates x) fs) (sym (list_any-append (updates x) es fs) ∙ h)).0
 
   break_adds : (c : Term) (scope : Scope) (mask : Option ℕ) (from : ℕ) (env : List Bound) (rest : List Item) → list_any (is_add x) (break_items scope mask from env c rest) ≡ list_any (is_add x) rest
   break_adds c scope mask from env rest = (term_adds c).as_cond scope mask from env _
@@ -71,7 +71,7 @@ module _ (x : List ℕ) where
       action_adds (Define y t e) scope mask from g env rest h r = (term_adds e).as_value scope (first t (own scope e)) mask from env _ ∙ r
       action_adds (Put a i e) scope mask from g env rest h r = (term_adds e).as_value scope (array_type scope a) mask from env _ ∙ store_adds scope mask _ env a (stream_offset scope.index i) _ rest ∙ r
       action_adds (Update y op e) scope mask from g env rest h r =
-          let here = or_false (bytes_eq y x) false (following (term_entries k g (g + term_size (loop_index k) e) e) _ h) in
+          let here = or_parts (bytes_eq y x) false (following (term_entries k g (g + term_size (loop_index k) e) e) _ h) in
           (term_adds e).as_value scope (accumulator_of scope y) mask from env _ ∙ ap₂ (λ a b. a || b) here.0 r
       action_adds (Choose c b d) scope mask from g env rest h r =
           let first = g + term_size (loop_index k) c in

@@ -1,6 +1,7 @@
 -- The state before a pass holds the lanes of a chunk.
-use Rattle.std.proofs.Common.{◌≡◌, ◌≢◌, ℕ, ◌+◌, ◌-◌, ◌*◌, ◌<◌, ◌≤◌, ℤ, pos, Bool, true, false, ◌&&◌, ltb, List, [], map, Option, Some, None, refl, sym, ap, ◌∙◌, subst, arith}
+use Rattle.std.proofs.Common.{◌≡◌, ◌≢◌, ℕ, ◌+◌, ◌-◌, ◌*◌, ◌<◌, ◌≤◌, ℤ, pos, Bool, true, false, ltb, List, [], map, Option, Some, None, refl, sym, ap, ◌∙◌, subst, arith}
 use Rattle.std.specs.Prelude.{nat_lt, slice_index, if◌then◌else◌}
+use mathlib.Core.Bool.{and-true}
 use Rattle.guest_types.specs.Length.{width_bits, width_bytes, all_lanes}
 use Rattle.guest_types.specs.Elements.{at, active}
 use Rattle.guest_types.specs.EarlyLoads.{StopList}
@@ -86,10 +87,6 @@ low g ground e lt = lane-inside (width g) e (all_lanes (width g)) (omega (arith,
 pub top_is : (g : Ground) → IsGround g → (k : ℕ) (p : List ℕ) → IsTop (width g) k p → (e : ℕ) → e < most_lanes g → active (width g) p e ≡ ltb e k
 top_is g ground k p top e lt = top_active (width g) k p top e (low g ground e lt)
 
-and_true : (b : Bool) → b ≡ (b && true)
-and_true true = refl
-and_true false = refl
-
 -- ---- the items before the loop make nothing
 
 first_value : (k : Program) → slice_index (map (last_in Z (entries_of k)) (loop_entries k)) 0 ≡ 0
@@ -163,7 +160,7 @@ module _ (g : Ground) {i : ℕ} {cur : Names} {m : Memory} {sum : List ℕ → �
     memory = h.memory;
     x = λ r ne. refl;
     index = h.index;
-    active = λ e lt. top_is g ground n (p_at s 0) top e lt ∙ and_true (ltb e n);
+    active = λ e lt. top_is g ground n (p_at s 0) top e lt ∙ sym (and-true (ltb e n));
     top = top;
     all = h.all;
     held = held_right;

@@ -1,14 +1,9 @@
 -- Runs of the pieces of a pass, one after another.
-use Rattle.std.proofs.Common.{◌≡◌, ℕ, ◌+◌, ◌≤◌, List, [], ◌∷◌, ◌++◌, refl, ap, arith}
-use Rattle.machine_model.specs.InstructionTable.{Listed}
+use Rattle.std.proofs.Common.{ℕ, ◌+◌, ◌≤◌, List, arith}
 use Rattle.machine_model.specs.Machine.{State}
-use Rattle.label_fix.specs.DraftRun.{DraftEntry, Put, Laid}
-use Rattle.label_fix.specs.Stretches.{Goes, Leads}
-use Rattle.chunk_emit.specs.ChunkCode.{puts}
+use Rattle.label_fix.specs.DraftRun.{DraftEntry, Laid}
+use Rattle.label_fix.specs.Stretches.{Leads}
 use Rattle.first_fault.proofs.Stretches.{follow, follow-cut}
-
-pub as_leads : {d : Laid} {c e : List DraftEntry} {s t : State} {most : ℕ} → Goes d c s e t most → Leads d c s e t most
-as_leads g = record { count = g.count; within = g.within; by = g.by; cut = 0; tells = λ k. let more = g.tells k in omega (arith, more) }
 
 -- two pieces, of which the first may suppress free elements
 pub record Further {d : Laid} {c e : List DraftEntry} {s t : State} {m : ℕ} (first : Leads d c s e t m) (rest : List DraftEntry) (u : State) (most : ℕ) : Type 0 where
@@ -31,7 +26,3 @@ nearer most le a b = record {
   leads = follow most le a b;
   more = let same = follow-cut most le a b in omega (arith, same);
 }
-
-pub puts_append : (a b : List Listed) (rest : List DraftEntry) → puts (a ++ b) rest ≡ puts a (puts b rest)
-puts_append [] b rest = refl
-puts_append (i ∷ a) b rest = ap (λ c. Put i ∷ c) (puts_append a b rest)

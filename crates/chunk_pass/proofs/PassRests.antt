@@ -11,6 +11,7 @@ use Rattle.kernel_meaning.specs.ScalarRun.{iterations}
 use Rattle.machine_model.specs.Machine.{State, p_at}
 use Rattle.label_fix.specs.DraftRun.{DraftEntry, Put, Laid}
 use Rattle.label_fix.specs.Stretches.{Leads}
+use Rattle.label_fix.proofs.StretchSteps.{leads_of}
 use Rattle.loop_form.specs.LoopItems.{Item}
 use Rattle.vector_order.specs.Orders.{Lanes, Out, Fine, by_item}
 use Rattle.vector_order.specs.Items.{acts_of}
@@ -25,7 +26,7 @@ use Rattle.chunk_pass.specs.Chunks.{items_of, IsChunk, Done, FineIsDone, Failing
 use Rattle.chunk_pass.specs.Passes.{Passes, comes, stops}
 use Rattle.chunk_pass.proofs.LaneWords.{advance_leads}
 use Rattle.chunk_pass.proofs.LaneHolds.{setting, is_setting, top_is}
-use Rattle.chunk_pass.proofs.PassLeads.{as_leads, further}
+use Rattle.chunk_pass.proofs.PassLeads.{further}
 use Rattle.chunk_pass.proofs.PassEnds.{given_right, head_following, top_following, held_index_following, following}
 
 -- the words from the items on that can be done over all lanes
@@ -56,7 +57,7 @@ module _
         (head_following g ground h chunk.within holds done.between) (top_following g ground h chunk.within holds) (held_index_following g ground h chunk.within holds)
 
     pub rest_pass : {q : ℕ} {out : Out} → by_item (acts_of g.names (items_of g)) k i t ≡ out → AllOn g i k t → Does (layout g) (setting g i k sum s.x stop) d (rest_words g items rest) mid (Put (advance_word (width g)) ∷ rest) q (length (items_words (width g) (layout g) items)) out → Passes why g n i cur m d code from rest most
-    rest_pass is all (does_fine end goes holds) = fine_pass end is (as_leads goes) holds
+    rest_pass is all (does_fine end goes holds) = fine_pass end is (leads_of goes) holds
     rest_pass is all (does_fail {m = left} kind access stopped) =
         let failing : Failing g i k cur t.memory left = fails g i k cur sum t left ground h.between chunk all is in
         stops k failing.j left failing.faulted kind few (ap (λ memory. iterations (var_scope g.kernel) g.for_loop k i memory cur) (sym now) ∙ failing.fails) failing.from failing.until access failing.kept

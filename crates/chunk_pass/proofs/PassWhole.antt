@@ -13,7 +13,7 @@ use Rattle.loop_form.specs.LoopItems.{Item}
 use Rattle.chunk_emit.specs.ChunkCode.{items_words, puts}
 use Rattle.chunk_emit.specs.Fits.{FitsItems, following_items}
 use Rattle.chunk_emit.specs.Head.{Ground, layout, width, most_lanes, limit}
-use Rattle.chunk_emit.proofs.ItemRuns.{items_run}
+use Rattle.chunk_emit.proofs.ItemRuns.{items_run, puts-append}
 use Rattle.first_fault.specs.Region.{region_way}
 use Rattle.first_fault.specs.RegionCode.{Early, Single, exits_words, single_words}
 use Rattle.first_fault.specs.KernelFits.{KernelFits}
@@ -25,7 +25,6 @@ use Rattle.chunk_pass.specs.Passes.{LeftOut, Passes, lanes_at, ChunkPasses, Iter
 use Rattle.chunk_pass.specs.Halts.{Breaks}
 use Rattle.chunk_pass.proofs.LaneHolds.{setting, blank, blank_lanes, is_chunk, lanes_hold}
 use Rattle.chunk_pass.proofs.LaneStarts.{assigned_in, plain_begun, chunk_begun, iteration_begun}
-use Rattle.chunk_pass.proofs.PassLeads.{puts_append}
 use Rattle.chunk_pass.proofs.PassRests.{rest_words, rest_pass}
 use Rattle.chunk_pass.proofs.PassRegions.{fits_at, region_pass}
 use Rattle.chunk_pass.proofs.PassReasons.{chunk_reasons, iteration_reasons}
@@ -37,10 +36,10 @@ abbrev tail_words : Ground → List Item → List Listed
 tail_words g items = items_words (width g) (layout g) items ++ advance_word (width g) ∷ []
 
 two_pieces : (g : Ground) (rest : List DraftEntry) (a : List Listed) (items : List Item) → puts (a ++ tail_words g items) rest ≡ puts a (rest_words g items rest)
-two_pieces g rest a items = puts_append a (tail_words g items) rest ∙ ap (puts a) (puts_append (items_words (width g) (layout g) items) (advance_word (width g) ∷ []) rest)
+two_pieces g rest a items = puts-append a (tail_words g items) rest ∙ ap (puts a) (puts-append (items_words (width g) (layout g) items) (advance_word (width g) ∷ []) rest)
 
 three_pieces : (g : Ground) (rest : List DraftEntry) (a b : List Listed) (items : List Item) → puts (a ++ (b ++ tail_words g items)) rest ≡ puts a (puts b (rest_words g items rest))
-three_pieces g rest a b items = puts_append a (b ++ tail_words g items) rest ∙ ap (puts a) (two_pieces g rest b items)
+three_pieces g rest a b items = puts-append a (b ++ tail_words g items) rest ∙ ap (puts a) (two_pieces g rest b items)
 
 two_count : (g : Ground) (a : List Listed) (items : List Item) → length (a ++ tail_words g items) ≡ length a + (length (items_words (width g) (layout g) items) + 1)
 two_count g a items = length-append a (tail_words g items) ∙ ap (λ n. length a + n) (length-append (items_words (width g) (layout g) items) (advance_word (width g) ∷ []))

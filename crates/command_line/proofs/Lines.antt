@@ -5,6 +5,7 @@ use Rattle.std.specs.Option.{option_or}
 use Rattle.std.proofs.lemmas.Bool.{lt-ltb}
 use Rattle.std.proofs.lemmas.Option.{none-some}
 use Rattle.std.proofs.lemmas.List.{append-nil, append_assoc}
+use mathlib.Core.Bool.{or-true}
 use Rattle.number_text.specs.Numbers.{given, number_of}
 use Rattle.command_line.specs.Line.{Words, Options, Extent, Line, is_end, is_plain, is_filled, positional, positional_from, value_named, value_in, value_following, value_at, once, extent_of, period_of, with_vl, with_steps, with_map, with_dump, with_suppress, option_at, options_of, no_options, run_with, run_of, eval_with, eval_of, debug_with, debug_of, pipe_with, pipe_of}
 use Rattle.command_line.specs.Numbers.{parted}
@@ -574,13 +575,9 @@ module _ (F : Options → Words → Option Line) where
   first_lines : (word : List ℕ) (words : Words) → Lines words → Tail words → Lines (word ∷ words)
   first_lines word words ih tail k left o f = by_sort (sorted word)
     where
-      or_true : (b : Bool) → (b || true) ≡ true
-      or_true true = refl
-      or_true false = refl
-
       by_sort : Sorted word → chain k o (word ∷ words) ≡ line o (given_from (place.Options left) (word ∷ words))
       by_sort (ends t) = let e = end_names word t in first_positional word words k left o e.0 e.1 (ap (λ b. b || is_plain word) t)
-      by_sort (plain t p) = let e = plain_names word p in first_positional word words k left o e.0 e.1 (ap (λ b. is_end word || b) p ∙ or_true (is_end word))
+      by_sort (plain t p) = let e = plain_names word p in first_positional word words k left o e.0 e.1 (ap (λ b. is_end word || b) p ∙ or-true (is_end word))
       by_sort (alone t p n m) = alone_lines word words tail t p n m k left o f
       by_sort (joined t p m n v j) =
           let is = joined_is word n v j in
@@ -713,10 +710,6 @@ unfolding positional_from given_from
 words_alone [] = refl
 words_alone (word ∷ words) = by_sort (sorted word)
   where
-    or_true : (b : Bool) → (b || true) ≡ true
-    or_true true = refl
-    or_true false = refl
-
     no_allowed : (n : OptionName) → allows no_allows n ≡ false
     no_allowed Vl = refl
     no_allowed also = refl
@@ -727,7 +720,7 @@ words_alone (word ∷ words) = by_sort (sorted word)
 
     by_sort : Sorted word → positional (word ∷ words) ≡ option_map (λ (g : Given). g.words) (given_of no_allows (word ∷ words))
     by_sort (ends t) = words_are no_allows word words (ap (λ b. b || is_plain word) t)
-    by_sort (plain t p) = words_are no_allows word words (ap (λ b. is_end word || b) p ∙ or_true (is_end word))
+    by_sort (plain t p) = words_are no_allows word words (ap (λ b. is_end word || b) p ∙ or-true (is_end word))
     by_sort (alone t p n m) = nothing_here t p (from_alone no_allows word words n t p m ∙ ap (λ (b : Bool). if b then given_from (place.Value n no_allows) words else None) (no_allowed n))
     by_sort (joined t p m n v j) = nothing_here t p (from_joined no_allows word words n v t p m j
         ∙ ap (λ (b : Bool). if b then option_map (with_value n v) (given_from (place.Options (without no_allows n)) words) else None) (no_allowed n))

@@ -1,9 +1,9 @@
 -- What a parse of `clap` finds in the words of a command.
 use Rattle.std.proofs.Common.{refl, sym, ap, ap₂, subst, true≢false, arith, ◌∙◌, ◌≡◌, ℕ, ◌≤◌, List, [], ◌∷◌, length, Bool, true, false, codes, Option, Some, None, if◌then◌else◌}
-use Rattle.std.specs.Prelude.{option_map, option_and_then, unwrap_or, slice_get, is_some, ◌&&◌, String, string_bytes}
+use Rattle.std.specs.Prelude.{option_map, option_and_then, unwrap_or, slice_get, is_some, String, string_bytes}
 use Rattle.std.specs.List.{fold, list_all}
 use Rattle.std.specs.Option.{option_map_or}
-use Rattle.std.proofs.lemmas.Bool.{eqb-true, and_from}
+use Rattle.std.proofs.lemmas.Bool.{eqb-true, and_from, and_parts}
 use Rattle.std.proofs.lemmas.List.{length-map}
 use Rattle.clap.specs.Lexer.{usize_max}
 use Rattle.clap.specs.Words.{Row, Rule, Text, App, matches_of, takes, found_of, first_of, all_of, rows_of}
@@ -69,11 +69,7 @@ no_default rows r e = go (has_row r.id rows) r.defaults e
 
 pub kept : (c : List Rule) (rows : List Row) → list_all (λ r. is_empty r.defaults) c ≡ true → fold with_default rows c ≡ rows
 kept [] rows e = refl
-kept (r ∷ c) rows e = let p = both _ _ e in ap (λ (x : List Row). fold with_default x c) (no_default rows r p.0) ∙ kept c rows p.1
-  where
-    both : (x y : Bool) → (x && y) ≡ true → (x ≡ true) × (y ≡ true)
-    both true y e = (refl, e)
-    both false y e = absurd (true≢false (sym e))
+kept (r ∷ c) rows e = let p = and_parts _ _ e in ap (λ (x : List Row). fold with_default x c) (no_default rows r p.0) ∙ kept c rows p.1
 
 first_found : (n : OptionName) (o : Option Text) → option_and_then (λ (r : Row). slice_get r.values 0) (option_found n o) ≡ o
 first_found n None = refl

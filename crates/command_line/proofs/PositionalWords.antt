@@ -66,15 +66,6 @@ pub or_assoc : {A : Type 0} (o p q : Option A) → option_or (option_or o p) q �
 or_assoc None p q = refl
 or_assoc (Some x) p q = refl
 
--- where a choice has an outcome, its test tells which
-data Chosen {A : Type 0} (b : Bool) (x y : A) : Type 0 where
-  first : b ≡ true → x ≡ y → Chosen b x y
-  second : b ≡ false → Chosen b x y
-
-chosen : {A : Type 0} (b : Bool) (x y : A) (rest : Option A) → (if b then Some x else rest) ≡ Some y → Chosen b x y
-chosen true x y rest e = first refl (unwrapped x x y e)
-chosen false x y rest e = second refl
-
 -- ---- positional words
 
 -- the walk over positional words adds them to those that it has met

@@ -128,10 +128,8 @@ mapped_runs make (Some a) h = h a
 mapped_runs make None h = tt
 
 two_run : (words : Words) → IfSome (two_files words) Runs
-two_run [] = tt
-two_run (a ∷ []) = tt
 two_run (a ∷ b ∷ []) = tt
-two_run (a ∷ b ∷ c ∷ more) = tt
+two_run other = tt
 
 compile_runs : (words : Words) → IfSome (compile_of words) Runs
 unfolding compile_of
@@ -178,10 +176,8 @@ unfolding sweep_of
 sweep_runs words = after_option (positional words) number_and_file sweep_number
 
 asm_files : (words : Words) → IfSome (words_and_file words) Runs
-asm_files [] = tt
-asm_files (a ∷ []) = tt
 asm_files (from ∷ to ∷ []) = tt
-asm_files (a ∷ b ∷ c ∷ more) = tt
+asm_files other = tt
 
 asm_runs : (words : Words) → IfSome (asm_of words) Runs
 unfolding asm_of

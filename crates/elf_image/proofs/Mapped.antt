@@ -1,7 +1,7 @@
 -- What a loaded file has in memory, address by address.
 use Rattle.std.proofs.Common.{◌≡◌, ℕ, zero, suc, ◌+◌, ◌-◌, ◌*◌, ◌/◌, ◌<◌, ◌≤◌, ◌⊎◌, inl, inr, Bool, true, false, cond, List, [], ◌∷◌, ◌++◌, length, flat_map, Option, Some, None, Result, Ok, Err, refl, sym, ap, ◌∙◌, subst, arith, ⊎_elim}
 use Rattle.std.specs.Prelude.{All, Contains, ◌&&◌, ◌||◌, not, nat_eq, nat_lt, sum_by, option_map, slice_index, slice_index_or}
-use Rattle.std.proofs.lemmas.Bool.{cond-false, lt-ltb, ne_eqb, and_from}
+use Rattle.std.proofs.lemmas.Bool.{cond-false, lt-ltb, ne_eqb, and_from, or_parts}
 use Rattle.std.proofs.lemmas.List.Elements.{All-head, All-tail, Contains-get_or}
 use Rattle.guest_types.specs.Memory.{Memory, page_at, byte_at, byte_of}
 use Rattle.machine_model.specs.declared.elf_fault.ElfFault.{ElfFault}
@@ -11,7 +11,6 @@ use Rattle.machine_model.proofs.WrittenFetch.{page_of, page_at_from, byte_in_pag
 use Rattle.elf_image.specs.Loadable.{IsLoadable, AllLoadable}
 use Rattle.elf_image.specs.Mapped.{IsInPages, perm_at, segments_of}
 use Rattle.elf_image.proofs.Laid.{byte_below, byte_past, byte_inside}
-use Rattle.elf_image.proofs.Memories.{neither}
 use Rattle.elf_image.proofs.Ordering.{all-in_order, clash-in_order}
 use Rattle.elf_image.proofs.Tables.{loadable_from_none}
 
@@ -112,14 +111,14 @@ apart_from o s n none low high from until =
 none_of : (p : Segment → Bool) (s : Segment) (xs : List Segment) → any_segment p xs ≡ false → Contains xs s → p s ≡ false
 none_of p s [] e h = absurd (omega (arith, h.1))
 none_of p s (o ∷ os) e h =
-    let parts = neither (p o) (any_segment p os) e in
+    let parts = or_parts (p o) (any_segment p os) e in
     ⊎_elim (λ (same : o ≡ s). subst (λ x. p x ≡ false) same parts.0) (λ (r : Contains os s). none_of p s os parts.1 r) (cases o s os h)
 
 page_there : (bytes : List ℕ) (s : Segment) (n : ℕ) (xs : List Segment) → clash xs ≡ false → Contains xs s → first_page s ≤ n → n < first_page s + page_count s → page_at (flat_map (pages_of bytes) xs) n ≡ Some (page_of bytes s n)
 unfolding pages_of
 page_there bytes s n [] c h low high = absurd (omega (arith, h.1))
 page_there bytes s n (o ∷ os) c h low high =
-    let parts = neither (any_segment (have_common_page o) os) (clash os) c in
+    let parts = or_parts (any_segment (have_common_page o) os) (clash os) c in
     let rest = flat_map (pages_of bytes) os in
     ⊎_elim
     (λ (e : o ≡ s). ap (λ x. page_at (pages_of bytes x ++ rest) n) e ∙ page_at_from bytes s (page_count s) (first_page s) n rest low high)

@@ -1,9 +1,9 @@
 -- The pages of segments that do not meet are a memory.
-use Rattle.std.proofs.Common.{◌≡◌, ℕ, zero, suc, ◌+◌, ◌-◌, ◌*◌, ◌^◌, ◌<◌, ◌≤◌, Bool, true, false, cond, List, [], ◌∷◌, ◌++◌, get_or, All, flat_map, refl, ap, ◌∙◌, sym, subst, arith}
-use Rattle.std.specs.Prelude.{◌%◌, ◌&&◌, ◌||◌, nat_eq, nat_le, nat_lt, slice_index, if◌then◌else◌, Ok}
+use Rattle.std.proofs.Common.{◌≡◌, ℕ, zero, suc, ◌+◌, ◌-◌, ◌*◌, ◌^◌, ◌<◌, ◌≤◌, Bool, true, false, cond, List, [], ◌∷◌, ◌++◌, get_or, All, flat_map, ap, ◌∙◌, sym, subst, arith}
+use Rattle.std.specs.Prelude.{◌%◌, ◌&&◌, nat_eq, nat_le, nat_lt, slice_index, if◌then◌else◌, Ok}
 use Rattle.std.specs.List.{range_with_len}
 use Rattle.std.specs.List.Sorted.{IsStrictlyIncreasing}
-use Rattle.std.proofs.lemmas.Bool.{ltb-false, cond-false}
+use Rattle.std.proofs.lemmas.Bool.{ltb-false, cond-false, or_parts}
 use Rattle.std.proofs.lemmas.List.Elements.{All-nil, All-cons, All-append, All-map, All-head, All-tail}
 use Rattle.guest_types.specs.Memory.{Memory, IsPage, IsMemory, page_numbers}
 use Rattle.machine_model.specs.Load.{Image, clash, code_end_of, in_order, Segment, segment_byte, page_bytes, pages_from, pages_of, first_page, page_count}
@@ -37,16 +37,12 @@ climbs-pages bytes s n first zero rest h c = climbs-lower n (first + 0) rest (om
 climbs-pages bytes s n first (suc count) rest h c =
     (h, climbs-pages bytes s (first + 1) (first + 1) count rest (omega arith) (climbs-lower (first + 1 + count) (first + suc count) rest (omega arith) c))
 
-pub neither : (a b : Bool) → (a || b) ≡ false → (a ≡ false) × (b ≡ false)
-neither true b e = absurd cc
-neither false b e = (refl, e)
-
 climbs-all : (bytes : List ℕ) (n : ℕ) (xs : List Segment) → meets_from n xs ≡ false → Climbs n (flat_map (pages_of bytes) xs)
 unfolding pages_of
 climbs-all bytes n [] e = tt
 climbs-all bytes n (s ∷ xs) e =
     let end = first_page s + page_count s in
-    let parts = neither (nat_lt (first_page s) n) (meets_from end xs) e in
+    let parts = or_parts (nat_lt (first_page s) n) (meets_from end xs) e in
     climbs-pages bytes s n (first_page s) (page_count s) (flat_map (pages_of bytes) xs) (ltb-false (first_page s) n parts.0) (climbs-all bytes end xs parts.1)
 
 small-byte : (bytes : List ℕ) (s : Segment) (a : ℕ) → ((i : ℕ) → slice_index bytes i < 256) → segment_byte bytes s a < 256

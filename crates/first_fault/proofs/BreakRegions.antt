@@ -3,6 +3,7 @@ use Rattle.std.proofs.Common.{◌≡◌, ℕ, ◌+◌, ℤ, Bool, true, false, n
 use Rattle.std.specs.Prelude.{if◌then◌else◌, is_none}
 use Rattle.std.proofs.lemmas.List.{append_assoc}
 use Rattle.std.specs.List.{list_any}
+use Rattle.std.proofs.lemmas.Bool.{or_parts}
 use Rattle.kernel_tree.proofs.Scopes.{index_after, scope_index}
 use Rattle.kernel_tree.specs.declared.ops.Ty.{Ty}
 use Rattle.kernel_tree.specs.Plain.{Term, Literal, Variable, Element, Unary, Operation, Shift, Conversion, Choice, Comparison, Both, Either, Not, Action, Define, Put, Update, Choose, Leave, Block, Done, Then, Otherwise, Nothing, Else, Program}
@@ -51,10 +52,6 @@ abbrev is_bad : List Bool → Bool
 is_bad [] = false
 is_bad (b ∷ bs) = (not b && some_break bs) || is_bad bs
 
-or_left : (a b : Bool) → (a || b) ≡ false → (a ≡ false) × (b ≡ false)
-or_left false b h = (refl, h)
-or_left true b h = absurd cc
-
 -- ---- entries
 
 entry_break : (k : Program) (es : List Entry) → list_any is_break es ≡ some_break (entry_marks k es)
@@ -83,10 +80,10 @@ entry_good : (k : Program) (all es : List Entry) → before_break es ≡ false �
 unfolding before_break computed_index
 entry_good k all [] written computed = refl
 entry_good k all (e ∷ es) written computed =
-    by (stays_after k e.content) (break_content e.content) (λ stays. sym (entry_break k es) ∙ none e.content refl stays) (entry_good k all es (or_left (write_content e.content && list_any is_break es) (before_break es) written).1 (or_left (is_barred k all es e) (computed_index k all es) computed).1)
+    by (stays_after k e.content) (break_content e.content) (λ stays. sym (entry_break k es) ∙ none e.content refl stays) (entry_good k all es (or_parts (write_content e.content && list_any is_break es) (before_break es) written).1 (or_parts (is_barred k all es e) (computed_index k all es) computed).1)
   where
     here : (write_content e.content && list_any is_break es) ≡ false
-    here = (or_left (write_content e.content && list_any is_break es) (before_break es) written).0
+    here = (or_parts (write_content e.content && list_any is_break es) (before_break es) written).0
 
     none : (c : Content) → e.content ≡ c → stays_after k e.content ≡ true → list_any is_break es ≡ false
     none (IsLiteral n) is h = let no : false ≡ true = sym (ap (stays_after k) is) ∙ h in absurd cc
@@ -125,14 +122,14 @@ sub_break : {xs ys : List Bool} → Sub xs ys → some_break ys ≡ false → so
 sub_break sub_none h = refl
 sub_break (sub_keep true s) h = absurd cc
 sub_break (sub_keep false s) h = sub_break s h
-sub_break (sub_skip b {ys = ys} s) h = sub_break s (or_left b (some_break ys) h).1
+sub_break (sub_skip b {ys = ys} s) h = sub_break s (or_parts b (some_break ys) h).1
 sub_break (sub_break_more some s) h = absurd cc
 
 sub_bad : {xs ys : List Bool} → Sub xs ys → is_bad ys ≡ false → is_bad xs ≡ false
 sub_bad sub_none h = refl
 sub_bad (sub_keep true s) h = sub_bad s h
-sub_bad (sub_keep false {xs = xs} {ys = ys} s) h = let p = or_left (some_break ys) (is_bad ys) h in ap₂ (λ x y. x || y) (sub_break s p.0) (sub_bad s p.1)
-sub_bad (sub_skip b {ys = ys} s) h = sub_bad s (or_left (not b && some_break ys) (is_bad ys) h).1
+sub_bad (sub_keep false {xs = xs} {ys = ys} s) h = let p = or_parts (some_break ys) (is_bad ys) h in ap₂ (λ x y. x || y) (sub_break s p.0) (sub_bad s p.1)
+sub_bad (sub_skip b {ys = ys} s) h = sub_bad s (or_parts (not b && some_break ys) (is_bad ys) h).1
 sub_bad (sub_break_more some s) h = sub_bad s h
 
 skip_all : (bs : List Bool) {xs ms : List Bool} → Sub xs ms → Sub xs (bs ++ ms)
@@ -287,14 +284,14 @@ item_break (it ∷ items) = by it.op (item_break items)
 step_unwritten : (w q any : Bool) (bs : List Bool) → any ≡ some_break bs → (w ≡ true → q ≡ false) → is_bad (put_mark w q bs) ≡ false → (q || any) ≡ true → w ≡ false
 step_unwritten false q any bs e only h yes' = refl
 step_unwritten true q any bs e only h yes' =
-    let none : some_break bs ≡ false = (or_left (some_break bs) (is_bad bs) h).0 in
+    let none : some_break bs ≡ false = (or_parts (some_break bs) (is_bad bs) h).0 in
     let both : (q || any) ≡ false = ap₂ (λ x y. x || y) (only refl) (e ∙ none) in
     absurd cc
 
 following_bad : (w q : Bool) (bs : List Bool) → is_bad (put_mark w q bs) ≡ false → is_bad bs ≡ false
 following_bad false false bs h = h
 following_bad false true bs h = h
-following_bad true q bs h = (or_left (some_break bs) (is_bad bs) h).1
+following_bad true q bs h = (or_parts (some_break bs) (is_bad bs) h).1
 
 only_one : (op : Op) → writes op ≡ true → breaks_loop op ≡ false
 only_one (ops.Store a base t c v) e = refl
@@ -372,7 +369,7 @@ op_quiet names q i b m l (ops.Break c) e = break_quiet (b && l.truth c) l
 all_quiet : (names : Names) (items : List Item) → list_any is_write items ≡ false → AllQuiet (acts_of names items)
 all_quiet names [] h = tt
 all_quiet names (it ∷ items) h =
-    let parts = or_left (is_write it) (list_any is_write items) h in
+    let parts = or_parts (is_write it) (list_any is_write items) h in
     (record { never = λ i m l a k v e. subst IsQuiet e (op_quiet names it.item i (on_mask it.mask l) m l it.op parts.0) }, all_quiet names items parts.1)
 
 nothing_following : (bs : List Bool) → bs ++ [] ≡ bs

@@ -3,6 +3,7 @@ use Rattle.std.proofs.Common.{◌≡◌, ℕ, ◌+◌, ◌*◌, ◌/◌, ◌%◌
 use Rattle.std.specs.Prelude.{if◌then◌else◌}
 use Rattle.std.proofs.lemmas.Bool.{cases_lt, cases_eq, ne_eqb, lt-ltb, le-ltb, and_left, and_right}
 use Rattle.std.proofs.Math.Nat.{mul-le-mul_left, div-add-mod}
+use mathlib.Core.Bool.{and-false}
 use Rattle.guest_types.specs.declared.length.Width.TheVariants.{B}
 use Rattle.guest_types.specs.Length.{width_bytes, lanes}
 use Rattle.guest_types.specs.Elements.{active, bit, predicate}
@@ -27,10 +28,6 @@ use Rattle.first_fault.proofs.PrefixBits.{inside, narrow, not_broken, is_broken,
 use Rattle.first_fault.proofs.Stretches.{word_leads}
 use Rattle.first_fault.proofs.PrefixSteps.{long, low, byte_made, length_is, few_all, top_is, inside_on}
 use Rattle.first_fault.proofs.PureSteps.{same_p, only_put}
-
-and_false : (b : Bool) → (b && false) ≡ false
-and_false true = refl
-and_false false = refl
 
 module _ {l : Layout} (fit : Assigned l) {f : Setting} {a : State} {p0 : ℕ} {t0 : Lanes} (h0 : Holds l f p0 t0 a) where
   -- the bits of a predicate of which some are taken away, byte by byte
@@ -63,7 +60,7 @@ module _ {l : Layout} (fit : Assigned l) {f : Setting} {a : State} {p0 : ℕ} {t
         let e = b / w in
         let place : b ≡ w * e = omega (arith, div-add-mod b w, z) in
         let small : e < m = ⊎_elim (λ l. l) (λ ge. (let up : w * m ≤ w * e = mul-le-mul_left w ge in absurd (omega (arith, up, place, inner)))) (cases_lt e m) in
-        ap (λ x. (eqb (b % w) 0 && ltb b (w * n)) && x) (ap (bit (p_at s r)) place ∙ h.truths c k.0 k.1 e (omega (arith, small, le)) ∙ pass e small) ∙ and_false (eqb (b % w) 0 && ltb b (w * n)))
+        ap (λ x. (eqb (b % w) 0 && ltb b (w * n)) && x) (ap (bit (p_at s r)) place ∙ h.truths c k.0 k.1 e (omega (arith, small, le)) ∙ pass e small) ∙ and-false (eqb (b % w) 0 && ltb b (w * n)))
         (λ nz. ap (λ x. (x && ltb b (w * n)) && bit (p_at s r) b) (ne_eqb (b % w) 0 nz))
         (cases_eq (b % w) 0)
 

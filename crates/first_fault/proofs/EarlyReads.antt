@@ -1,7 +1,8 @@
 -- The read of a chunk: a load that may stop early, and the lanes that it leaves.
 use Rattle.std.proofs.Common.{◌≡◌, ℕ, zero, suc, ◌+◌, ◌*◌, ◌<◌, ◌≤◌, ℤ, pos, ◌+ℤ◌, Bool, true, false, not, ◌&&◌, ◌||◌, cond, ltb, List, [], ◌∷◌, Option, Some, None, refl, sym, ap, ap₂, ◌∙◌, subst, arith, ⊎_elim, get_or-set_same, get_or-set_other}
 use Rattle.std.specs.Prelude.{is_some, slice_index, if◌then◌else◌}
-use Rattle.std.proofs.lemmas.Bool.{cases_lt, cases_eq, lt-ltb}
+use Rattle.std.proofs.lemmas.Bool.{cases_lt, cases_eq, lt-ltb, and_parts}
+use mathlib.Core.Bool.{and-false}
 use Rattle.guest_types.specs.declared.length.Width.TheVariants.{B}
 use Rattle.guest_types.specs.Length.{width_bits, width_bytes, lanes}
 use Rattle.guest_types.specs.Elements.{at, active, bit, register, predicate, first_true, both}
@@ -25,6 +26,7 @@ use Rattle.label_fix.specs.Stretches.{Stops}
 use Rattle.label_fix.proofs.StretchSteps.{put_stops, stop_more}
 use Rattle.vector_order.specs.Orders.{Lane, Lanes}
 use Rattle.vector_order.specs.Operands.{nth_value}
+use Rattle.vector_order.proofs.Streams.{true_false}
 use Rattle.lane_emit.specs.Right.{PRight, within}
 use Rattle.lane_emit.specs.Stretch.{VectorInstruction}
 use Rattle.lane_emit.specs.ItemCode.{mask_of, mask_register}
@@ -42,7 +44,6 @@ use Rattle.first_fault.proofs.Stretches.{Pair, pair}
 use Rattle.first_fault.proofs.PrefixSteps.{prefix, low, length_is, few_all}
 use Rattle.first_fault.proofs.BreakSteps.{byte_and}
 use Rattle.first_fault.proofs.ReadLanes as reads
-use Rattle.first_fault.proofs.ReadLanes.{not_both}
 use Rattle.first_fault.proofs.SingleReads.{read_inside, spot, spot_is}
 
 no_fault : (a b c : Bool) → (a && (b || c)) ≡ false → (a && b) ≡ false
@@ -50,18 +51,10 @@ no_fault false b c h = refl
 no_fault true false c h = refl
 no_fault true true c h = h
 
-left_true : (a b : Bool) → (a && b) ≡ true → a ≡ true
-left_true true b h = refl
-left_true false b h = h
-
 no_fault_later : (a b c d : Bool) → b ≡ true → ((a && b) && (c || d)) ≡ false → (a && c) ≡ false
 no_fault_later false b c d e h = refl
 no_fault_later true true c d e h = no_fault true c d h
-no_fault_later true false c d e h = absurd (not_both false e refl)
-
-and_false : (b : Bool) → (b && false) ≡ false
-and_false true = refl
-and_false false = refl
+no_fault_later true false c d e h = absurd (true_false false e refl)
 
 first_here : (test : ℕ → Bool) (n : ℕ) → 0 < n → test 0 ≡ true → first_true test n 0 ≡ Some 0
 first_here test zero some yes' = absurd (omega (arith, some))
@@ -73,7 +66,7 @@ is_none (Some z) h = absurd cc
 
 before_is : (t : ℕ → Bool) (n k : ℕ) {o : Option ℕ} → First t n 0 o → ((e : ℕ) → e < k → t e ≡ false) → (e : ℕ) → e < k → is_before o e ≡ true
 before_is t n k (missing g) runs e en = refl
-before_is t n k (found v lo hi yes' g) runs e en = ⊎_elim (λ lt. lt-ltb e v lt) (λ ge. absurd (not_both (t v) yes' (runs v (omega (arith, ge, en))))) (cases_lt e v)
+before_is t n k (found v lo hi yes' g) runs e en = ⊎_elim (λ lt. lt-ltb e v lt) (λ ge. absurd (true_false (t v) yes' (runs v (omega (arith, ge, en))))) (cases_lt e v)
 
 module _ {l : Layout} (fit : Assigned l) {f : Setting} {a : State} {p0 : ℕ} {t0 : Lanes} (h0 : Holds l f p0 t0 a) (p : ℕ) (ls : ℕ → Lane) (mask : Option ℕ) (array : List ℕ) (x : ℕ) (ty : Ty) (c : ℤ) (wide : type_bits ty ≤ width_bits f.w) (makes : MakesValue l p ty) (used : IsValueUsed l p) (d : Laid) (rest : List DraftEntry) {n : ℕ} {u : State} (h : Inside Early l f a n p ls u) (exact : PRight f.w (count_of f) (p_at u (mask_register l.registers mask)) (within n (mask_of (prefix f a n ls) mask))) (place : ℕ → ℕ) (place_is : (e : ℕ) → place e ≡ reads.place fit h0 p ls mask array x ty c wide (f.i + e)) where
   abbrev new : ℕ → Lane
@@ -218,7 +211,7 @@ module _ {l : Layout} (fit : Assigned l) {f : Setting} {a : State} {p0 : ℕ} {t
         (λ e en. no_fault (lane_on e) (bad e) (stop_at u.stops (rank lane_on e)) (none e (omega arith) (omega (arith, reads.in_count fit h0 p ls mask array x ty c wide h exact places place_is e en))))
     by o eq (found v lo hi yes' none) =
         let went : do_vector code u ≡ Went (following (Some v)) = does ∙ ap (λ o. Went (following o)) eq in
-        let on_v = left_true (lane_on v) (bad v || stop_at u.stops (rank lane_on v)) yes' in
+        let on_v = (and_parts (lane_on v) (bad v || stop_at u.stops (rank lane_on v)) yes').0 in
         outcome_some fit h0 p ls mask array x ty c wide makes used d rest h exact places place_is lane_on code v (reads.below fit h0 p ls mask array x ty c wide h exact places place_is v (omega (arith, hi)) on_v) on_v went (ap (is_cut bad) eq) (is_following (Some v) went)
         (λ e ev. no_fault (lane_on e) (bad e) (stop_at u.stops (rank lane_on e)) (none e (omega arith) ev))
 
@@ -300,7 +293,7 @@ module _ {l : Layout} (fit : Assigned l) {f : Setting} {a : State} {p0 : ℕ} {t
 
     no_fault_at : wrong 0 ≡ false → (e : ℕ) → (0 < e → gone (Some 0) e ≡ false) → (top_on e && wrong e) ≡ false
     no_fault_at eb e h' = ⊎_elim
-        (λ z. ap (λ e. top_on e && wrong e) z ∙ ap (λ b. top_on 0 && b) eb ∙ and_false (top_on 0))
+        (λ z. ap (λ e. top_on e && wrong e) z ∙ ap (λ b. top_on 0 && b) eb ∙ and-false (top_on 0))
         (λ nz. let pos : 0 < e = omega (arith, nz) in no_fault_later (top_on e) (ltb 0 e) (wrong e) (stop_at u.stops (rank (left (Some 0)) e)) (lt-ltb 0 e pos) (h' pos))
         (cases_eq e 0)
 
@@ -325,7 +318,7 @@ module _ {l : Layout} (fit : Assigned l) {f : Setting} {a : State} {p0 : ℕ} {t
         first_cuts ∙ ap (λ o1. is_early_cut (comes_to o1)) first_on
         ∙ ap (λ o. is_early_cut (unless_fault (read_fault o) (early_load first_form u.memory u.stops top_on (left (Some 0)) spots many u.ffr))) good
         ∙ ap (is_cut wrong) eq in
-        let on_v = left_true (top_on v) (ltb 0 v) (left_true (top_on v && ltb 0 v) (wrong v || stop_at u.stops (rank (left (Some 0)) v)) yes') in
+        let on_v = (and_parts (top_on v) (ltb 0 v) (and_parts (top_on v && ltb 0 v) (wrong v || stop_at u.stops (rank (left (Some 0)) v)) yes').0).0 in
         outcome_some fit h0 p ls None array x ty c wide makes used d rest h exact spots spots_are (left (Some 0)) first_code v (reads.below fit h0 p ls None array x ty c wide h exact spots spots_are v (omega (arith, hi)) on_v) on_v went cut (is_reached (Some 0) (Some v) went)
         (λ e ev. no_fault_at (ap is_some good) e (λ pos. none e (omega arith) ev))
 

@@ -3,6 +3,7 @@ use Rattle.std.proofs.Common.{◌≡◌, ◌≢◌, ℕ, ◌+◌, ◌*◌, ◌<�
 use Rattle.std.specs.Prelude.{nat_lt, slice_index, slice_index_or, if◌then◌else◌}
 use Rattle.std.proofs.lemmas.Bool.{cases_lt, lt-ltb, le-ltb, ltb-true, ltb-false}
 use Rattle.std.proofs.lemmas.Bool.Decides.{eqb_tells}
+use mathlib.Core.Bool.{and-true}
 use Rattle.guest_types.specs.declared.length.Width.TheVariants.{B}
 use Rattle.guest_types.specs.declared.operation.PredOp.TheVariants as pred_ops
 use Rattle.guest_types.specs.Length.{width_bits, width_bytes, lanes}
@@ -38,10 +39,6 @@ use Rattle.first_fault.specs.RegionRuns.{RegionOutcome, comes}
 use Rattle.first_fault.proofs.Stretches.{rest_at, word_leads, follow, words_lead}
 use Rattle.first_fault.proofs.PlainCode.{op_plain}
 use Rattle.first_fault.proofs.PrefixSteps.{same_then, prefix, in_bytes, byte_made, length_is, few_all, top_is, inside_on, ready}
-
-pub and_true : (b : Bool) → b ≡ (b && true)
-and_true true = refl
-and_true false = refl
 
 and_twice : (a b : Bool) → (a && (b && b)) ≡ (a && b)
 and_twice true true = refl
@@ -87,7 +84,7 @@ module _ {l : Layout} (fit : Assigned l) {f : Setting} {a : State} {p0 : ℕ} {t
   narrowed {n = n} {s = s} None inner rest k h = record {
     end = s;
     inside = h;
-    exact = λ e lt. top_is fit h0 h e lt ∙ and_true (ltb e n);
+    exact = λ e lt. top_is fit h0 h e lt ∙ sym (and-true (ltb e n));
     words = 0;
     counted = omega arith;
     leads = rest_at 0;

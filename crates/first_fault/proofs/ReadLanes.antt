@@ -19,6 +19,7 @@ use Rattle.kernel_meaning.proofs.Residues.{word-add}
 use Rattle.machine_model.specs.InstructionTable.{Listed}
 use Rattle.machine_model.specs.Machine.{State, x_at, p_at}
 use Rattle.machine_model.proofs.StateSteps.{x_put}
+use Rattle.vector_order.proofs.Streams.{true_false}
 use Rattle.label_fix.specs.DraftRun.{DraftEntry, Laid}
 use Rattle.vector_order.specs.Orders.{Lane, Lanes, Halts, Keeps}
 use Rattle.loop_form.specs.declared.loop_item.Operand.TheVariants.{Outer}
@@ -51,13 +52,6 @@ read_does t q l true None n = refl
 read_does t q l true (Some fault) n = refl
 read_does t q l false None n = refl
 read_does t q l false (Some fault) n = refl
-
-true_false : (b : Bool) → b ≡ true → b ≡ false → ⊥
-true_false true e g = subst (λ b. elim b as (λ _. Type 0) [ true ↦ Unit {0} | false ↦ ⊥ ]) g tt
-true_false false e g = subst (λ b. elim b as (λ _. Type 0) [ true ↦ ⊥ | false ↦ Unit {0} ]) e tt
-
-pub not_both : (b : Bool) → b ≡ true → b ≡ false → ⊥
-not_both = true_false
 
 -- ---- the words before the load
 

@@ -2,6 +2,7 @@
 use Rattle.std.proofs.Common.{◌≡◌, ℕ, ◌+◌, ◌≤◌, Bool, true, false, List, [], ◌∷◌, ◌++◌, Option, Some, None, refl, sym, ap, ◌∙◌, subst, arith}
 use Rattle.std.specs.Prelude.{is_some, ◌||◌, ◌&&◌, if◌then◌else◌}
 use Rattle.std.specs.List.{list_any}
+use Rattle.std.proofs.lemmas.Bool.{or_parts}
 use Rattle.loop_form.specs.LoopItems.{Op, Item}
 use Rattle.loop_form.specs.LoopItems as ops
 use Rattle.chunk_emit.specs.Registers.{Layout}
@@ -14,13 +15,9 @@ use Rattle.first_fault.specs.Fits.{FitsStep, FitsRegion}
 use Rattle.first_fault.specs.BreakRegion.{breaks_loop, is_loop_break, writes, is_write, region_of, rest_of}
 use Rattle.first_fault.specs.KernelFits.{is_inner_break}
 
-pub neither : (a b : Bool) → a || b ≡ false → (a ≡ false) × (b ≡ false)
-neither true b e = absurd cc
-neither false b e = (refl, e)
-
 none_left : {A : Type 0} (p : A → Bool) (xs ys : List A) → list_any p (xs ++ ys) ≡ false → list_any p xs ≡ false
 none_left p [] ys e = refl
-none_left p (x ∷ xs) ys e = let h = neither (p x) (list_any p (xs ++ ys)) e in both (p x) (list_any p xs) h.0 (none_left p xs ys h.1)
+none_left p (x ∷ xs) ys e = let h = or_parts (p x) (list_any p (xs ++ ys)) e in both (p x) (list_any p xs) h.0 (none_left p xs ys h.1)
   where
     both : (a b : Bool) → a ≡ false → b ≡ false → a || b ≡ false
     both true b e f = e
@@ -49,8 +46,8 @@ region_step l f p mask other w e h = h
 region_fits : (l : Layout) (f : Setting) (p : ℕ) (items : List Item) → list_any is_write items ≡ false → list_any is_inner_break items ≡ false → FitsSteps l f p items → FitsRegion l f p items
 region_fits l f p [] w e h = tt
 region_fits l f p (it ∷ items) w e h =
-    let ws = neither (is_write it) (list_any is_write items) w in
-    let es = neither (is_inner_break it) (list_any is_inner_break items) e in
+    let ws = or_parts (is_write it) (list_any is_write items) w in
+    let es = or_parts (is_inner_break it) (list_any is_inner_break items) e in
     (h.0, h.1, h.2, region_step l f it.item it.mask it.op ws.0 es.0 h.3, region_fits l f (it.item + 1) items ws.1 es.1 h.5)
 
 -- ---- the rest
@@ -61,7 +58,7 @@ no_break other e = tt
 
 no_breaks : (items : List Item) → list_any is_loop_break items ≡ false → AreNoBreaks items
 no_breaks [] e = tt
-no_breaks (it ∷ items) e = let h = neither (is_loop_break it) (list_any is_loop_break items) e in (no_break it.op h.0, no_breaks items h.1)
+no_breaks (it ∷ items) e = let h = or_parts (is_loop_break it) (list_any is_loop_break items) e in (no_break it.op h.0, no_breaks items h.1)
 
 -- ---- both
 

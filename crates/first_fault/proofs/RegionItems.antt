@@ -48,7 +48,7 @@ record Goes (e : Effect) (l : Lane) (next : Lane → Way) (new : Lane) : Type 0 
   stays : halts e ≡ false
   rest : next (kept l e) ≡ On new
 
-halted_goes : (op : Op) (next : Lane → Way) (new : Lane) → way_on (halted op) next ≡ On new → ⊥
+pub halted_goes : (op : Op) (next : Lane → Way) (new : Lane) → way_on (halted op) next ≡ On new → ⊥
 halted_goes (ops.Load a b t c) next new h = cc
 halted_goes other next new h = cc
 

@@ -2,6 +2,7 @@
 use Rattle.std.proofs.Common.{◌≡◌, ℕ, ◌+◌, ◌<◌, ◌≤◌, ℤ, Bool, true, false, ◌&&◌, ltb, List, [], ◌∷◌, Option, Some, None, refl, sym, ap, ◌∙◌, subst, arith}
 use Rattle.std.specs.Prelude.{if◌then◌else◌, nat_lt}
 use Rattle.std.proofs.lemmas.Bool.{ltb-true}
+use mathlib.Core.Bool.{and-true}
 use Rattle.guest_types.specs.Memory.{Memory}
 use Rattle.guest_types.specs.Elements.{at, active}
 use Rattle.kernel_meaning.specs.Eval.{Names}
@@ -27,8 +28,7 @@ use Rattle.first_fault.specs.Fits.{FitsStep, FitsRegion}
 use Rattle.first_fault.specs.Prefix.{lanes_of, Inside}
 use Rattle.first_fault.specs.Rest.{WayIsRun, come_through, NoTruthLive, RestHolds}
 use Rattle.first_fault.proofs.PrefixSteps.{few_all, top_is}
-use Rattle.first_fault.proofs.RegionItems.{region_items}
-use Rattle.first_fault.proofs.PureSteps.{and_true}
+use Rattle.first_fault.proofs.RegionItems.{region_items, halted_goes}
 
 -- ---- the way and the items
 
@@ -80,9 +80,6 @@ op_shares lay f names q j mask m l (ops.And c) k = refl
 op_shares lay f names q j mask m l (ops.Or c d) k = refl
 op_shares lay f names q j mask m l (ops.Break c) k = break_shares l (on_mask mask l && l.truth c)
 
-halted_not : (op : Op) (g : Lane → Way) (new : Lane) → way_on (halted op) g ≡ On new → ⊥
-halted_not op g new e = let h = halted_left op g in let k : lane_left (On new) ≡ None = ap lane_left (sym e) ∙ h in absurd cc
-
 pub same_shares : (lay : Layout) (f : Setting) (names : Names) (items : List Item) (p j : ℕ) (m : Memory) (l new : Lane) → FitsRegion lay f p items → region_way names items j m l ≡ On new → new.shares ≡ l.shares
 same_shares lay f names [] p j m l new k e = let same : l ≡ new = cc in ap (λ (x : Lane). x.shares) (sym same)
 same_shares lay f names (it ∷ items) p j m l new k e =
@@ -90,7 +87,7 @@ same_shares lay f names (it ∷ items) p j m l new k e =
   where
     by : (o : Effect) → Shares l.shares o → way_on (way_of (halted it.op) o) (region_way names items j m) ≡ On new → ((x : Lane) → region_way names items j m x ≡ On new → new.shares ≡ x.shares) → new.shares ≡ l.shares
     by (Keeps x) h g ih = ih x g ∙ h
-    by Halts h g ih = absurd (halted_not it.op (region_way names items j m) new g)
+    by Halts h g ih = absurd (halted_goes it.op (region_way names items j m) new g)
     by (Writes a k v) h g ih = absurd cc
 
 -- ---- the rest
@@ -148,7 +145,7 @@ held_following mode l f p k q t u s end fit h fresh shares mem inside none = rec
   memory = inside.same.memory ∙ h.memory ∙ sym mem;
   x = λ r ne. inside.same.x r ne ∙ h.x r ne;
   index = h.index;
-  active = λ e lt. top_is fit h inside e lt ∙ and_true (ltb e k);
+  active = λ e lt. top_is fit h inside e lt ∙ sym (and-true (ltb e k));
   top = inside.top;
   all = λ e lt. ap (λ b. active f.w b e) inside.same.all ∙ h.all e lt;
   held = λ x is. let old = h.held x is in

@@ -2,6 +2,7 @@
 use Rattle.std.proofs.Common.{◌≡◌, ℕ, ◌+◌, ℤ, Bool, true, false, cond, List, [], ◌∷◌, Option, Some, None, refl, sym, ap, ◌∙◌, subst}
 use Rattle.std.specs.Prelude.{is_some, ◌||◌, ◌&&◌, if◌then◌else◌}
 use Rattle.std.specs.List.{list_any}
+use Rattle.std.proofs.lemmas.Bool.{or_parts}
 use Rattle.kernel_tree.specs.declared.ops.Ty.{Ty}
 use Rattle.kernel_tree.specs.Plain.{Term, Literal, Variable, Element, Unary, Operation, Shift, Conversion, Choice, Comparison, Both, Either, Not, Action, Define, Put, Update, Choose, Leave, Block, Done, Then, Otherwise, Nothing, Else}
 use Rattle.kernel_tree.specs.Items.{stream_offset, index_items, term_size, action_size, block_size}
@@ -12,7 +13,6 @@ use Rattle.loop_form.specs.LoopItems as ops
 use Rattle.chunk_emit.specs.Fits.{following_items}
 use Rattle.first_fault.specs.BreakRegion.{breaks_loop, is_loop_break, region_of}
 use Rattle.first_fault.specs.KernelFits.{is_inner_break}
-use Rattle.first_fault.proofs.RegionFits.{neither}
 
 -- the breaks among the items
 abbrev pub breaks_of : List Item → List Item
@@ -29,7 +29,7 @@ following_break p (it ∷ items) = following_break (it.item + 1) items
 none_breaks : (items : List Item) → list_any is_loop_break items ≡ false → breaks_of items ≡ []
 none_breaks [] e = refl
 none_breaks (it ∷ items) e =
-    let h = neither (is_loop_break it) (list_any is_loop_break items) e in
+    let h = or_parts (is_loop_break it) (list_any is_loop_break items) e in
     ap (λ b. cond b (it ∷ breaks_of items) (breaks_of items)) h.0 ∙ none_breaks items h.1
 
 -- a list with a break forgets what stood before

@@ -3,7 +3,7 @@ use Rattle.std.proofs.Common.{◌≡◌, ◌≢◌, ℕ, zero, suc, ◌+◌, ◌
 use Rattle.std.specs.Prelude.{ℤ, pos, ◌+ℤ◌, ◌*ℤ◌, ◌≤ℤ◌, ◌<ℤ◌, ◌⊎◌, ◌&&◌, ◌||◌, slice_index, drop, filter, max, if◌then◌else◌}
 use Rattle.std.specs.List.{fold, list_any, list_all}
 use Rattle.std.specs.Int.{int_min, int_max}
-use Rattle.std.proofs.lemmas.Bool.{eqb-true, eq-eqb}
+use Rattle.std.proofs.lemmas.Bool.{eqb-true, eq-eqb, and_parts}
 use Rattle.std.proofs.lemmas.Int.{ints, clamps}
 use Rattle.guest_types.specs.declared.length.Width.{Width}
 use Rattle.guest_types.specs.declared.length.Width.TheVariants.{B}
@@ -468,11 +468,7 @@ module _ (k : Program) (args : List ℕ) where
         (pair_in args n (used_of k) a.used b.used (λ e. ne (sym a.covers.place ∙ e ∙ b.covers.place)) h a.found b.found)
 
     stored_here : (p : ℕ) → list_any (is_store_of p) (streams_of k) ≡ true → list_any (is_of p) (streams_of k) ≡ true
-    stored_here p stored = let own = any_in (is_store_of p) (streams_of k) stored in in_any (is_of p) own.0 (streams_of k) own.1 (first_part (is_of p own.0) own.0.store own.2)
-      where
-        first_part : (b c : Bool) → b && c ≡ true → b ≡ true
-        first_part true c e = refl
-        first_part false c e = absurd cc
+    stored_here p stored = let own = any_in (is_store_of p) (streams_of k) stored in in_any (is_of p) own.0 (streams_of k) own.1 (and_parts (is_of p own.0) own.0.store own.2).0
 
     separate : (n : ℕ) → by_use.ApartInRange args n (used_of k) → Separate k args n
     separate n h = record {

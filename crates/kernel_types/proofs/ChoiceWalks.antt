@@ -28,9 +28,6 @@ one_types s ts us vs c b e f = rw (f, e) (simp append_assoc)
 pub two_scope : (s t u : Scope) (c : Term) (b d : Block) → t ≡ left s (after_block s b) → u ≡ left t (after_block t d) → u ≡ after_action s (Choose c b (Else d))
 two_scope s t u c b d e f = f ∙ ap (λ (x : Scope). left x (after_block x d)) e
 
-pub same_index : (s t i : Scope) → t ≡ left s i → t.index ≡ s.index
-same_index s t i e = ap (λ (x : Scope). x.index) e
-
 pub two_next : (s t : Scope) (n m l k : ℕ) (c : Term) (b d : Block) → t ≡ left s (after_block s b) → m ≡ n + (term_size s.index c + 1) → l ≡ m + (block_size s.index b + 1) → k ≡ l + (block_size t.index d + 1) → k ≡ n + action_size s.index (Choose c b (Else d))
 two_next s t n m l k c b d g e f h =
     let i : block_size t.index d ≡ block_size s.index d = ap (λ (x : Scope). block_size x.index d) g in

@@ -1,5 +1,5 @@
 -- Where each label of a draft is placed once, it leads to what follows its place.
-use Rattle.std.proofs.Common.{◌≡◌, ◌≢◌, ℕ, List, [], ◌∷◌, ◌++◌, true, false, refl, sym, ap, ◌∙◌, subst, arith, append_assoc}
+use Rattle.std.proofs.Common.{◌≡◌, ◌≢◌, ℕ, List, [], ◌∷◌, ◌++◌, true, false, sym, ap, ◌∙◌, subst, arith, append_assoc}
 use Rattle.std.proofs.lemmas.Bool.Decides.{nat_tests}
 use Rattle.std.specs.Prelude.{nat_eq, if◌then◌else◌}
 use Rattle.label_fix.specs.DraftRun.{DraftEntry, Put, Branch, Place, Laid, after_label}
@@ -42,6 +42,3 @@ resolves_in d (Put i ∷ rest) pre e h = resolves_in d rest (pre ++ Put i ∷ []
 resolves_in d (Branch k l ∷ rest) pre e h = resolves_in d rest (pre ++ Branch k l ∷ []) (e ∙ sym (append_assoc pre (Branch k l ∷ []) rest)) h
 resolves_in d (Place l ∷ rest) pre e h =
     (ap (λ es. after_label es l) e ∙ after_pre pre rest l (subst Once e h), resolves_in d rest (pre ++ Place l ∷ []) (e ∙ sym (append_assoc pre (Place l ∷ []) rest)) h)
-
-pub resolves : (d : Laid) → Once d.entries → Resolves d d.entries
-resolves d h = resolves_in d d.entries [] refl h

@@ -186,7 +186,7 @@ same_run d few s p h n taken = same d few n taken [] d.entries s refl (p ∙ (le
 
 -- ---- from the words that stand in memory
 
-branch_listed : (k : Kind) (from to : ℕ) → IsBranch k → IsInstruction row a64_names (branch_of k from to)
+pub branch_listed : (k : Kind) (from to : ℕ) → IsBranch k → IsInstruction row a64_names (branch_of k from to)
 branch_listed Always from to h = is_instruction _ (omega arith, tt) refl
 branch_listed (If c) from to h = is_instruction _ (omega (arith, ltb-true c 15 h.1), (omega arith, tt)) h.1
 branch_listed (Zero r) from to h = is_instruction _ (omega (arith, ltb-true r 32 h.0), (omega arith, tt)) refl

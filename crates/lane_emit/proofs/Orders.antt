@@ -115,21 +115,21 @@ hs-held w x y h i = unsigned_upto w y x i h
 neither_less : (w : Width) (x y : ℤ) → int_lt x y ≡ false → int_lt y x ≡ false → held w y ≡ held w x
 neither_less w x y e f = ap (held w) (let same : y ≡ x = omega (arith, ints) in same)
 
-not_both : (x y : ℤ) → int_lt x y ≡ true → int_lt y x ≡ false
-not_both x y e = by (int_lt y x) refl
+less-turned : (x y : ℤ) → int_lt x y ≡ true → int_lt y x ≡ false
+less-turned x y e = by (int_lt y x) refl
   where
     by : (b : Bool) → int_lt y x ≡ b → int_lt y x ≡ false
     by true f = absurd (omega (arith, ints))
     by false f = f
 
 lesser : (w : Width) (x y : ℤ) (a b : Bool) → int_lt x y ≡ a → int_lt y x ≡ b → cond a (held w x) (held w y) ≡ held w (cond b y x)
-lesser w x y true true e f = absurd (true≢false (sym f ∙ not_both x y e))
+lesser w x y true true e f = absurd (true≢false (sym f ∙ less-turned x y e))
 lesser w x y true false e f = refl
 lesser w x y false true e f = refl
 lesser w x y false false e f = neither_less w x y e f
 
 greater : (w : Width) (x y : ℤ) (a b : Bool) → int_lt x y ≡ a → int_lt y x ≡ b → cond a (held w y) (held w x) ≡ held w (cond b x y)
-greater w x y true true e f = absurd (true≢false (sym f ∙ not_both x y e))
+greater w x y true true e f = absurd (true≢false (sym f ∙ less-turned x y e))
 greater w x y true false e f = refl
 greater w x y false true e f = refl
 greater w x y false false e f = sym (neither_less w x y e f)

@@ -4,7 +4,7 @@ ghost use Rattle.std.specs.Prelude.{◌≡◌};
 ghost use Rattle.loop_form.specs.HeldView.{view, view_of};
 ghost use Rattle.lane_emit.specs.LoopRegisters as spec;
 
-use loop_form::{Held, is_same_type};
+use loop_form::Held;
 
 fn is_same(value: Held<'_>, wanted: Held<'_>) -> bool
     ensures { result ≡ spec.is_same (view_of value.entry) (view_of wanted.entry) }
@@ -12,7 +12,7 @@ fn is_same(value: Held<'_>, wanted: Held<'_>) -> bool
     match (value, wanted) {
         (Held::Scalar(name), Held::Scalar(other)) => name == other,
         (Held::Constant(ty, number), Held::Constant(other, literal)) => {
-            is_same_type(ty, other) && number == literal
+            ty == other && number == literal
         }
         (Held::Index, Held::Index) => true,
         (Held::Accumulating(name), Held::Accumulating(other)) => name == other,
@@ -25,12 +25,10 @@ fn is_same(value: Held<'_>, wanted: Held<'_>) -> bool
 pub fn place_among(held: &[Held<'_>], wanted: Held<'_>) -> Option<usize>
     ensures { result ≡ spec.place_in (view_of wanted.entry) (view held.now) }
 {
-    let mut place = 0;
-    for value in held {
+    for (place, value) in held.iter().enumerate() {
         if is_same(*value, wanted) {
             return Some(place);
         }
-        place += 1;
     }
     None
 }

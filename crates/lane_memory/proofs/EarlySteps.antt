@@ -3,6 +3,7 @@ use Rattle.std.proofs.Common.{◌≡◌, ℕ, zero, suc, ◌+◌, ◌-◌, ◌*�
 use Rattle.std.specs.Prelude.{nat_le, unwrap_or}
 use Rattle.std.proofs.lemmas.Bool.{cases_lt, cond-true, cond-false, lt-ltb, le-ltb, le-leb, lt-leb, and_left, and_parts, false≢true, and_right}
 use Rattle.std.proofs.Math.Nat.{mul-le-mul_left, add-zero}
+use mathlib.Core.Bool.{and-true}
 use Rattle.guest_types.specs.Length.{width_bytes, all_lanes}
 use Rattle.guest_types.specs.Memory.{Memory}
 use Rattle.guest_types.specs.Elements.{both, first_true, register}
@@ -18,7 +19,6 @@ use Rattle.lane_memory.specs.Readings.{form_of, place_of, on_of, on_from, faults
 use Rattle.lane_memory.specs.Loads.{LoadLeft, left_by_early}
 use Rattle.lane_memory.proofs.FirstTrue.{first_true-some, first_true-none, first_true-from, first_true-ext}
 use Rattle.lane_memory.proofs.FfrCleared.{clear-there}
-use Rattle.lane_memory.proofs.KeepLaws.{and_true}
 
 -- ---- the first suppressed element
 
@@ -89,7 +89,7 @@ pub on_from-below : (r : Reading) (pg : List ℕ) (from j : ℕ) → j < from �
 on_from-below r pg from j l = and_right (on_of r pg j) (nat_le from j) (lt-leb from j l)
 
 pub on_from-above : (r : Reading) (pg : List ℕ) (from j : ℕ) → from ≤ j → on_from r pg from j ≡ on_of r pg j
-on_from-above r pg from j l = ap (λ t. on_of r pg j && t) (le-leb from j l) ∙ and_true (on_of r pg j)
+on_from-above r pg from j l = ap (λ t. on_of r pg j && t) (le-leb from j l) ∙ and-true (on_of r pg j)
 
 -- with the empty list only a fault suppresses
 pub first-never : (r : Reading) (memory : Memory) (s : StopList) (pg : List ℕ) (from lanes : ℕ) → s ≡ never → from ≤ lanes → first_true (refused_of r memory pg) (lanes - from) from ≡ first_true (suppressed_at (on_from r pg from) (faults_of r memory) (stop_at s)) lanes 0

@@ -1,10 +1,11 @@
 -- The active elements of a register, block by block.
-use Rattle.std.proofs.Common.{◌≡◌, ℕ, zero, suc, ◌+◌, ◌-◌, ◌*◌, ◌/◌, ◌<◌, ◌≤◌, Bool, true, false, ◌&&◌, cond, List, [], ◌++◌, length, get_or, take, drop, replicate, append_assoc, refl, sym, ap, ap₂, ◌∙◌, subst, arith}
+use Rattle.std.proofs.Common.{◌≡◌, ℕ, zero, suc, ◌+◌, ◌-◌, ◌*◌, ◌/◌, ◌<◌, ◌≤◌, true, false, ◌&&◌, cond, List, [], ◌++◌, length, get_or, take, drop, replicate, append_assoc, refl, sym, ap, ap₂, ◌∙◌, subst, arith}
 use Rattle.std.specs.Prelude.{nat_lt}
 use Rattle.std.proofs.lemmas.Bool.{lt-ltb, le-ltb, cond-true, cond-false, and_right}
 use Rattle.std.proofs.lemmas.List.{take_at, drop-drop, drop-take, take-take, append-nil, drop-replicate, length-take-le, length-drop, length-append}
 use Rattle.std.proofs.Math.Seq.{drop-append-add}
 use Rattle.std.proofs.Math.Nat.{mul_assoc, mul-le-mul_left}
+use mathlib.Core.Bool.{and-true}
 use Rattle.guest_types.specs.declared.length.Width.{Width}
 use Rattle.guest_types.specs.declared.length.Width.TheVariants.{B}
 use Rattle.guest_types.specs.Length.{width_bytes, all_lanes}
@@ -108,10 +109,6 @@ active-below w pg n e inside =
     let low = lane-inside w e (all_lanes w) inside (omega (arith, whole-register w)) in
     bit-bits_of (bit_below pg (width_bytes w * n)) 32 (width_bytes w * e) low
 
-pub and_true : (b : Bool) → (b && true) ≡ b
-and_true true = refl
-and_true false = refl
-
 pub scaled_lt : (w : Width) (e n : ℕ) → e < n → width_bytes w * e < width_bytes w * n
 scaled_lt B e n h = omega arith
 scaled_lt other e n h = omega arith
@@ -128,7 +125,7 @@ masked-below w pg z kept n blocks fits is count =
     ∙ register-zeros k f n (m - n) (subst (λ m. k * m ≤ 256) (sym split) (omega (arith, whole-register w, mul-le-mul_left k most)))
     (λ e least below. cond-false _ _ _ (ap (λ p. active w p e) is ∙ active-below w pg n e (omega arith) ∙ and_right (active w pg e) (nat_lt (k * e) (k * n)) (le-ltb (k * e) (k * n) (mul-le-mul_left k least))))
     ∙ register-ext k f (masked_at w pg z) n
-    (λ e below. ap (λ b. cond b (at w z e) 0) (ap (λ p. active w p e) is ∙ active-below w pg n e (omega arith) ∙ ap (λ t. active w pg e && t) (lt-ltb (k * e) (k * n) (scaled_lt w e n below)) ∙ and_true (active w pg e)))
+    (λ e below. ap (λ b. cond b (at w z e) 0) (ap (λ p. active w p e) is ∙ active-below w pg n e (omega arith) ∙ ap (λ t. active w pg e && t) (lt-ltb (k * e) (k * n) (scaled_lt w e n below)) ∙ and-true (active w pg e)))
 
 -- the first elements, where all of them are active
 pub first-kept : (w : Width) (pg z : List ℕ) (n : ℕ) → n ≤ all_lanes w → length z ≡ 256 → ((i : ℕ) → get_or z i 0 < 256) → ((e : ℕ) → e < n → active w pg e ≡ true) → cleared_above z (width_bytes w * n) ≡ masked_of w pg z n

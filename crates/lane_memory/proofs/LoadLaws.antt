@@ -2,6 +2,7 @@
 use Rattle.std.proofs.Common.{◌≡◌, ℕ, zero, suc, ◌+◌, ◌<◌, ◌≤◌, Bool, true, false, ◌&&◌, ◌||◌, cond, List, Option, Some, None, Ok, inl, inr, refl, sym, ap, ap₂, ◌∙◌, arith}
 use Rattle.std.specs.Prelude.{is_some}
 use Rattle.std.proofs.lemmas.Bool.{cases_lt, lt-ltb, le-ltb, le-leb, lt-leb, and_left, and_parts, false≢true, and_right}
+use mathlib.Core.Bool.{and-true}
 use Rattle.guest_types.specs.declared.memory.AccessFault.{AccessFault}
 use Rattle.guest_types.specs.declared.row.LoadMode.{LoadMode}
 use Rattle.guest_types.specs.Length.{width_bytes, lanes}
@@ -14,7 +15,6 @@ use Rattle.lane_memory.specs.Readings.{form_of, place_of, on_of, on_from, faults
 use Rattle.lane_memory.specs.Loads.{LoadLeft, left_by, left_by_early, left_by_first, load_of}
 use Rattle.lane_memory.proofs.FirstTrue.{first_true-some, first_true-none, first_true-absent, first_true-ext}
 use Rattle.lane_memory.proofs.EarlySteps.{on_from-below}
-use Rattle.lane_memory.proofs.KeepLaws.{and_true}
 
 -- ---- no fault
 
@@ -99,7 +99,7 @@ first-done r memory stops pg n from ffr left free h =
 
 pub all-free : (r : Reading) (memory : Memory) (stops : StopList) (pg : List ℕ) (n : ℕ) (ffr : List ℕ) (left : LoadLeft) → left_by_early (early_load (form_of r) memory stops (on_of r pg) (on_from r pg 0) (place_of r) n ffr) ≡ left → left_by_early (early_load (form_of r) memory stops (on_of r pg) (on_of r pg) (place_of r) n ffr) ≡ left
 all-free r memory stops pg n ffr left h =
-    early-ext (form_of r) memory stops (on_of r pg) (on_of r pg) (on_from r pg 0) (place_of r) n ffr (λ j l. sym (ap (λ t. on_of r pg j && t) (le-leb 0 j (omega arith)) ∙ and_true (on_of r pg j))) ∙ h
+    early-ext (form_of r) memory stops (on_of r pg) (on_of r pg) (on_from r pg 0) (place_of r) n ffr (λ j l. sym (ap (λ t. on_of r pg j && t) (le-leb 0 j (omega arith)) ∙ and-true (on_of r pg j))) ∙ h
 
 -- ---- the operands
 

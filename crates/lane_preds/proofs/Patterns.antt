@@ -4,6 +4,7 @@ use Rattle.std.specs.Prelude.{Option, Some, None}
 use Rattle.std.specs.Int.{bit_at, bit_not}
 use Rattle.std.proofs.lemmas.Bool.{cases_lt, cases_eq, eqb-true, lt-ltb, le-ltb, and_left, and_right, or_right, agree_below_at}
 use Rattle.std.proofs.Math.Nat.{mod-one, div-one}
+use mathlib.Core.Bool.{and-true}
 use mir.Val.{bool_byte}
 use lib.Lanes.{zip2}
 use Rattle.guest_types.specs.declared.length.Width.{Width}
@@ -47,14 +48,10 @@ starts-is w = bits-lanes (starts (width_bytes w)) (lanes-splat 32 (start_byte w)
 
 -- ---- the first elements
 
-and_true : (a : Bool) → a ≡ (a && true)
-and_true true = refl
-and_true false = refl
-
 pub first-elements : (k n : ℕ) (s b : List ℕ) → s ≡ bits_of (starts k) 32 → b ≡ bits_of (is_below (k * n)) 32 → zip2 bit_and s b ≡ predicate k all_at n
 first-elements k n s b is_s is_b =
     bits-are (bits-same (element_bit k all_at n) (bits-and (bits-made (starts k) s is_s) (bits-made (is_below (k * n)) b is_b))
-    (λ j l. and_true (starts k j && ltb j (k * n))))
+    (λ j l. sym (and-true (starts k j && ltb j (k * n)))))
 
 -- element_bit at an element of a width
 pub lane-of : (w : Width) (j : ℕ) → starts (width_bytes w) j ≡ true → j ≡ width_bytes w * (j / width_bytes w)
@@ -102,7 +99,7 @@ predicate-same w h g n m same = bits_of-ext (element_bit (width_bytes w) h n) (e
 
 while-lane : (n from to e : ℕ) → (ltb e (min n (to - from)) && true) ≡ (ltb e n && ltb (from + e) to)
 while-lane n from to e =
-    sym (and_true (ltb e (min n (to - from))))
+    and-true (ltb e (min n (to - from)))
     ∙ elim (cases_lt e n) [
       | inr past ↦ le-ltb e (min n (to - from)) (omega arith) ∙ sym (and_left (ltb e n) (ltb (from + e) to) (le-ltb e n past))
       | inl inside ↦

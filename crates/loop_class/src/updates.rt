@@ -4,7 +4,7 @@ ghost use Rattle.std.specs.Prelude.{◌≡◌};
 ghost use Rattle.std.specs.List.{list_any};
 ghost use Rattle.kernel_tree.specs.Plain.{accumulators_of};
 ghost use Rattle.loop_form.specs.View.{content_of, entry_of, entries_view};
-ghost use Rattle.dependence.specs.Classes.{accumulator_read, number_of_update, updates_otherwise, is_mixed, mixed_update, is_write, is_break, before_break};
+ghost use Rattle.dependence.specs.Classes.{accumulator_read, updates_otherwise, is_mixed, mixed_update, is_write, is_break, before_break};
 
 use kernel_tree::{UpdateOp, Var};
 use loop_form::{Content, Entry, ItemKind};
@@ -22,19 +22,6 @@ pub fn reads_accumulator(entries: &[Entry<'_>], vars: &[Var]) -> bool
     false
 }
 
-fn number(op: UpdateOp) -> u32
-    ensures { result ≡ number_of_update op }
-{
-    match op {
-        UpdateOp::Add => 0,
-        UpdateOp::And => 1,
-        UpdateOp::Or => 2,
-        UpdateOp::Xor => 3,
-        UpdateOp::Min => 4,
-        UpdateOp::Max => 5,
-    }
-}
-
 // Whether an item is an update of the accumulator by another operator.
 fn is_other_update(entry: &Entry<'_>, name: &str, op: UpdateOp) -> bool
     ensures { result ≡ updates_otherwise name.now op (entry_of entry.now) }
@@ -43,7 +30,7 @@ fn is_other_update(entry: &Entry<'_>, name: &str, op: UpdateOp) -> bool
         Content::Update {
             name: text,
             op: other,
-        } => text == name && number(other) != number(op),
+        } => text == name && other != op,
         _ => false,
     }
 }

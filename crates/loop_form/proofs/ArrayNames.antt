@@ -11,15 +11,13 @@ use Rattle.kernel_tree.proofs.Scopes.{var_visible}
 use Rattle.kernel_tree.specs.Scopes.{locals_of, accs_of}
 use Rattle.kernel_tree.specs.declared.fault.Binding.TheVariants as binding
 pub use Rattle.kernel_tree.proofs.Names.{array_of}
+use Rattle.kernel_tree.proofs.Names.{no_array, array_before}
 
 -- each array is a parameter
 abbrev pub Fits : List Parameter → List Local → List Bound → Type 0
 Fits ps vs env = (a : List ℕ) (t : Ty) → array_of vs a ≡ Some t → (p : ℕ) × (operand_at env a ≡ Outer p) × (place_of a ps ≡ Some p) × (type_of_place ps p ≡ Some t)
+  -- ---- at the head of the loop
 
--- ---- at the head of the loop
-
-no_array : (vs : List Accumulator) (index a : List ℕ) → array_of (accs_of vs ++ local index binding.Index ∷ []) a ≡ None
-no_array [] index a = by_test (bytes_eq index a)
   where
     by_test : (b : Bool) → option_and_then element_type (option_map binding_of (cond b (Some (local index binding.Index)) None)) ≡ None
     by_test true = refl
@@ -51,11 +49,8 @@ head_fits k l a t e =
     let r = params_fit k.params k.vars l.index (bound l.index LoopIndex ∷ []) 0 a t entries_view in
     let zero_first : 0 + r.0 ≡ r.0 = omega arith in
     (r.0, ap (λ vs. operand_at (outer_env 0 vs ++ bound l.index LoopIndex ∷ []) a) (var_visible k) ∙ r.1 ∙ ap Outer zero_first, r.2 ∙ ap Some zero_first, r.3)
+  -- ---- after a `let`
 
--- ---- after a `let`
-
-pub array_before : (vs : List Local) (x a : List ℕ) (u t : Ty) → array_of (vs ++ local x (binding.Value u) ∷ []) a ≡ Some t → array_of vs a ≡ Some t
-array_before [] x a u t e = by_test (bytes_eq x a) e
   where
     by_test : (b : Bool) → option_and_then element_type (option_map binding_of (cond b (Some (local x (binding.Value u))) None)) ≡ Some t → array_of [] a ≡ Some t
     by_test true e = absurd cc

@@ -1,12 +1,13 @@
 -- Laws of the intervals of a kernel: they stand in the order in which they begin, none ends before it begins, they are few,
 -- and the need of a class is their greatest overlap.
 use Rattle.std.proofs.Common.{◌≡◌, ℕ, zero, suc, ◌+◌, ◌-◌, ◌*◌, ◌<◌, ◌≤◌, Bool, true, false, cond, List, [], ◌∷◌, ◌++◌, length, Option, Some, None, refl, ap, ◌∙◌, arith, length-append}
-use Rattle.std.specs.Prelude.{map, filter, max, fold, ◌&&◌}
+use Rattle.std.specs.Prelude.{map, filter, max, fold}
 use Rattle.std.specs.List.{list_any, cons_option}
 use Rattle.std.proofs.Math.Nat.{le-max_left, le-max_right, max-le}
 use Rattle.std.proofs.Math.ListN.{replicate}
 use Rattle.std.proofs.lemmas.List.{length-map}
 use Rattle.std.proofs.lemmas.List.Sums.{count_by-le-length, length-filter}
+use mathlib.Core.Bool.{and-false}
 use Rattle.kernel_tree.specs.Plain.{Program}
 use Rattle.kernel_tree.specs.Items.{size_of, loop_index, loop_start}
 use Rattle.reg_assign.specs.declared.interval.RegClass.{RegClass}
@@ -210,10 +211,6 @@ nothing-held k Z e = let n = throughout-none (loop_entries k) (let a = (loop-lis
     filter-none : {A : Type 0} (p : A → Bool) (xs : List A) → ((x : A) → p x ≡ false) → filter p xs ≡ []
     filter-none p [] h = refl
     filter-none p (x ∷ xs) h = rw (h x) (filter-none p xs h)
-
-    and-false : (b : Bool) → b && false ≡ false
-    and-false true = refl
-    and-false false = refl
 
     index-none : (o : Option (List ℕ)) → index_held [] o ≡ []
     index-none None = refl

@@ -21,7 +21,7 @@ pub data Matches (k : Program) : List Entry → List (Option Ty) → Type 0 wher
   more : {e : Entry} {es : List Entry} {t : Option Ty} {ts : List (Option Ty)} → e.type ≡ item_type k e.item → Matches k es ts → Matches k (e ∷ es) (t ∷ ts)
 
 -- a list from a place on: what stands there, and what comes after
-get_drop : {A : Type 0} (xs : List A) (b : ℕ) (y : A) (ys : List A) → drop b xs ≡ y ∷ ys → slice_get xs b ≡ Some y
+pub get_drop : {A : Type 0} (xs : List A) (b : ℕ) (y : A) (ys : List A) → drop b xs ≡ y ∷ ys → slice_get xs b ≡ Some y
 get_drop [] zero y ys e = absurd cc
 get_drop [] (suc b) y ys e = absurd cc
 get_drop (x ∷ xs) zero y ys e = let f : x ≡ y = cc in ap Some f

@@ -21,7 +21,7 @@ pub mod visible;
 
 pub use entry::{Content, Entry};
 pub use facts::LoopFacts;
-pub use held_tests::{is_same_type, is_update_of};
+pub use held_tests::is_update_of;
 pub use held_throughout::Held;
 pub use index_type::{type_reach, widens};
 pub use item::{Item, ItemKind};

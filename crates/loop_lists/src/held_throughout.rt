@@ -16,7 +16,7 @@ use crate::entry_list::loop_entries;
 use crate::item_list::is_name;
 use kernel_tree::{Checked, Param, Shape, Ty, Var};
 use loop_form::laws::few_intervals;
-use loop_form::{Content, Entry, Held, is_same_type, is_update_of};
+use loop_form::{Content, Entry, Held, is_update_of};
 use reg_assign::RegClass;
 use std::alloc::{AllocError, Global};
 
@@ -77,7 +77,7 @@ fn is_literal_of(content: Content<'_>, value: i128) -> bool
 fn is_constant_of(entry: &Entry<'_>, ty: Option<Ty>, value: i128) -> bool
     ensures { result ≡ is_constant ty value (entry_of entry.now) }
 {
-    is_same_type(entry.ty, ty) && is_literal_of(entry.content, value)
+    entry.ty == ty && is_literal_of(entry.content, value)
 }
 
 fn occurs(before: &[Entry<'_>], ty: Option<Ty>, value: i128) -> bool

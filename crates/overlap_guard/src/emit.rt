@@ -338,12 +338,7 @@ fn emit_checks(draft: &mut Draft, bound: Reg, fail: Label, used: &[Used]) -> Res
 fn stores(used: &[Used]) -> bool
     ensures { result ≡ list_any is_stored used.now }
 {
-    for u in used {
-        if u.stored {
-            return true;
-        }
-    }
-    false
+    used.iter().any(|u| u.stored)
 }
 
 // Whether Apart holds for all arguments.

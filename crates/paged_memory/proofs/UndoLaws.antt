@@ -4,6 +4,7 @@ use Rattle.std.specs.Prelude.{nat_eq, ◌||◌, Result, Ok, Err, OnOk, OnErr}
 use Rattle.std.proofs.Math.Nat.{mul-suc, mul-zero}
 use Rattle.std.proofs.lemmas.Bool.{eq-eqb, eqb-true, cases_lt}
 use Rattle.std.proofs.lemmas.List.{take_all, length-drop, nil_from_length, take-append-le, drop-append-le, drop-drop, get_or-take}
+use mathlib.Core.Bool.{or-true}
 use Rattle.guest_types.specs.declared.memory.AccessFault.{AccessFault}
 use Rattle.guest_types.specs.Memory.{Memory, page_numbers, put_byte, put_number, next_address, stored}
 use Rattle.guest_types.specs.Spans.{with_span}
@@ -18,10 +19,6 @@ use Rattle.paged_memory.proofs.PageLaws.{with_page-twice, with_page-swap, with_p
 pub has_place-push : (p : ℕ) (ps : List ℕ) → has_place p (ps ++ p ∷ []) ≡ true
 has_place-push p [] = ap (λ b. b || false) (eq-eqb p p refl)
 has_place-push p (q ∷ ps) = ap (λ b. nat_eq q p || b) (has_place-push p ps) ∙ or-true (nat_eq q p)
-  where
-    or-true : (b : Bool) → (b || true) ≡ true
-    or-true true = refl
-    or-true false = refl
 
 pub has_place-more : (p : ℕ) (ps more : List ℕ) → has_place p ps ≡ true → has_place p (ps ++ more) ≡ true
 has_place-more p [] more has = absurd cc

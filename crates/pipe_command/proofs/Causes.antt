@@ -118,7 +118,3 @@ by_error wanted fault (Err r) is h = subst (Refuses wanted) (sym is) h
 pub whatever_held : (held : Option HeldFiles) (P : HeldFiles → Type 0) → ((h : HeldFiles) → P h) → IfSome held P
 whatever_held None P all = tt
 whatever_held (Some h) P all = all h
-
--- a call that is refused so answers as is wanted
-pub refused_answer : {U : Type 0} (x : ℕ) (held : Option HeldFiles) (wanted : HeldFiles → Result U Refusal) (refusal : Refusal) (result : Result U Refusal) → result ≡ Err refusal → ((h : HeldFiles) → Refuses (wanted h) refusal) → IfSome held (λ h. IsFileAnswer x x (wanted h) result)
-refused_answer x held wanted refusal result is h = whatever_held held (λ k. IsFileAnswer x x (wanted k) result) (λ k. refusal_answers x x (wanted k) result refusal is (h k))

@@ -47,9 +47,6 @@ pub record SoFar (text : List ℕ) (number : ℕ) (left : List Line) (now : Memo
   pub pages : (runs_of left now vl steps).pages ≡ (runs_of all first vl steps).pages
   pub done : last_done (runs_of left now vl steps).outcomes ≡ last_done (runs_of all first vl steps).outcomes
 
-pub none_yet : (text : List ℕ) (all : List Line) (first : Memory) (vl steps : ℕ) → text ≡ [] → SoFar text 1 all first all first vl steps
-none_yet text all first vl steps e = record { told = ap (λ t. t ++ runs_text 1 (runs_of all first vl steps).outcomes) e; pages = refl; done = refl }
-
 pub one_more : (text after : List ℕ) (number : ℕ) (line : Line) (left : List Line) (now then : Memory) (all : List Line) (first : Memory) (vl steps : ℕ) → SoFar text number (line ∷ left) now all first vl steps
     → done_by (line_run line now vl steps) ≡ done.Ended → after ≡ text ++ run_text number (line_run line now vl steps) → then ≡ map_left (memory_left (line_run line now vl steps)) now → SoFar after (number + 1) left then all first vl steps
 unfolding runs_text

@@ -50,14 +50,6 @@ line_added x y (Some h) pages before after line entry found is same answer more 
 abbrev pub SoFar : Option HeldFiles → Pages → List Line → (left all : List ScriptEntry) → Type 0
 SoFar held pages before left all = IfSome held (λ h. with_before before (lines_of h pages left) ≡ lines_of h pages all)
 
-pub before_first : (held : Option HeldFiles) (pages : Pages) (before : List Line) (all : List ScriptEntry) → before ≡ [] → SoFar held pages before all all
-before_first None pages before all e = tt
-before_first (Some h) pages before all e = ap (λ b. with_before b (lines_of h pages all)) e ∙ by (lines_of h pages all)
-  where
-    by : (r : Result (List Line) Refusal) → with_before [] r ≡ r
-    by (Ok lines) = refl
-    by (Err refusal) = refl
-
 pub one_more : (x y : ℕ) (held : Option HeldFiles) (pages : Pages) (before after : List Line) (entry : ScriptEntry) (left all : List ScriptEntry) (found : Result (List Line) Refusal) → SoFar held pages before (entry ∷ left) all → found ≡ Ok after → IfSome held (λ h. IsFileAnswer x y (with_line h pages before entry) found) → SoFar held pages after left all
 one_more x y None pages before after entry left all found so is answer = tt
 one_more x y (Some h) pages before after entry left all found so is answer =
@@ -91,10 +83,6 @@ still_held (Some held) entry left all h = λ a. (h a).1
 pub next_held : (held : Option HeldFiles) (entry : ScriptEntry) (left all : List ScriptEntry) (P : Type 0) → StillHeld held (entry ∷ left) all → IfSome held (λ h. IsSome (content h entry.file) → P) → IfSome held (λ h. AreHeld h all → P)
 next_held None entry left all P h p = tt
 next_held (Some held) entry left all P h p = λ a. p (h a).0
-
-pub all_held : (held : Option HeldFiles) (all : List ScriptEntry) → StillHeld held all all
-all_held None all = tt
-all_held (Some held) all = λ a. a
 
 -- ---- the map fits beside each line
 

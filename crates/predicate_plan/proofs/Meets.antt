@@ -1,15 +1,12 @@
 -- The masks of a kernel are met exactly where the walk of an iteration comes to their items.
 use Rattle.std.proofs.Common.{◌≡◌, ℕ, zero, suc, ◌+◌, ◌-◌, ◌<◌, ◌≤◌, ℤ, List, [], ◌∷◌, ◌++◌, length, replicate, map, Option, Some, None, Bool, true, false, not, ◌&&◌, refl, sym, ap, ap₂, ◌∙◌, arith, length-append, get_or}
 use Rattle.std.proofs.lemmas.List.{get_or-append_right, get_or_append_left, get_or-map, length-map, length-replicate}
+use mathlib.Core.Bool.{and-true}
 use Rattle.kernel_tree.specs.Plain.{Term, Literal, Variable, Element, Unary, Operation, Shift, Conversion, Choice, Comparison, Both, Either, Not, Action, Define, Put, Update, Choose, Leave, Block, Done, Then, Otherwise, Nothing, Else, PlainLoop, Program}
 use Rattle.kernel_tree.specs.Items.{stream_offset, term_size, action_size, block_size, otherwise_size, for_loop_size, index_size, answer_size, loop_index, loop_start}
 use Rattle.kernel_meaning.specs.Reaches.{at_item, inner_reached, term_reached, action_reached, block_reached, otherwise_reached, for_loop_reached}
 use Rattle.predicate_plan.specs.declared.part.MaskPart.{MaskPart}
 use Rattle.predicate_plan.specs.Masks.{agrees, meets, mask_at, MeetsMasks, and_part, inner_masks, term_masks, action_masks, block_masks, otherwise_masks, for_loop_masks, loop_masks, masks_of}
-
-and_true : (b : Bool) → (b && true) ≡ b
-and_true true = refl
-and_true false = refl
 
 and_assoc : (a b c : Bool) → ((a && b) && c) ≡ (a && (b && c))
 and_assoc true b c = refl
@@ -17,7 +14,7 @@ and_assoc false b c = refl
 
 -- one more part
 pub meets-more : (truth : ℕ → Bool) (mask : List MaskPart) (item : ℕ) (holds : Bool) → meets truth (and_part mask item holds) ≡ (meets truth mask && agrees holds (truth item))
-meets-more truth [] item holds = and_true (agrees holds (truth item))
+meets-more truth [] item holds = and-true (agrees holds (truth item))
 meets-more truth (p ∷ mask) item holds =
     ap (λ b. agrees p.holds (truth p.item) && b) (meets-more truth mask item holds) ∙ sym (and_assoc (agrees p.holds (truth p.item)) (meets truth mask) (agrees holds (truth item)))
 

@@ -3,6 +3,7 @@
 use Rattle.std.proofs.Common.{◌≡◌, ◌≢◌, ℕ, ◌+◌, ◌<◌, ◌≤◌, pos, Bool, true, false, cond, List, [], ◌∷◌, ◌++◌, length, map, Some, None, refl, sym, ap, ◌∙◌, subst, arith}
 use Rattle.std.specs.Prelude.{bytes_eq, option_map, unwrap_or, ◌||◌}
 use Rattle.std.specs.List.{find, list_any}
+use mathlib.Core.Bool.{or-true}
 use Rattle.kernel_tree.specs.Plain.{Parameter, Accumulator, Program}
 use Rattle.kernel_tree.specs.Typing.{Local, check_fault, var_scope}
 use Rattle.kernel_tree.proofs.Names.{bytes_same, bytes_swap, bytes_told}
@@ -138,15 +139,11 @@ abbrev pub AreAtHome : Homes → Homes → Type 0
 AreAtHome all [] = Unit {0}
 AreAtHome all (h ∷ hs) = (register_at all h.name ≡ h.register) × (is_found h.name all ≡ true) × AreAtHome all hs
 
-or_true : (b : Bool) → b || true ≡ true
-or_true true = refl
-or_true false = refl
-
 home_later : (g : Home) (all hs : Homes) → Unlike g.name (map home_name hs) → AreAtHome all hs → AreAtHome (g ∷ all) hs
 home_later g all [] u h = tt
 home_later g all (x ∷ hs) u h = (
   ap (λ b. unwrap_or (option_map register_of (cond b (Some g) (find (is_home x.name) all))) 31) (bytes_swap x.name g.name u.0) ∙ h.0,
-  ap (λ b. bytes_eq g.name x.name || b) h.1 ∙ or_true (bytes_eq g.name x.name),
+  ap (λ b. bytes_eq g.name x.name || b) h.1 ∙ or-true (bytes_eq g.name x.name),
   home_later g all hs u.1 h.2,
 )
 
@@ -214,7 +211,7 @@ var_found R j (v ∷ vs) x h = by (bytes_eq v.name x) h (var_found R (j + 1) vs 
 
 found_following : (hs gs : Homes) (x : List ℕ) → is_found x gs ≡ true → is_found x (hs ++ gs) ≡ true
 found_following [] gs x h = h
-found_following (y ∷ hs) gs x h = ap (λ b. bytes_eq y.name x || b) (found_following hs gs x h) ∙ or_true (bytes_eq y.name x)
+found_following (y ∷ hs) gs x h = ap (λ b. bytes_eq y.name x || b) (found_following hs gs x h) ∙ or-true (bytes_eq y.name x)
 
 -- an accumulator is found
 pub accumulator_found : (R : ℕ → ℕ) (k : Program) (x : List ℕ) → list_any (is_var x) k.vars ≡ true → is_found x (kernel_homes R k) ≡ true

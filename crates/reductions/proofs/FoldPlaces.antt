@@ -3,6 +3,7 @@
 use Rattle.std.proofs.Common.{◌≡◌, ℕ, zero, suc, ◌+◌, ◌≤◌, Bool, true, false, cond, List, [], ◌∷◌, ◌++◌, length, map, Option, Some, None, refl, sym, ap, ◌∙◌, arith, append_assoc}
 use Rattle.std.specs.Prelude.{bytes_eq, unwrap_or, slice_get, filter, ◌||◌}
 use Rattle.std.specs.List.{list_any}
+use mathlib.Core.Bool.{or-true}
 use Rattle.guest_types.specs.declared.length.Width.{Width}
 use Rattle.guest_types.specs.Length.{width_bits}
 use Rattle.kernel_tree.specs.declared.ops.Ty.{Ty}
@@ -181,12 +182,8 @@ in_sums : (es : List Entry) (vs : List Accumulator) (x : List ℕ) (i : ℕ) →
 in_sums es [] x i e = absurd cc
 in_sums es (v ∷ vs) x i e = by (is_updated es v) refl e (λ j q. later (in_sums es vs x j q))
   where
-    or_true : (b : Bool) → b || true ≡ true
-    or_true true = refl
-    or_true false = refl
-
     later : IsIn es vs x → IsIn es (v ∷ vs) x
-    later h = record { var = ap (λ b. bytes_eq v.name x || b) h.var ∙ or_true (bytes_eq v.name x); updated = h.updated }
+    later h = record { var = ap (λ b. bytes_eq v.name x || b) h.var ∙ or-true (bytes_eq v.name x); updated = h.updated }
 
     stepped : (o : Option ℕ) → next_place o ≡ Some i → ((j : ℕ) → o ≡ Some j → IsIn es (v ∷ vs) x) → IsIn es (v ∷ vs) x
     stepped None e more = absurd cc

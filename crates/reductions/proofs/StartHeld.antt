@@ -1,8 +1,9 @@
 -- What is held throughout a loop: where it comes from, and the places of operands and accumulators among it.
 use Rattle.std.proofs.Common.{◌≡◌, ℕ, zero, suc, ◌+◌, ◌≤◌, Bool, true, false, cond, List, [], ◌∷◌, ◌++◌, length, map, Option, Some, None, refl, sym, ap, ap₂, ◌∙◌, subst, arith}
-use Rattle.std.specs.Prelude.{option_map, option_and_then, filter, slice_get, bytes_eq, ◌||◌, ◌&&◌}
+use Rattle.std.specs.Prelude.{option_map, option_and_then, filter, slice_get, bytes_eq, ◌||◌}
 use Rattle.std.specs.List.{find, list_any}
 use Rattle.std.proofs.lemmas.Bool.{and_parts}
+use mathlib.Core.Bool.{or-true}
 use Rattle.guest_types.specs.declared.length.Width.{Width}
 use Rattle.guest_types.specs.Length.{width_bits}
 use Rattle.guest_types.specs.Memory.{Memory}
@@ -59,10 +60,6 @@ come_at k [] m t h e = absurd cc
 come_at k (u ∷ ts) zero t h e = let same : u ≡ t = cc in subst (Comes k) same h.0
 come_at k (u ∷ ts) (suc m) t h e = come_at k ts m t h.1 e
 
-is_first : (b c : Bool) → b && c ≡ true → b ≡ true
-is_first true c e = refl
-is_first false c e = absurd cc
-
 scalars_come : (k : Program) (ps : List Parameter) (n : ℕ) → ((m : ℕ) → slice_get k.params (n + m) ≡ slice_get ps m) → AllCome k (scalars (loop_entries k) ps)
 scalars_come k [] n h = tt
 scalars_come k (p ∷ ps) n h = by (is_named_scalar (loop_entries k) p) refl (scalars_come k ps (n + 1) (λ m. let e : n + 1 + m ≡ n + suc m = omega arith in ap (slice_get k.params) e ∙ h (suc m)))
@@ -72,7 +69,7 @@ scalars_come k (p ∷ ps) n h = by (is_named_scalar (loop_entries k) p) refl (sc
     here (shape.Array t) e f = absurd cc
 
     by : (b : Bool) → is_named_scalar (loop_entries k) p ≡ b → AllCome k (scalars (loop_entries k) ps) → AllCome k (map scalar_of (cond b (p ∷ filter (is_named_scalar (loop_entries k)) ps) (filter (is_named_scalar (loop_entries k)) ps)))
-    by true e r = (here p.shape refl (is_first (is_scalar p.shape) _ e), r)
+    by true e r = (here p.shape refl (and_parts (is_scalar p.shape) _ e).0, r)
     by false e r = r
 
 new_comes : (k : Program) (before : List Entry) (t : Option Ty) (c : Content) → AllCome k (new_constant before t c)
@@ -113,13 +110,9 @@ abbrev AreVars : Program → List Accumulator → Type 0
 AreVars k [] = Unit {0}
 AreVars k (v ∷ vs) = IsVar k v × AreVars k vs
 
-or_true : (b : Bool) → b || true ≡ true
-or_true true = refl
-or_true false = refl
-
 any_following : {A : Type 0} (p : A → Bool) (xs : List A) (y : A) (ys : List A) → p y ≡ true → list_any p (xs ++ y ∷ ys) ≡ true
 any_following p [] y ys e = ap (λ b. b || list_any p ys) e
-any_following p (x ∷ xs) y ys e = ap (λ b. p x || b) (any_following p xs y ys e) ∙ or_true (p x)
+any_following p (x ∷ xs) y ys e = ap (λ b. p x || b) (any_following p xs y ys e) ∙ or-true (p x)
 
 one_more : {A : Type 0} (xs : List A) (y : A) (ys : List A) → (xs ++ y ∷ []) ++ ys ≡ xs ++ y ∷ ys
 one_more [] y ys = refl

@@ -2,7 +2,7 @@
 use Rattle.std.proofs.Common.{◌≡◌, ℕ, ◌+◌, ◌<◌, ◌≤◌, Bool, true, false, cond, List, [], ◌∷◌, ◌++◌, refl, ap, ◌∙◌, arith, ⊎_elim, inl, inr, ◌⊎◌}
 use Rattle.std.specs.Prelude.{◌&&◌, max, nat_le, nat_lt, fold}
 use Rattle.std.proofs.Math.Nat.{le-max_left, le-max_right, max-le}
-use Rattle.std.proofs.lemmas.Bool.{cases_lt, lt-ltb, le-leb, leb-true, ltb-true}
+use Rattle.std.proofs.lemmas.Bool.{cases_lt, lt-ltb, le-leb, leb-true, ltb-true, and_parts}
 use Rattle.std.proofs.lemmas.List.Sums.{sum_by-cons, sum_by-append, sum_by_push, fold-append}
 use Rattle.reg_assign.specs.declared.interval.Interval.{Interval}
 use Rattle.reg_assign.specs.Intervals.{is_live, overlap, greater_overlap, need_of}
@@ -14,18 +14,10 @@ abbrev pub one : Bool → ℕ
 one b = cond b 1 0
 
 pub live-from : (p : ℕ) (i : Interval) → is_live p i ≡ true → i.from ≤ p
-live-from p i e = leb-true i.from p (first (nat_le i.from p) (nat_lt p i.last_use) e)
-  where
-    first : (a b : Bool) → (a && b) ≡ true → a ≡ true
-    first true b e = refl
-    first false b e = absurd cc
+live-from p i e = leb-true i.from p (and_parts (nat_le i.from p) (nat_lt p i.last_use) e).0
 
 pub live-last_use : (p : ℕ) (i : Interval) → is_live p i ≡ true → p < i.last_use
-live-last_use p i e = ltb-true p i.last_use (second (nat_le i.from p) (nat_lt p i.last_use) e)
-  where
-    second : (a b : Bool) → (a && b) ≡ true → b ≡ true
-    second true b e = e
-    second false b e = absurd cc
+live-last_use p i e = ltb-true p i.last_use (and_parts (nat_le i.from p) (nat_lt p i.last_use) e).1
 
 pub live : (p : ℕ) (i : Interval) → i.from ≤ p → p < i.last_use → is_live p i ≡ true
 live p i f u = let a = le-leb i.from p f in let b = lt-ltb p i.last_use u in rw (a, b) refl

@@ -1,6 +1,7 @@
 -- A step at a word that leaves the reserved registers alone.
-use Rattle.std.proofs.Common.{◌≡◌, ◌≢◌, ℕ, Bool, true, false, ◌&&◌, Option, Some, None, refl, sym, ap, ◌∙◌}
+use Rattle.std.proofs.Common.{◌≡◌, ◌≢◌, ℕ, Bool, true, false, Option, Some, None, sym, ap, ◌∙◌}
 use Rattle.std.specs.Prelude.{not, slice_index}
+use Rattle.std.proofs.lemmas.Bool.{and_parts}
 use Rattle.guest_types.specs.Memory.{fetched}
 use Rattle.machine_model.specs.declared.outcome.StopKind.TheVariants.{Undefined}
 use Rattle.machine_model.specs.Frames.{SameUnless, OtherX}
@@ -12,10 +13,6 @@ use Rattle.machine_model.proofs.Frames.{went_leaves}
 use Rattle.machine_model.proofs.ScalarFrames.{scalar_leaves}
 use Rattle.promises.specs.Reserved.{register_written, writes_stack_pointer, is_reserved, none_reserved, leaves_reserved}
 use Rattle.reserved_registers.specs.Kept.{AreKept, StepsKeep}
-
-both : (a b : Bool) → (a && b) ≡ true → (a ≡ true) × (b ≡ true)
-both true b h = (refl, h)
-both false b h = absurd cc
 
 apart : (n d : ℕ) → is_reserved n ≡ true → not (is_reserved d) ≡ true → n ≢ d
 apart n d h k e = let same = ap is_reserved e in let free = ap not (sym same ∙ h) in absurd cc
@@ -31,11 +28,11 @@ sp_kept false before after h same = same
 does_keep : (i : Listed) (s t : State) → leaves_reserved i ≡ true → does i s ≡ Went t → AreKept s t
 does_keep (Scalar i) s t h e =
     let l = scalar_leaves i.name i.numbers s t e in
-    let two = both (none_reserved (register_written (Scalar i))) (not (writes_stack_pointer (Scalar i))) h in
+    let two = and_parts (none_reserved (register_written (Scalar i))) (not (writes_stack_pointer (Scalar i))) h in
     record { x = λ n r. x_kept (register_written (Scalar i)) s t n two.0 r l.x; sp = sp_kept (writes_stack_pointer (Scalar i)) s.sp t.sp two.1 l.sp }
 does_keep (Vector i) s t h e =
     let l = went_leaves i.name (field_of i.name i.numbers) s t e in
-    let two = both (none_reserved (register_written (Vector i))) (not (writes_stack_pointer (Vector i))) h in
+    let two = and_parts (none_reserved (register_written (Vector i))) (not (writes_stack_pointer (Vector i))) h in
     record { x = λ n r. x_kept (register_written (Vector i)) s t n two.0 r l.x; sp = l.sp }
 
 read : (word : ℕ) (i : Listed) → listed word ≡ Some i → reads_word word ≡ Some i

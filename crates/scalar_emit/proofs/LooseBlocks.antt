@@ -3,7 +3,7 @@
 use Rattle.std.proofs.Common.{◌≡◌, ℕ, ◌+◌, ◌*◌, ◌≤◌, Bool, true, false, cond, List, [], ◌∷◌, ◌++◌, length, Option, Some, None, refl, ap, ◌∙◌, arith}
 use Rattle.std.specs.Prelude.{ℤ, is_none, option_map, option_and_then, ◌&&◌, if◌then◌else◌, bytes_eq}
 use Rattle.std.specs.List.{find}
-use Rattle.std.proofs.lemmas.Bool.{and_from}
+use Rattle.std.proofs.lemmas.Bool.{and_from, and_parts}
 use Rattle.kernel_tree.specs.declared.ops.Ty.{Ty}
 use Rattle.kernel_tree.specs.Plain.{Term, Literal, Variable, Element, Unary, Operation, Shift, Conversion, Choice, Comparison, Both, Either, Not, Action, Define, Put, Update, Choose, Leave, Block, Done, Then, Otherwise, Nothing, Else, PlainLoop, Returned, Program}
 use Rattle.kernel_tree.specs.Items.{action_size, block_size, otherwise_size, for_loop_size, size_of, stream_offset, index_of}
@@ -190,19 +190,11 @@ record Stands (s : Scope) (l : PlainLoop) (answer : Option Returned) (ls : List 
   few : moving_words ls ≤ n
   count : length ls ≤ 1 + n
 
-left_true : (a b : Bool) → (a && b) ≡ true → a ≡ true
-left_true true b e = refl
-left_true false b e = absurd cc
-
-right_true : (a b : Bool) → (a && b) ≡ true → b ≡ true
-right_true true b e = e
-right_true false b e = absurd cc
-
 down_step : (b : Bool) (s : Scope) (l : PlainLoop) (answer : Option Returned) (ls : List Loose) (n : ℕ) → may_move ls s l answer ≡ b → AreFormed (in_loop s l) ls → AreNamedOnce ls → moving_words ls ≤ n → length ls ≤ 1 + n → Stands s l answer (if b then ls else []) n
 down_step true s l answer ls n e formed once few count =
     let c = covers_block ls (in_loop s l) l.body in
     let a = covers_answer (after_loop ls) (after_for_loop s (Some l)) answer in
-    record { covered = left_true c a e; answered = right_true c a e; formed = formed; once = once; few = few; count = count }
+    record { covered = (and_parts c a e).0; answered = (and_parts c a e).1; formed = formed; once = once; few = few; count = count }
 down_step false s l answer ls n e formed once few count = record { covered = block_none l.body (in_loop s l); answered = answer_none answer (after_for_loop s (Some l)); formed = tt; once = tt; few = omega arith; count = omega arith }
 
 down_stands : (s : Scope) (l : PlainLoop) (answer : Option Returned) → s.index ≡ Some l.index → Stands s l answer (counted_down s l answer) (block_streams s.index l.body)

@@ -1,7 +1,7 @@
 -- Products and shifts in the word of an operator: the sides that it takes.
 use Rattle.std.proofs.Common.{◌≡◌, ◌≢◌, ℕ, zero, suc, ◌+◌, ◌*◌, ◌%◌, ◌^◌, ◌<◌, ◌≤◌, ◌&&◌, ◌||◌, Bool, true, false, List, length, Option, Some, None, ⊎_elim, refl, sym, ap, ap₂, ◌∙◌, subst, arith}
 use Rattle.std.specs.Prelude.{ℤ, pos, is_none, not, nat_eq, nat_lt}
-use Rattle.std.proofs.lemmas.Bool.{cases_lt, lt-ltb, eq-eqb}
+use Rattle.std.proofs.lemmas.Bool.{cases_lt, lt-ltb, eq-eqb, and_parts}
 use Rattle.std.proofs.lemmas.Int.{ints, clamps}
 use Rattle.std.proofs.lemmas.Nat.{and_comm, or_comm, xor_comm}
 use Rattle.std.proofs.Math.IntN.{+ℤ_comm, *ℤ_comm}
@@ -52,17 +52,9 @@ pub data Pairs (D : Laid) (L : Layout) (c : List DraftEntry) (s : State) (rest :
 
 -- ---- products and shifts in the word of an operator
 
-pub both_left : (a b : Bool) → (a && b) ≡ true → a ≡ true
-both_left true b h = refl
-both_left false b h = absurd cc
-
-pub both_right : (a b : Bool) → (a && b) ≡ true → b ≡ true
-both_right true b h = h
-both_right false b h = absurd cc
-
-pub never : (a : Bool) → (a && false) ≡ true → ⊥
-never true h = absurd cc
-never false h = absurd cc
+pub and_false-never : (a : Bool) → (a && false) ≡ true → ⊥
+and_false-never true h = absurd cc
+and_false-never false h = absurd cc
 
 -- the word of a result that is not extended
 settled_by : (l leaves : Bool) (w : Extent) (T : Ty) (z : ℤ) → stays (settles l true leaves) (Some T) ≡ true → (operand_extent l true leaves w (Some T) ≡ Whole → leaves ≡ false → word (wrap T z) ≡ word z) → word (settled l true (Some T) z) ≡ word z
@@ -99,8 +91,8 @@ taken_by op None true r part sums takes = takes refl
 taken_by op None false r part sums takes = tt
 
 pub part_taken : (op : BinaryOp) (L : Layout) (hs : Homes) (s : Scope) (w : Extent) (T : Ty) (b : ℕ) (e : Term) → is_fused s op w (Some T) e ≡ true → IsTaken op (part_side L hs s.index (Some T) b e)
-part_taken op L hs s w T b (Operation o x y) f = both_left (takes_product op) (is_product o && stays (binary_settles s (Some T) o x y w) (Some T)) f
-part_taken op L hs s w T b (Shift left e z) f = both_left (takes_shift op) (stays (shift_settles s (Some T) left e z w) (Some T)) f
+part_taken op L hs s w T b (Operation o x y) f = (and_parts (takes_product op) (is_product o && stays (binary_settles s (Some T) o x y w) (Some T)) f).0
+part_taken op L hs s w T b (Shift left e z) f = (and_parts (takes_shift op) (stays (shift_settles s (Some T) left e z w) (Some T)) f).0
 part_taken op L hs s w T b (Literal z) f = absurd cc
 part_taken op L hs s w T b (Variable x) f = absurd cc
 part_taken op L hs s w T b (Element a e) f = absurd cc
@@ -128,13 +120,13 @@ pub record Led (L : Layout) (s : Scope) (op : BinaryOp) (w : Extent) (want : Opt
 pub led_is : (L : Layout) (hs : Homes) (s : Scope) (op : BinaryOp) (w : Extent) (want : Option Ty) (b : ℕ) (x y : Term) → is_led L hs s op w want b x y ≡ true → Led L s op w want (b + term_size s.index x) (term_size s.index y) x y (part_side L hs s.index want b x)
 unfolding is_led
 led_is L hs s op w want b x y h =
-    let p = both_left (is_commutative op && is_fused s op w want x) _ h in
-    let q = both_right (is_commutative op && is_fused s op w want x) _ h in
+    let p = (and_parts (is_commutative op && is_fused s op w want x) _ h).0 in
+    let q = (and_parts (is_commutative op && is_fused s op w want x) _ h).1 in
     record {
-      turns = both_left (is_commutative op) (is_fused s op w want x) p;
-      fused = both_right (is_commutative op) (is_fused s op w want x) p;
-      alone = both_left (stands_alone s op w want x y) _ q;
-      lasts = both_right (stands_alone s op w want x y) _ q;
+      turns = (and_parts (is_commutative op) (is_fused s op w want x) p).0;
+      fused = (and_parts (is_commutative op) (is_fused s op w want x) p).1;
+      alone = (and_parts (stands_alone s op w want x y) _ q).0;
+      lasts = (and_parts (stands_alone s op w want x y) _ q).1;
     }
 
 -- the code of a right side of which nothing stands in the word
@@ -164,18 +156,18 @@ on_both-turned f (Some x) (Some y) = refl
 
 -- ---- registers that are left alone
 
-not_both : (a b : Bool) → not (a && b) ≡ true → a ≡ true → b ≡ true → ⊥
-not_both true true h p q = absurd cc
-not_both true false h p q = absurd cc
-not_both false b h p q = absurd cc
+not_and : (a b : Bool) → not (a && b) ≡ true → a ≡ true → b ≡ true → ⊥
+not_and true true h p q = absurd cc
+not_and true false h p q = absurd cc
+not_and false b h p q = absurd cc
 
 pub spared_apart : (L : Layout) (b n r : ℕ) → is_spared L b n r ≡ true → (p : ℕ) → b ≤ p → p < b + n → IsMade L p → reg_of L p ≢ r
 spared_apart L b zero r h p lo up made = absurd (omega (arith, lo, up))
 spared_apart L b (suc n) r h p lo up made =
     let here = not (nat_lt b (last_use_at L b) && nat_eq (reg_of L b) r) in
-    ⊎_elim (λ (lt : b < p). spared_apart L (b + 1) n r (both_right here (is_spared L (b + 1) n r) h) p (omega arith) (omega (arith, up)) made)
+    ⊎_elim (λ (lt : b < p). spared_apart L (b + 1) n r (and_parts here (is_spared L (b + 1) n r) h).1 p (omega arith) (omega (arith, up)) made)
     (λ (ge : p ≤ b). let e : p ≡ b = omega (arith, lo, ge) in
-    λ same. not_both (nat_lt b (last_use_at L b)) (nat_eq (reg_of L b) r) (both_left here (is_spared L (b + 1) n r) h) (lt-ltb b (last_use_at L b) (subst (IsMade L) e made)) (eq-eqb (reg_of L b) r (ap (reg_of L) (sym e) ∙ same)))
+    λ same. not_and (nat_lt b (last_use_at L b)) (nat_eq (reg_of L b) r) (and_parts here (is_spared L (b + 1) n r) h).0 (lt-ltb b (last_use_at L b) (subst (IsMade L) e made)) (eq-eqb (reg_of L b) r (ap (reg_of L) (sym e) ∙ same)))
     (cases_lt b p)
 
 -- registers that stretches of items may write
@@ -190,7 +182,7 @@ pub operand_kept : (L : Layout) (side : Side) (b n e : ℕ) {s t : State} (x : �
 operand_kept L (Number v) b n e x is hi lasts k h = h
 operand_kept L (Register r) b n e x is hi lasts k h = k.others r hi (λ p lo up made. spared_apart L b n r lasts p lo (omega (arith, is, up)) made) ∙ h
 operand_kept L (Product p q) b n e x is hi lasts k h =
-    ap₂ (λ u v. u * v % 2 ^ 64) (k.others p hi.0 (λ j lo up made. spared_apart L b n p (both_left (is_spared L b n p) (is_spared L b n q) lasts) j lo (omega (arith, is, up)) made)) (k.others q hi.1 (λ j lo up made. spared_apart L b n q (both_right (is_spared L b n p) (is_spared L b n q) lasts) j lo (omega (arith, is, up)) made)) ∙ h
+    ap₂ (λ u v. u * v % 2 ^ 64) (k.others p hi.0 (λ j lo up made. spared_apart L b n p (and_parts (is_spared L b n p) (is_spared L b n q) lasts).0 j lo (omega (arith, is, up)) made)) (k.others q hi.1 (λ j lo up made. spared_apart L b n q (and_parts (is_spared L b n p) (is_spared L b n q) lasts).1 j lo (omega (arith, is, up)) made)) ∙ h
 operand_kept L (Moved kind c r) b n e x is hi lasts k h = ap (λ u. shifted_word kind u c) (k.others r hi (λ p lo up made. spared_apart L b n r lasts p lo (omega (arith, is, up)) made)) ∙ h
 
 module _ (D : Laid) (L : Layout) (fit : Assigned L) where

@@ -2,7 +2,7 @@
 use Rattle.std.proofs.Common.{◌≡◌, ℕ, ◌+◌, ◌*◌, ◌-◌, ◌<◌, ◌≤◌, ◌&&◌, ◌||◌, Bool, true, false, cond, List, [], ◌∷◌, ◌++◌, length, Option, Some, None, refl, sym, ap, ap₂, subst, arith}
 use Rattle.std.specs.Prelude.{ℤ, pos, negsuc, ◌*ℤ◌, nat_lt, nat_le, nat_eq, not, option_map, option_and_then, if◌then◌else◌}
 use Rattle.std.specs.List.{find}
-use Rattle.std.proofs.lemmas.Bool.{ltb-true, leb-true, eqb-true, eq-eqb}
+use Rattle.std.proofs.lemmas.Bool.{ltb-true, leb-true, eqb-true, eq-eqb, and_from, and_parts}
 use Rattle.kernel_tree.specs.declared.ops.Ty.{Ty}
 use Rattle.kernel_tree.specs.Plain.{Term, Literal, Variable, Element, Unary, Operation, Shift, Conversion, Choice, Comparison, Both, Either, Not}
 use Rattle.kernel_tree.specs.Items.{term_size, index_size, stream_offset}
@@ -28,27 +28,15 @@ same_is (pos m) (negsuc n) e = absurd cc
 same_is (negsuc m) (pos n) e = absurd cc
 same_is (negsuc m) (negsuc n) e = ap negsuc (eqb-true m n e)
 
-both_are : (a b : Bool) → a ≡ true → b ≡ true → (a && b) ≡ true
-both_are true b e f = f
-both_are false b e f = absurd cc
-
 pub key_itself : (z : Key) → same_key z z ≡ true
 key_itself (OfNumber z) = same_itself z
-key_itself (OfAddress q c) = both_are (nat_eq q q) (same_number c c) (eq-eqb q q refl) (same_itself c)
-
-left_is : (a b : Bool) → (a && b) ≡ true → a ≡ true
-left_is true b e = refl
-left_is false b e = absurd cc
-
-right_is : (a b : Bool) → (a && b) ≡ true → b ≡ true
-right_is true b e = e
-right_is false b e = absurd cc
+key_itself (OfAddress q c) = and_from (nat_eq q q) (same_number c c) (eq-eqb q q refl) (same_itself c)
 
 pub key_is : (y z : Key) → same_key y z ≡ true → y ≡ z
 key_is (OfNumber y) (OfNumber z) e = ap OfNumber (same_is y z e)
 key_is (OfNumber y) (OfAddress r d) e = absurd cc
 key_is (OfAddress q c) (OfNumber z) e = absurd cc
-key_is (OfAddress q c) (OfAddress r d) e = ap₂ OfAddress (eqb-true q r (left_is (nat_eq q r) (same_number c d) e)) (same_is c d (right_is (nat_eq q r) (same_number c d) e))
+key_is (OfAddress q c) (OfAddress r d) e = ap₂ OfAddress (eqb-true q r (and_parts (nat_eq q r) (same_number c d) e).0) (same_is c d (and_parts (nat_eq q r) (same_number c d) e).1)
 
 abbrev pub IsKept : Option ℕ → Type 0
 IsKept None = ⊥
@@ -108,8 +96,8 @@ added : (p : ℕ) (z : Key) (cs : List Constant) (b : Bool) → IsReached p z �
 added p z cs false is e = holds_same p cs
 added p z cs true is e =
     let c : Constant = record { key = z; register = 8 - length cs } in
-    let few = ltb-true (length cs) 5 (left_is (nat_lt (length cs) 5) (nat_le (p + length cs) 8) e) in
-    let room = leb-true (p + length cs) 8 (right_is (nat_lt (length cs) 5) (nat_le (p + length cs) 8) e) in
+    let few = ltb-true (length cs) 5 (and_parts (nat_lt (length cs) 5) (nat_le (p + length cs) 8) e).0 in
+    let room = leb-true (p + length cs) 8 (and_parts (nat_lt (length cs) 5) (nat_le (p + length cs) 8) e).1 in
     record { next = λ h. next_on p 0 cs c h (omega (arith, few)) (omega (arith, few, room)) is; more = λ q k. kept_on cs (c ∷ []) q k }
 
 key_held : (o : Option ℕ) (p : ℕ) (z : Key) (cs : List Constant) → IsReached p z → Holds p cs (new_key o p z cs)
@@ -124,7 +112,7 @@ reached : (p : ℕ) (z : Key) → is_reached p z ≡ true → IsReached p z
 reached p (OfNumber z) e = tt
 reached p (OfAddress q c) e =
     let both = is_some (addend (word c)) && not (same_number c (pos 0)) in
-    (ltb-true q p (left_is (nat_lt q p) both e), addend_some (word c) (nat_lt (word c) 4096 || nat_lt 18446744073709547520 (word c)) (left_is (is_some (addend (word c))) (not (same_number c (pos 0))) (right_is (nat_lt q p) both e)))
+    (ltb-true q p (and_parts (nat_lt q p) both e).0, addend_some (word c) (nat_lt (word c) 4096 || nat_lt 18446744073709547520 (word c)) (and_parts (is_some (addend (word c))) (not (same_number c (pos 0))) (and_parts (nat_lt q p) both e).1).0)
 
 if_held : (b : Bool) (p : ℕ) (z : Key) (cs : List Constant) → is_reached p z ≡ b → Holds p cs (hold_if b p z cs)
 if_held true p z cs e = key_held (constant_in cs z) p z cs (reached p z e)

@@ -22,10 +22,6 @@ and_not true true e f g = g refl
 and_not true false e f g = absurd cc
 and_not false b e f g = f refl
 
-pub and_true : (a b : Bool) → (a && b) ≡ true → a ≡ true
-and_true true b e = refl
-and_true false b e = absurd cc
-
 module _ (s : Scope) (m : Memory) (names : Names) (ranged : AreRanged s.visible names) (t : Ty) where
   pub unary_keeps : (op : UnaryOp) (e : Term) (x : ℤ) → AreTyped s (Some t) e → value s (Some t) e m names ≡ Some x → IsOf t x → unary_may_leave s (Some t) op e ≡ false → word (wrap t (unary_on op x)) ≡ word (unary_on op x)
   unary_keeps op e x typed is of h =

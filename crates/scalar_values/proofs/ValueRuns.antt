@@ -44,8 +44,8 @@ pub use Rattle.scalar_values.proofs.CodeBack.{operator_back, side_back, right_ba
 use Rattle.scalar_values.proofs.CodeBack.{pick_back}
 use Rattle.scalar_values.proofs.Operators.{IsOperand, operation_runs, unary_runs, shift_runs, cast_runs}
 pub use Rattle.scalar_values.proofs.Fused.{Sided, no_side, a_side, right_taken}
-use Rattle.scalar_values.proofs.Fused.{Pairs, no_left, no_right, pair, both_right, never, settled_same, moved_same, part_taken, by_led, led_is, alone_code, on_both-turned, IsHigh, led_pairs, turned_runs}
-use Rattle.scalar_values.proofs.Staying.{and_true, unary_keeps, binary_keeps, shift_keeps}
+use Rattle.scalar_values.proofs.Fused.{Pairs, no_left, no_right, pair, and_false-never, settled_same, moved_same, part_taken, by_led, led_is, alone_code, on_both-turned, IsHigh, led_pairs, turned_runs}
+use Rattle.scalar_values.proofs.Staying.{unary_keeps, binary_keeps, shift_keeps}
 use Rattle.scalar_words.proofs.Words.{InRange, in_range}
 use Rattle.scalar_values.specs.declared.extent.Extent.{Extent}
 use Rattle.scalar_values.specs.Extents.{Whole, within_type, asked_extent, fits_at, converted_extent, settles}
@@ -490,7 +490,7 @@ module _ (D : Laid) (L : Layout) (fit : Assigned L) where
         (led_pairs D L fit part (term_size i y) (coded_words L.constants i x + coded_words L.constants i y) (omega arith) (omega arith) refl (part_high x hs s op k1 T b c known.fused h.1 safe) known.lasts
         (parts_standing x s op k1 T b c n _ (omega arith) both.0 known.fused safe at h.1 r)
         (λ t k. subst (λ es. Gives D L es t last b1 c (home L hs i b1 y) m (coded_words L.constants i y) vy) (sym same) (loose_standing y s k1 T b1 c _ _ (omega arith) both.1 safe1 (standing_kept L fit b b1 (omega arith) safe at k) h.2 (subst (λ es. Resolves D es) same (parts_back D L fit x hs s k1 (Some T) b n _ r)))))
-        (λ t v u js is k ey ex. gets D L c c e1 (omega arith) (omega arith) (omega (arith, h.3)) (turned_runs D L fit part op leaves w T u v _ _ known.turns (k.sized ∙ at.sized) hy (fit.high _ (omega (arith, h.3))) (λ e. and_true (binary_leaves op) _ e)
+        (λ t v u js is k ey ex. gets D L c c e1 (omega arith) (omega arith) (omega (arith, h.3)) (turned_runs D L fit part op leaves w T u v _ _ known.turns (k.sized ∙ at.sized) hy (fit.high _ (omega (arith, h.3))) (λ e. (and_parts (binary_leaves op) _ e).0)
         (λ e. (loose_range _ k1 L hs s stand names m x T b c u h.1 at.ranged at.told both.0 is e, loose_range _ k1 L hs s stand names m y T b1 c v h.2 at.ranged at.told both.1 js e)) (operator_keeps _ L user x y hs s stand names m op k1 T b u v at.ranged at.told cov h is js) (part_taken op L hs s k1 T b x known.fused) ex ey))))
         (λ straight r.
         op_runs (loose_binary op w (Some T)) most (omega arith) (omega arith) (omega arith)
@@ -499,14 +499,14 @@ module _ (D : Laid) (L : Layout) (fit : Assigned L) where
         (λ t k. sided_by whole parts vy number fused (home L hs i b1 y) (part_side L hs i (Some T) b1 y) (added_right op s k1 (Some T) y m stand names) (loose_back D L fit x hs s k1 (Some T) b n _ r)
         (λ q. loose_standing y s k1 T b1 c _ _ (omega arith) both.1 safe1 (standing_kept L fit b b1 (omega arith) safe at k) h.2 q)
         (λ f q. parts_standing y s op k1 T b1 c _ _ (omega arith) both.1 f safe1 (standing_kept L fit b b1 (omega arith) safe at k) h.2 q)))
-        (λ t u v is js k ex ey. gets D L c c e1 (omega arith) (omega arith) (omega (arith, h.3)) (operation_runs D L fit right op leaves w T u v _ _ (k.sized ∙ at.sized) hx (fit.high _ (omega (arith, h.3))) (λ e. and_true (binary_leaves op) _ e)
+        (λ t u v is js k ex ey. gets D L c c e1 (omega arith) (omega arith) (omega (arith, h.3)) (operation_runs D L fit right op leaves w T u v _ _ (k.sized ∙ at.sized) hx (fit.high _ (omega (arith, h.3))) (λ e. (and_parts (binary_leaves op) _ e).0)
         (λ e. (loose_range _ k1 L hs s stand names m x T b c u h.1 at.ranged at.told both.0 is e, loose_range _ k1 L hs s stand names m y T b1 c v h.2 at.ranged at.told both.1 js e)) (operator_keeps _ L user x y hs s stand names m op k1 T b u v at.ranged at.told cov h is js) (right_taken op L hs s k1 T b1 y) ex ey)))
         res
     loose_standing (Shift left e z) {hs = hs} s {stand = stand} {names = names} {m = m} w T b user n rest le cov safe at h res =
         let k1 = shift_asks s (Some T) left e z w in
         map_runs (loose_shift left z w (Some T)) ((coded_words L.constants s.index e + 4)) (omega arith) (omega arith) (omega arith)
         (loose_standing e s k1 T b _ n _ (omega arith) cov safe at h.1 res)
-        (λ t x is k ex. gets D L (b + term_size s.index e) _ _ (omega arith) (omega arith) (omega (arith, h.2)) (shift_runs D L fit left (shift_may_leave s (Some T) left e z) z w T x _ _ (k.sized ∙ at.sized) (fit.high _ (omega (arith, h.2))) (λ q. and_true left _ q) (loose_range _ k1 L hs s stand names m e T b _ x h.1 at.ranged at.told cov is)
+        (λ t x is k ex. gets D L (b + term_size s.index e) _ _ (omega arith) (omega arith) (omega (arith, h.2)) (shift_runs D L fit left (shift_may_leave s (Some T) left e z) z w T x _ _ (k.sized ∙ at.sized) (fit.high _ (omega (arith, h.2))) (λ q. (and_parts left _ q).0) (loose_range _ k1 L hs s stand names m e T b _ x h.1 at.ranged at.told cov is)
         (λ whole stays. shift_keeps s m names at.ranged T left e z x (fits_types e L hs s (Some T) b _ h.1) (loose_value _ k1 L hs s stand names m e T b _ x h.1 at.ranged at.told cov is whole) (loose_range _ k1 L hs s stand names m e T b _ x h.1 at.ranged at.told cov is whole) stays) ex))
     loose_standing (Conversion e t) {hs = hs} s {stand = stand} {names = names} {m = m} {st = st} w T b user n rest le cov safe at h res =
         let q = some_type (own s e) h.1 in
@@ -552,24 +552,24 @@ module _ (D : Laid) (L : Layout) (fit : Assigned L) where
         let b1 = b + term_size s.index x in let c = b1 + term_size s.index y in
         let k = binary_asks s (Some T) binary.Mul x y w in
         let both = and_parts (covers L.loose s k (Some T) x) _ cov in
-        product_sided (binary_may_leave s (Some T) binary.Mul x y) w T (b + (term_size s.index x + term_size s.index y + 1)) ((coded_words L.constants s.index x + coded_words L.constants s.index y + 4)) (omega arith) (omega arith) (both_right (takes_product op) (stays (binary_settles s (Some T) binary.Mul x y w) (Some T)) f)
+        product_sided (binary_may_leave s (Some T) binary.Mul x y) w T (b + (term_size s.index x + term_size s.index y + 1)) ((coded_words L.constants s.index x + coded_words L.constants s.index y + 4)) (omega arith) (omega arith) (and_parts (takes_product op) (stays (binary_settles s (Some T) binary.Mul x y w) (Some T)) f).1
         (λ u v is js e out. operator_keeps _ L user x y hs s stand names m binary.Mul k T b u v at.ranged at.told cov h is js e out)
         (pair_runs (coded_words L.constants s.index x + coded_words L.constants s.index y) (omega arith) (omega arith) (omega arith) (home_high x hs s (Some T) b c (omega arith) h.1 safe) (λ p lo up made. home_apart x hs s (Some T) b c (omega arith) h.1 safe p lo up made)
         (loose_standing x s k T b c n _ (omega arith) both.0 safe at h.1 res)
         (λ t kept. plain_sided (loose_standing y s k T b1 c _ _ (omega arith) both.1 (safe_later L hs b b1 (omega arith) safe) (standing_kept L fit b b1 (omega arith) safe at kept) h.2 (loose_back D L fit x hs s k (Some T) b n _ res))))
     parts_standing (Shift left e z) {hs = hs} s {stand = stand} {names = names} {m = m} op w T b user n rest le cov f safe at h res =
         let k = shift_asks s (Some T) left e z w in
-        moved_sided left (shift_may_leave s (Some T) left e z) z w T (b + (term_size s.index e + 1)) ((coded_words L.constants s.index e + 4)) (omega arith) (omega arith) (λ q. and_true left _ q) (both_right (takes_shift op) (stays (shift_settles s (Some T) left e z w) (Some T)) f)
+        moved_sided left (shift_may_leave s (Some T) left e z) z w T (b + (term_size s.index e + 1)) ((coded_words L.constants s.index e + 4)) (omega arith) (omega arith) (λ q. (and_parts left _ q).0) (and_parts (takes_shift op) (stays (shift_settles s (Some T) left e z w) (Some T)) f).1
         (λ x is whole. loose_range _ k L hs s stand names m e T b _ x h.1 at.ranged at.told cov is whole)
         (λ x is whole out. shift_keeps s m names at.ranged T left e z x (fits_types e L hs s (Some T) b _ h.1) (loose_value _ k L hs s stand names m e T b _ x h.1 at.ranged at.told cov is whole) (loose_range _ k L hs s stand names m e T b _ x h.1 at.ranged at.told cov is whole) out)
         (loose_standing e s k T b _ n _ (omega arith) cov safe at h.1 res)
-    parts_standing (Operation binary.Add x y) s op w T b user n rest le cov f safe at h res = absurd (never (takes_product op) f)
-    parts_standing (Operation binary.Sub x y) s op w T b user n rest le cov f safe at h res = absurd (never (takes_product op) f)
-    parts_standing (Operation binary.And x y) s op w T b user n rest le cov f safe at h res = absurd (never (takes_product op) f)
-    parts_standing (Operation binary.Or x y) s op w T b user n rest le cov f safe at h res = absurd (never (takes_product op) f)
-    parts_standing (Operation binary.Xor x y) s op w T b user n rest le cov f safe at h res = absurd (never (takes_product op) f)
-    parts_standing (Operation binary.Min x y) s op w T b user n rest le cov f safe at h res = absurd (never (takes_product op) f)
-    parts_standing (Operation binary.Max x y) s op w T b user n rest le cov f safe at h res = absurd (never (takes_product op) f)
+    parts_standing (Operation binary.Add x y) s op w T b user n rest le cov f safe at h res = absurd (and_false-never (takes_product op) f)
+    parts_standing (Operation binary.Sub x y) s op w T b user n rest le cov f safe at h res = absurd (and_false-never (takes_product op) f)
+    parts_standing (Operation binary.And x y) s op w T b user n rest le cov f safe at h res = absurd (and_false-never (takes_product op) f)
+    parts_standing (Operation binary.Or x y) s op w T b user n rest le cov f safe at h res = absurd (and_false-never (takes_product op) f)
+    parts_standing (Operation binary.Xor x y) s op w T b user n rest le cov f safe at h res = absurd (and_false-never (takes_product op) f)
+    parts_standing (Operation binary.Min x y) s op w T b user n rest le cov f safe at h res = absurd (and_false-never (takes_product op) f)
+    parts_standing (Operation binary.Max x y) s op w T b user n rest le cov f safe at h res = absurd (and_false-never (takes_product op) f)
     parts_standing (Literal z) s op w T b user n rest le cov f safe at h res = absurd cc
     parts_standing (Variable x) s op w T b user n rest le cov f safe at h res = absurd cc
     parts_standing (Element a i) s op w T b user n rest le cov f safe at h res = absurd cc

@@ -105,10 +105,8 @@ fn declare_vars<'a>(
     ensures homes { OnOk result (homes_of homes.new.items
         ≡ homes_of homes.old.items ++ kernels.var_homes (register_in regs.now) 0 (accumulators_of vars.now)) }
 {
-    let mut place = 0;
-    for var in vars {
+    for (place, var) in vars.iter().enumerate() {
         declare_var(scope, homes, regs, place, var)?;
-        place += 1;
     }
     Ok(())
 }

@@ -1,8 +1,8 @@
 -- Steps of a session with the counts that are kept, and steps back.
-use Rattle.std.proofs.Common.{◌≡◌, ◌≢◌, true≢false, ℕ, zero, suc, ◌+◌, ◌-◌, ◌%◌, ◌<◌, ◌≤◌, Bool, true, false, List, [], ◌∷◌, ◌++◌, drop, length, get_or, None, refl, sym, ap, ap₂, ◌∙◌, subst, arith, append_assoc, append-nil, length-append}
+use Rattle.std.proofs.Common.{◌≡◌, ◌≢◌, ℕ, zero, suc, ◌+◌, ◌-◌, ◌%◌, ◌<◌, ◌≤◌, Bool, true, false, List, [], ◌∷◌, ◌++◌, drop, length, get_or, None, refl, sym, ap, ap₂, ◌∙◌, subst, arith, append_assoc, append-nil, length-append}
 use Rattle.std.specs.Prelude.{IsTrue, is_some, option_map, nat_lt, ◌&&◌, ◌||◌}
 use Rattle.std.specs.List.{All}
-use Rattle.std.proofs.lemmas.Bool.{ne_eqb, cond-false, leb-true, le-ltb}
+use Rattle.std.proofs.lemmas.Bool.{ne_eqb, cond-false, leb-true, le-ltb, and_parts}
 use Rattle.std.proofs.lemmas.List.{get_or-map, length-map, drop-append-le, drop_all}
 use Rattle.std.proofs.lemmas.List.Elements.{All-take, All-weaker, All-cons, All-nil}
 use Rattle.machine_model.specs.Debugged.{View, Past, now}
@@ -387,13 +387,9 @@ back_stands v w x target left breaks last last' start d is past below rest h nex
 
 -- ---- whether a way back is too far
 
-and_left : (a b : Bool) → (a && b) ≡ true → a ≡ true
-and_left true b e = refl
-and_left false b e = absurd (true≢false (sym e))
-
 pub near_enough : (count steps target : ℕ) (kept : List Past) (counts : List ℕ) → count ≤ steps → target ≡ steps - count → can_go_back target steps kept ≡ true → counts_of kept ≡ counts → is_too_far count steps counts ≡ false
 near_enough count steps target kept counts few is can same =
-    let first : first_of (counts_of kept) ≤ target = leb-true _ target (and_left _ _ can) in
+    let first : first_of (counts_of kept) ≤ target = leb-true _ target (and_parts _ _ can).0 in
     let start : first_of (counts_of kept) ≡ first_of counts = ap first_of same in
     ap₂ (λ a b. a || b) (le-ltb steps count few) (le-ltb (steps - count) (first_of counts) (omega (arith, first, start, is)))
 

@@ -6,7 +6,7 @@ use Rattle.std.specs.Prelude.{IsErr}
 use Rattle.std.specs.List.{range_with_len}
 use Rattle.io_edges.specs.declared.sink.Failed.{Failed}
 use Rattle.io_edges.specs.Sink.{PutsText}
-use Rattle.io_edges.proofs.Puts.{puts_then, puts_cut, puts_nothing, put_as}
+use Rattle.io_edges.proofs.Puts.{puts_then, puts_cut, put_as}
 
 -- a text, and then another
 pub puts_next : (old mid new : Option (List ℕ)) (a b c : ℕ) (x y whole : List ℕ) (result : Result (Unit {0}) Failed) → x ++ y ≡ whole → PutsText {T = Unit {0}} old mid a b x (Ok tt) → PutsText mid new b c y result → PutsText old new a c whole result
@@ -19,9 +19,6 @@ puts_front old new a c front rest whole first (Err other) failed is err e p =
     let cut : PutsText {T = Unit {0}} old new a c (front ++ rest) (Err failed) = puts_cut old new a c front rest first failed is p in
     let all : PutsText {T = Unit {0}} old new a c whole (Err failed) = subst (λ t. PutsText {T = Unit {0}} old new a c t (Err failed)) e cut in
     record { all = tt; part = all.part; untold = all.untold; cause = record { later = all.cause.later; failed = all.cause.failed } }
-
-pub puts_none : (old : Option (List ℕ)) (n : ℕ) → PutsText {T = Unit {0}} old old n n [] (Ok tt)
-puts_none old n = puts_nothing old n
 
 -- ---- ranges and lists
 

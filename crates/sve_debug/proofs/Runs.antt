@@ -143,9 +143,8 @@ shows_counted v breaks last start d h = shows_now v (counted_by 0 v) breaks last
 
 -- the end that a step comes to is the one that it answered
 ended_by : (o : Option Ending) → o ≡ ending_by (answer_of o)
-ended_by None = refl
 ended_by (Some endings.Ended) = refl
-ended_by (Some (endings.Stopped stop)) = refl
+ended_by other = refl
 
 -- a step that is counted after others
 pub stood_on : (v w : View) (k : ℕ) (breaks : List ℕ) (start : State) → v.over ≡ None → (IsTrue v.quiet → IsAnswer (step v.state) (answer_of w.over) v.state w.state) → w.steps ≡ v.steps → (IsTrue v.quiet → IsTrue w.quiet) → (last : List ℕ) (d : Session) → Shows (held_by (counted_by k v) breaks last) start d → Shows (held_by (counted_by (k + 1) w) breaks (keep_last 64 (last ++ v.state.pc ∷ []))) start (stepped d)

@@ -40,10 +40,6 @@ while_none i limit n le = none_true (both all_at (while_at i limit)) n (λ e lt.
 
 pub while_some : (i limit n : ℕ) → 0 < n → i < limit → is_none (first_true (both all_at (while_at i limit)) n 0) ≡ false
 while_some i limit n some lt = some_true (both all_at (while_at i limit)) n 0 some (lt-ltb (i + 0) limit (omega (arith, lt)))
-
--- the lanes below the bound are the first ones
-pub while_first : (i limit n e : ℕ) → e < n → while_at i limit e ≡ ltb e (min n (limit - i))
-while_first i limit n e lt =
     ⊎_elim
     (λ below. lt-ltb (i + e) limit below ∙ sym (lt-ltb e (min n (limit - i)) (omega (arith, below, lt))))
     (λ past. le-ltb (i + e) limit past ∙ sym (le-ltb e (min n (limit - i)) (omega (arith, past))))

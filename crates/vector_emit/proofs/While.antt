@@ -18,7 +18,8 @@ use Rattle.chunk_emit.specs.Head.{Ground, IsGround, AtHead, width, most_lanes, l
 use Rattle.first_fault.proofs.PrefixBits.{top_made}
 use Rattle.chunk_pass.specs.PassCode.{lanes_word}
 use Rattle.chunk_pass.specs.Passes.{lanes_at}
-use Rattle.vector_emit.proofs.Flags.{some_lanes, while_none, while_some, while_first}
+use Rattle.chunk_pass.proofs.LaneWords.{below_bound}
+use Rattle.vector_emit.proofs.Flags.{some_lanes, while_none, while_some}
 use Rattle.vector_emit.proofs.Tests.{head_kept, Branched, branch_taken, branch_passed, bound_at}
 
 -- the words lead to these entries, and to a state before the same pass with its lanes in P0
@@ -61,7 +62,7 @@ flag_is {g = g} {i = i} {s = s} ground h =
 while_top : {g : Ground} {i : ℕ} {cur : Names} {m : Memory} {sum : List ℕ → ℕ → ℤ} {s : State} → IsGround g → AtHead g i cur m sum s → IsTop (width g) (lanes_at g i) (p_at (while_state (width g) (place g) s) 0)
 unfolding while_state
 while_top {g = g} {i = i} {s = s} ground h =
-    let made : IsTop (width g) (lanes_at g i) (predicate (width_bytes (width g)) (while_at i (limit g)) (most_lanes g)) = top_made (width g) (while_at i (limit g)) (most_lanes g) (lanes_at g i) (omega arith) (while_first i (limit g) (most_lanes g)) in
+    let made : IsTop (width g) (lanes_at g i) (predicate (width_bytes (width g)) (while_at i (limit g)) (most_lanes g)) = top_made (width g) (while_at i (limit g)) (most_lanes g) (lanes_at g i) (omega arith) (below_bound i (limit g) (most_lanes g)) in
     let same : predicate (width_bytes (width g)) (while_at (x_at s 9) (x_at s (place g))) (lanes s.vl (width g)) ≡ predicate (width_bytes (width g)) (while_at i (limit g)) (most_lanes g)
     = ap₂ (λ a b. predicate (width_bytes (width g)) (while_at a b) (lanes s.vl (width g))) h.index (bound_at ground h) ∙ ap (λ vl. predicate (width_bytes (width g)) (while_at i (limit g)) (lanes vl (width g))) h.vl in
     let set : p_at (while_state (width g) (place g) s) 0 ≡ predicate (width_bytes (width g)) (while_at i (limit g)) (most_lanes g) = get_or-set_same s.p 0 _ [] (let c = h.is.p_count in omega (arith, c)) ∙ same in

@@ -1,7 +1,7 @@
 -- What class Vector says of a read at a computed index, where the read stands in the tree.
 use Rattle.std.proofs.Common.{◌≡◌, ℕ, zero, suc, ◌+◌, ◌-◌, Bool, true, false, cond, List, [], ◌∷◌, ◌++◌, length, drop, Option, Some, None, refl, sym, ap, ap₂, ◌∙◌, subst, arith}
 use Rattle.std.proofs.lemmas.List.{append_assoc, length-append}
-use Rattle.std.specs.Prelude.{ℤ, option_and_then, slice_get, if◌then◌else◌}
+use Rattle.std.specs.Prelude.{ℤ, option_and_then, if◌then◌else◌}
 use Rattle.kernel_tree.specs.declared.ops.Ty.{Ty}
 use Rattle.kernel_tree.specs.declared.ops.Ty.TheVariants as ty
 use Rattle.kernel_tree.specs.Plain.{Term, Literal, Variable, Element, Unary, Operation, Shift, Conversion, Choice, Comparison, Both, Either, Not, Action, Define, Put, Update, Choose, Leave, Block, Done, Then, Otherwise, Nothing, Else, Program}
@@ -13,6 +13,7 @@ use Rattle.kernel_tree.proofs.Scopes.{index_after}
 use Rattle.loop_form.specs.Entries.{Content, IsRead, Entry, entry, item_type, inner_entries, term_entries, action_entries, block_entries, otherwise_entries}
 use Rattle.loop_form.specs.Reaches.{is_widened, source_type, reach_of_type}
 use Rattle.loop_form.specs.LoopItems.{index_source}
+use Rattle.loop_form.proofs.ItemTypes.{get_drop}
 use Rattle.vector_order.proofs.ReadyTerms.{Computed}
 use Rattle.vector_order.proofs.Calms.{Calmly, CalmAction, CalmBlock, CalmOtherwise}
 
@@ -45,12 +46,6 @@ module _ (k : Program) where
 
   from_right : (g n : ℕ) (xs ys : List (Option Ty)) → length xs ≡ n → From k g (xs ++ ys) → From k (g + n) ys
   from_right g n xs ys e h = (h.0, drop_twice g n (types_of k) ∙ ap (drop n) (h.1 ∙ append_assoc xs ys h.0) ∙ drop_append n xs (ys ++ h.0) e)
-
-  get_drop : {A : Type 0} (xs : List A) (b : ℕ) (y : A) (ys : List A) → drop b xs ≡ y ∷ ys → slice_get xs b ≡ Some y
-  get_drop [] zero y ys e = absurd cc
-  get_drop [] (suc b) y ys e = absurd cc
-  get_drop (x ∷ xs) zero y ys e = let f : x ≡ y = cc in ap Some f
-  get_drop (x ∷ xs) (suc b) y ys e = get_drop xs b y ys e
 
   next : (g : ℕ) (t : Option Ty) (ts : List (Option Ty)) → From k g (t ∷ ts) → From k (g + 1) ts
   next g t ts h = from_right g 1 (t ∷ []) ts refl h

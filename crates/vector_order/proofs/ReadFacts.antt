@@ -1,8 +1,9 @@
 -- What class Vector says of the reads at computed indexes.
 use Rattle.std.proofs.Common.{◌≡◌, ◌≢◌, ℕ, suc, ◌+◌, ◌-◌, ◌<◌, ◌≤◌, Bool, true, false, cond, List, [], ◌∷◌, ◌++◌, length, drop, Option, Some, None, ◌⊎◌, inl, inr, refl, sym, ap, ap₂, ◌∙◌, subst, arith}
 use Rattle.std.proofs.lemmas.List.{append_assoc}
-use Rattle.std.specs.Prelude.{ℤ, is_none, bytes_eq, filter_map, ◌||◌}
+use Rattle.std.specs.Prelude.{ℤ, is_none, bytes_eq, filter_map}
 use Rattle.std.specs.List.{list_any, cons_option}
+use Rattle.std.proofs.lemmas.Bool.{or_parts}
 use Rattle.kernel_tree.specs.declared.ops.Ty.{Ty}
 use Rattle.kernel_tree.specs.declared.ops.Ty.TheVariants as ty
 use Rattle.kernel_tree.specs.Plain.{Term, Parameter, Accumulator, PlainLoop, Program}
@@ -29,14 +30,10 @@ use Rattle.vector_order.proofs.CalmKernels.{From, drop_append, drop_twice, many,
 
 -- ---- stores
 
-or_false : (a b : Bool) → a || b ≡ false → (a ≡ false) × (b ≡ false)
-or_false true b e = absurd cc
-or_false false b e = (refl, e)
-
 -- where no item stores, no access does
 no_store : (k : Program) (es : List Entry) → list_any is_storing es ≡ false → list_any is_store (filter_map (stream_of k) es) ≡ false
 no_store k [] h = refl
-no_store k (e ∷ es) h = let parts = or_false (is_storing e) (list_any is_storing es) h in by e.content refl (no_store k es parts.1) parts.0
+no_store k (e ∷ es) h = let parts = or_parts (is_storing e) (list_any is_storing es) h in by e.content refl (no_store k es parts.1) parts.0
   where
     read : (o : Option ℕ) (c : Option ℤ) (item : ℕ) (ss : List Stream) → list_any is_store ss ≡ false → list_any is_store (cons_option (access o c false item) ss) ≡ false
     read None c item ss h = h
@@ -77,7 +74,7 @@ place_name x y n p (q ∷ ps) e f = by (bytes_eq q.name x) (bytes_eq q.name y) r
 -- an array to which no item stores is that of no store
 unstored_place : (k : Program) (a : List ℕ) (p : ℕ) (s : Stream) (es : List Entry) → place_of a k.params ≡ Some p → list_any (stores_to a) es ≡ false → In s (filter_map (stream_of k) es) → s.store ≡ true → (s.param ≡ p → ⊥)
 unstored_place k a p s [] at h is store = absurd is
-unstored_place k a p s (e ∷ es) at h is store = let parts = or_false (stores_to a e) (list_any (stores_to a) es) h in by e.content refl parts.0 is (λ is. unstored_place k a p s es at parts.1 is store)
+unstored_place k a p s (e ∷ es) at h is store = let parts = or_parts (stores_to a e) (list_any (stores_to a) es) h in by e.content refl parts.0 is (λ is. unstored_place k a p s es at parts.1 is store)
   where
     read : (o : Option ℕ) (c : Option ℤ) (item : ℕ) (ss : List Stream) → In s (cons_option (access o c false item) ss) → (In s ss → s.param ≢ p) → s.param ≢ p
     read None c item ss is h = h is

@@ -2,6 +2,7 @@
 use Rattle.std.proofs.Common.{◌≡◌, ℕ, ◌+◌, Bool, true, false, cond, List, [], ◌∷◌, ◌++◌, Option, Some, None, refl, sym, ap, ap₂, ◌∙◌, subst}
 use Rattle.std.specs.Prelude.{ℤ, bytes_eq, find, option_map, option_and_then, is_none, ◌||◌}
 use Rattle.std.specs.List.{list_any}
+use Rattle.std.proofs.lemmas.Bool.{or_parts}
 use Rattle.kernel_tree.specs.declared.ops.Ty.{Ty}
 use Rattle.kernel_tree.specs.Plain.{Term, Literal, Variable, Element, Unary, Operation, Shift, Conversion, Choice, Comparison, Both, Either, Not, Action, Define, Put, Update, Choose, Leave, Block, Done, Then, Otherwise, Nothing, Else, Accumulator, Program}
 use Rattle.kernel_tree.specs.Items.{stream_offset, loop_index, index_items, term_size, action_size, block_size}
@@ -17,7 +18,6 @@ use Rattle.kernel_tree.specs.declared.ops.Ty.TheVariants as ty
 use Rattle.loop_form.specs.Listing.{is_named, names}
 use Rattle.loop_form.specs.LoopItems.{accumulator_of}
 use Rattle.vector_order.specs.Operands.{HasOffset}
-use Rattle.vector_order.proofs.OneAccess.{or_false}
 use Rattle.vector_order.specs.Order.{is_var, is_accumulator}
 use Rattle.kernel_meaning.proofs.ValueRanges.{typed}
 use Rattle.vector_order.proofs.ReadyTerms.{Computed, IsCond, WellFormed, IsWanted, Sourced, Ready}
@@ -46,15 +46,15 @@ ok_right k (x ∷ xs) ys h = ok_right k xs ys h.1
 read_rest : (vs : List Accumulator) (e : Entry) (es : List Entry) → list_any (is_read (e ∷ es)) vs ≡ false → list_any (is_read es) vs ≡ false
 read_rest [] e es h = refl
 read_rest (v ∷ vs) e es h =
-    let parts = or_false (is_read (e ∷ es) v) (list_any (is_read (e ∷ es)) vs) h in
-    let inner = or_false (names v.name e) (is_read es v) parts.0 in
+    let parts = or_parts (is_read (e ∷ es) v) (list_any (is_read (e ∷ es)) vs) h in
+    let inner = or_parts (names v.name e) (is_read es v) parts.0 in
     ap₂ (λ a b. a || b) inner.1 (read_rest vs e es parts.1)
 
 read_name : (vs : List Accumulator) (x : List ℕ) (e : Entry) (es : List Entry) → e.content ≡ IsName x → list_any (is_read (e ∷ es)) vs ≡ false → list_any (is_var x) vs ≡ false
 read_name [] x e es at h = refl
 read_name (v ∷ vs) x e es at h =
-    let parts = or_false (is_read (e ∷ es) v) (list_any (is_read (e ∷ es)) vs) h in
-    let inner = or_false (names v.name e) (is_read es v) parts.0 in
+    let parts = or_parts (is_read (e ∷ es) v) (list_any (is_read (e ∷ es)) vs) h in
+    let inner = or_parts (names v.name e) (is_read es v) parts.0 in
     let mine : bytes_eq x v.name ≡ false = sym (ap (is_named v.name) at) ∙ inner.0 in
     ap₂ (λ a b. a || b) (bytes_swap x v.name mine) (read_name vs x e es at parts.1)
 
