@@ -3,7 +3,7 @@
 ghost use Rattle.std.specs.Prelude.{◌≡◌};
 ghost use Rattle.std.specs.List.{list_any};
 ghost use Rattle.kernel_tree.specs.Plain.{accumulators_of};
-ghost use Rattle.loop_form.specs.View.{content_of, entry_of, entries_view};
+ghost use Rattle.loop_form.specs.View.{entry_of, entries_view};
 ghost use Rattle.dependence.specs.Classes.{accumulator_read, updates_otherwise, is_mixed, mixed_update, is_write, is_break, before_break};
 
 use kernel_tree::{UpdateOp, Var};
