@@ -1,5 +1,5 @@
 -- An array that is visible in a loop is a parameter: its name leads to the parameter's place and to the type of its elements.
-use Rattle.std.proofs.Common.{◌≡◌, ℕ, suc, ◌+◌, Bool, true, false, cond, List, [], ◌∷◌, ◌++◌, Option, Some, None, refl, sym, ap, ◌∙◌, arith}
+use Rattle.std.proofs.Common.{◌≡◌, ℕ, suc, ◌+◌, Bool, true, false, cond, List, [], ◌∷◌, ◌++◌, Option, Some, None, sym, ap, ◌∙◌, arith}
 use Rattle.std.specs.Prelude.{bytes_eq, find, option_map, option_and_then}
 use Rattle.kernel_tree.specs.declared.ops.Ty.{Ty}
 use Rattle.kernel_tree.specs.Plain.{Parameter, Accumulator, PlainLoop, Program}
@@ -16,17 +16,8 @@ use Rattle.kernel_tree.proofs.Names.{no_array, array_before}
 -- each array is a parameter
 abbrev pub Fits : List Parameter → List Local → List Bound → Type 0
 Fits ps vs env = (a : List ℕ) (t : Ty) → array_of vs a ≡ Some t → (p : ℕ) × (operand_at env a ≡ Outer p) × (place_of a ps ≡ Some p) × (type_of_place ps p ≡ Some t)
-  -- ---- at the head of the loop
 
-  where
-    by_test : (b : Bool) → option_and_then element_type (option_map binding_of (cond b (Some (local index binding.Index)) None)) ≡ None
-    by_test true = refl
-    by_test false = refl
-no_array (v ∷ vs) index a = by_test (bytes_eq v.name a) (no_array vs index a)
-  where
-    by_test : (b : Bool) → array_of (accs_of vs ++ local index binding.Index ∷ []) a ≡ None → option_and_then element_type (option_map binding_of (cond b (Some (local v.name (binding.Accumulator v.type))) (find (has_name a) (accs_of vs ++ local index binding.Index ∷ [])))) ≡ None
-    by_test true h = refl
-    by_test false h = h
+-- ---- at the head of the loop
 
 params_fit : (ps : List Parameter) (vs : List Accumulator) (index : List ℕ) (tail : List Bound) (n : ℕ) (a : List ℕ) (t : Ty) → array_of ((locals_of ps ++ accs_of vs) ++ local index binding.Index ∷ []) a ≡ Some t
     → (j : ℕ) × (operand_at (outer_env n (locals_of ps ++ accs_of vs) ++ tail) a ≡ Outer (n + j)) × (place_from a n ps ≡ Some (n + j)) × (type_of_place ps j ≡ Some t)
@@ -49,17 +40,8 @@ head_fits k l a t e =
     let r = params_fit k.params k.vars l.index (bound l.index LoopIndex ∷ []) 0 a t entries_view in
     let zero_first : 0 + r.0 ≡ r.0 = omega arith in
     (r.0, ap (λ vs. operand_at (outer_env 0 vs ++ bound l.index LoopIndex ∷ []) a) (var_visible k) ∙ r.1 ∙ ap Outer zero_first, r.2 ∙ ap Some zero_first, r.3)
-  -- ---- after a `let`
 
-  where
-    by_test : (b : Bool) → option_and_then element_type (option_map binding_of (cond b (Some (local x (binding.Value u))) None)) ≡ Some t → array_of [] a ≡ Some t
-    by_test true e = absurd cc
-    by_test false e = e
-array_before (v ∷ vs) x a u t e = by_test (bytes_eq v.name a) e (array_before vs x a u t)
-  where
-    by_test : (b : Bool) → option_and_then element_type (option_map binding_of (cond b (Some v) (find (has_name a) (vs ++ local x (binding.Value u) ∷ [])))) ≡ Some t → (array_of (vs ++ local x (binding.Value u) ∷ []) a ≡ Some t → array_of vs a ≡ Some t) → option_and_then element_type (option_map binding_of (cond b (Some v) (find (has_name a) vs))) ≡ Some t
-    by_test true e h = e
-    by_test false e h = h e
+-- ---- after a `let`
 
 outer_before : (env more : List Bound) (a : List ℕ) (p : ℕ) → operand_at env a ≡ Outer p → operand_at (env ++ more) a ≡ Outer p
 outer_before [] more a p e = cc

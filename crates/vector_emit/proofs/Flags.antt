@@ -1,7 +1,7 @@
 -- The flags of a test of a predicate.
-use Rattle.std.proofs.Common.{◌≡◌, ℕ, ◌+◌, ◌-◌, ◌*◌, ◌%◌, ◌<◌, ◌≤◌, min, Bool, true, false, ◌&&◌, ltb, List, Option, refl, sym, ap, ap₂, ◌∙◌, arith, ⊎_elim}
+use Rattle.std.proofs.Common.{◌≡◌, ℕ, ◌+◌, ◌-◌, ◌*◌, ◌%◌, ◌<◌, ◌≤◌, Bool, true, false, ◌&&◌, ltb, List, Option, refl, ap, ap₂, ◌∙◌, arith}
 use Rattle.std.specs.Prelude.{is_none}
-use Rattle.std.proofs.lemmas.Bool.{cases_lt, eq-eqb, lt-ltb, le-ltb}
+use Rattle.std.proofs.lemmas.Bool.{eq-eqb, lt-ltb, le-ltb}
 use Rattle.std.proofs.Math.Nat.{mul-le-mul_left}
 use Rattle.guest_types.specs.declared.length.Width.{Width}
 use Rattle.guest_types.specs.declared.length.Width.TheVariants.{B, H, S, D}
@@ -40,10 +40,6 @@ while_none i limit n le = none_true (both all_at (while_at i limit)) n (λ e lt.
 
 pub while_some : (i limit n : ℕ) → 0 < n → i < limit → is_none (first_true (both all_at (while_at i limit)) n 0) ≡ false
 while_some i limit n some lt = some_true (both all_at (while_at i limit)) n 0 some (lt-ltb (i + 0) limit (omega (arith, lt)))
-    ⊎_elim
-    (λ below. lt-ltb (i + e) limit below ∙ sym (lt-ltb e (min n (limit - i)) (omega (arith, below, lt))))
-    (λ past. le-ltb (i + e) limit past ∙ sym (le-ltb e (min n (limit - i)) (omega (arith, past))))
-    (cases_lt (i + e) limit)
 
 -- ---- PTEST
 
