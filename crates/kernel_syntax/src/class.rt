@@ -34,10 +34,7 @@ pub fn operator(token: &Token) -> Option<Operator>
     match token {
         Token::Mark(mark) => mark_operator(*mark),
         Token::Compare(op) => Some(Operator::Compared(*op)),
-        Token::Name(_) => None,
-        Token::Number(_) => None,
-        Token::Type(_) => None,
-        Token::Update(_) => None,
+        _ => None,
     }
 }
 

@@ -37,7 +37,7 @@ fn joined<'a>(
     ensures shorter { IfOk result (λ x. length x.1.now < length tokens.now) }
 {
     let (right, rest) = chain(alloc, tokens, level, room)?;
-    Ok((build::join(alloc, joint, left, right)?, rest))
+    build::read(alloc, build::join(joint, left, right), rest)
 }
 
 // What stands after a comparison.
@@ -57,7 +57,7 @@ fn compared<'a>(
     ensures shorter { IfOk result (λ x. length x.1.now < length tokens.now) }
 {
     let (right, rest) = chain(alloc, tokens, level, room)?;
-    Ok((build::compare(alloc, op, left, right)?, rest))
+    build::read(alloc, Expr::Compare { op, left, right }, rest)
 }
 
 // What stands after a shift.
@@ -73,7 +73,12 @@ fn shifted<'a>(
     ensures shorter { IfOk result (λ x. length x.1.now < length tokens.now) }
 {
     let (count, rest) = expect_number(tokens)?;
-    Ok((build::shift(alloc, to_left, left, count)?, rest))
+    let shift = Expr::Shift {
+        left_shift: to_left,
+        arg: left,
+        count: count.value as i128,
+    };
+    build::read(alloc, shift, rest)
 }
 
 // What stands after the word that begins a conversion.
@@ -88,7 +93,7 @@ fn converted<'a>(
     ensures shorter { IfOk result (λ x. length x.1.now < length tokens.now) }
 {
     let (ty, rest) = expect_type(tokens)?;
-    Ok((build::cast(alloc, left, ty)?, rest))
+    build::read(alloc, Expr::Cast { arg: left, ty }, rest)
 }
 
 // An expression of a level.
@@ -162,13 +167,10 @@ fn begun<'a>(
     ensures shorter { IfOk result (λ x. length x.1.now < length tokens.now) }
 {
     match tokens {
-        [] => Err(Stop::Syntax { left: 0 }),
-        [Token::Number(n), rest @ ..] => Ok((build::literal(alloc, *n)?, rest)),
+        [Token::Number(n), rest @ ..] => build::read(alloc, Expr::Lit(n.value as i128), rest),
         [Token::Name(name), rest @ ..] => named(alloc, name, rest, room),
         [Token::Mark(mark), rest @ ..] => opened(alloc, *mark, rest, room),
-        [Token::Type(_), ..] => Err(Stop::Syntax { left: tokens.len() }),
-        [Token::Compare(_), ..] => Err(Stop::Syntax { left: tokens.len() }),
-        [Token::Update(_), ..] => Err(Stop::Syntax { left: tokens.len() }),
+        _ => Err(Stop::Syntax { left: tokens.len() }),
     }
 }
 
@@ -230,9 +232,9 @@ fn named<'a>(
     match accept(tokens, Mark::OpenBracket) {
         Some(from) => {
             let (index, rest) = term_then(alloc, from, Mark::CloseBracket, room)?;
-            Ok((build::element(alloc, name, index)?, rest))
+            build::read(alloc, Expr::Read { array: name, index }, rest)
         }
-        None => Ok((build::variable(alloc, name)?, tokens)),
+        None => build::read(alloc, Expr::Var(name), tokens),
     }
 }
 
@@ -252,7 +254,7 @@ fn pair<'a>(
     let from = expect(tokens, Mark::OpenParen)?;
     let (left, next) = term_then(alloc, from, Mark::Comma, room)?;
     let (right, rest) = term_then(alloc, next, Mark::CloseParen, room)?;
-    Ok((build::binary(alloc, op, left, right)?, rest))
+    build::read(alloc, Expr::Binary { op, left, right }, rest)
 }
 
 // The argument of an absolute value.
@@ -269,7 +271,8 @@ fn absolute<'a>(
 {
     let from = expect(tokens, Mark::OpenParen)?;
     let (arg, rest) = term_then(alloc, from, Mark::CloseParen, room)?;
-    Ok((build::unary(alloc, UnaryOp::Abs, arg)?, rest))
+    let op = UnaryOp::Abs;
+    build::read(alloc, Expr::Unary { op, arg }, rest)
 }
 
 // The three arguments of a choice.
@@ -288,7 +291,7 @@ fn choice<'a>(
     let (cond, next) = term_then(alloc, from, Mark::Comma, room)?;
     let (yes, last) = term_then(alloc, next, Mark::Comma, room)?;
     let (no, rest) = term_then(alloc, last, Mark::CloseParen, room)?;
-    Ok((build::select(alloc, cond, yes, no)?, rest))
+    build::read(alloc, Expr::Select { cond, yes, no }, rest)
 }
 
 // The number that belongs to a sign in front of it.
@@ -313,11 +316,7 @@ fn front_sign(tokens: &[Token]) -> Option<(Sign, &[Token])>
     match front_mark(tokens) {
         Some((mark, rest)) => match class::opening(mark) {
             Some(Opening::Signed(sign)) => Some((sign, rest)),
-            Some(Opening::Group) => None,
-            Some(Opening::Pair(_)) => None,
-            Some(Opening::Absolute) => None,
-            Some(Opening::Choice) => None,
-            None => None,
+            _ => None,
         },
         None => None,
     }
@@ -330,7 +329,7 @@ fn following_signs(alloc: Global, signs: Vec<Sign>, arg: Box<Expr>) -> Result<Bo
     let mut left = signs;
     let mut expr = arg;
     'more: while let Some(sign) = left.pop() {
-        expr = build::sign(alloc, sign, expr)?;
+        expr = Box::new(alloc, build::sign(sign, expr))?;
     }
     Ok(expr)
 }
@@ -349,10 +348,10 @@ fn operand<'a>(
     ensures shorter { IfOk result (λ x. length x.1.now < length tokens.now) }
 {
     match signed_number(sign, tokens) {
-        Some((n, rest)) => Ok((build::negative(alloc, n)?, rest)),
+        Some((n, rest)) => build::read(alloc, Expr::Lit(-(n.value as i128)), rest),
         None => {
             let (arg, rest) = unary(alloc, tokens, room)?;
-            Ok((build::sign(alloc, sign, arg)?, rest))
+            build::read(alloc, build::sign(sign, arg), rest)
         }
     }
 }

@@ -3,7 +3,7 @@
 ghost use Rattle.std.specs.Prelude.{◌≡◌, ◌≤◌, ◌<◌, length, IfOk, IfSome, option_map};
 ghost use Rattle.kernel_tree.specs.Plain.{name_of, words_of};
 ghost use Rattle.kernel_tree.specs.Grammar.{number_at};
-ghost use Rattle.kernel_syntax.specs.Reading.{Gives, mark_at, name_front, type_front, update_front, following, past, name_at, type_at, count_at, operator_at};
+ghost use Rattle.kernel_syntax.specs.Reading.{Gives, mark_at, update_front, following, past, name_at, type_at, count_at, operator_at};
 
 use crate::class;
 use crate::fault::Stop;
@@ -18,29 +18,8 @@ pub fn front_mark(tokens: &[Token]) -> Option<(Mark, &[Token])>
     ensures shorter { IfSome result (λ x. length x.1.now < length tokens.now) }
 {
     match tokens {
-        [] => None,
         [Token::Mark(mark), rest @ ..] => Some((*mark, rest)),
-        [Token::Name(_), ..] => None,
-        [Token::Number(_), ..] => None,
-        [Token::Type(_), ..] => None,
-        [Token::Compare(_), ..] => None,
-        [Token::Update(_), ..] => None,
-    }
-}
-
-// The name at the front, and the tokens after it.
-fn front_name(tokens: &[Token]) -> Option<(&Name, &[Token])>
-    ensures value { option_map (λ x. (name_of x.0.now, words_of x.1.now)) result ≡ name_front (words_of tokens.now) }
-    ensures shorter { IfSome result (λ x. length x.1.now < length tokens.now) }
-{
-    match tokens {
-        [] => None,
-        [Token::Name(name), rest @ ..] => Some((name, rest)),
-        [Token::Mark(_), ..] => None,
-        [Token::Number(_), ..] => None,
-        [Token::Type(_), ..] => None,
-        [Token::Compare(_), ..] => None,
-        [Token::Update(_), ..] => None,
+        _ => None,
     }
 }
 
@@ -50,29 +29,8 @@ pub fn front_number(tokens: &[Token]) -> Option<(Number, &[Token])>
     ensures shorter { IfSome result (λ x. length x.1.now < length tokens.now) }
 {
     match tokens {
-        [] => None,
         [Token::Number(number), rest @ ..] => Some((*number, rest)),
-        [Token::Mark(_), ..] => None,
-        [Token::Name(_), ..] => None,
-        [Token::Type(_), ..] => None,
-        [Token::Compare(_), ..] => None,
-        [Token::Update(_), ..] => None,
-    }
-}
-
-// The type at the front, and the tokens after it.
-fn front_type(tokens: &[Token]) -> Option<(Ty, &[Token])>
-    ensures value { option_map (λ x. (x.0, words_of x.1.now)) result ≡ type_front (words_of tokens.now) }
-    ensures shorter { IfSome result (λ x. length x.1.now < length tokens.now) }
-{
-    match tokens {
-        [] => None,
-        [Token::Type(ty), rest @ ..] => Some((*ty, rest)),
-        [Token::Mark(_), ..] => None,
-        [Token::Name(_), ..] => None,
-        [Token::Number(_), ..] => None,
-        [Token::Compare(_), ..] => None,
-        [Token::Update(_), ..] => None,
+        _ => None,
     }
 }
 
@@ -82,13 +40,8 @@ pub fn front_update(tokens: &[Token]) -> Option<(UpdateOp, &[Token])>
     ensures shorter { IfSome result (λ x. length x.1.now < length tokens.now) }
 {
     match tokens {
-        [] => None,
         [Token::Update(op), rest @ ..] => Some((*op, rest)),
-        [Token::Mark(_), ..] => None,
-        [Token::Name(_), ..] => None,
-        [Token::Number(_), ..] => None,
-        [Token::Type(_), ..] => None,
-        [Token::Compare(_), ..] => None,
+        _ => None,
     }
 }
 
@@ -132,9 +85,9 @@ pub fn expect_name<'a>(tokens: &'a [Token]) -> Result<(&'a Name, &'a [Token]), S
     ensures value { Gives (λ x. (name_of x.0.now, words_of x.1.now)) result (name_at (words_of tokens.now)) }
     ensures shorter { IfOk result (λ x. length x.1.now < length tokens.now) }
 {
-    match front_name(tokens) {
-        Some((name, rest)) => Ok((name, rest)),
-        None => Err(Stop::Syntax { left: tokens.len() }),
+    match tokens {
+        [Token::Name(name), rest @ ..] => Ok((name, rest)),
+        _ => Err(Stop::Syntax { left: tokens.len() }),
     }
 }
 
@@ -144,9 +97,9 @@ pub fn expect_type<'a>(tokens: &'a [Token]) -> Result<(Ty, &'a [Token]), Stop>
     ensures value { Gives (λ x. (x.0, words_of x.1.now)) result (type_at (words_of tokens.now)) }
     ensures shorter { IfOk result (λ x. length x.1.now < length tokens.now) }
 {
-    match front_type(tokens) {
-        Some((ty, rest)) => Ok((ty, rest)),
-        None => Err(Stop::Syntax { left: tokens.len() }),
+    match tokens {
+        [Token::Type(ty), rest @ ..] => Ok((*ty, rest)),
+        _ => Err(Stop::Syntax { left: tokens.len() }),
     }
 }
 

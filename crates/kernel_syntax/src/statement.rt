@@ -190,13 +190,9 @@ fn statement<'a>(
     ensures shorter { IfOk result (λ x. length x.1.now < length tokens.now) }
 {
     match tokens {
-        [] => Err(Stop::Syntax { left: 0 }),
         [Token::Name(name), rest @ ..] => target(alloc, name, rest),
         [Token::Mark(mark), rest @ ..] => begun(alloc, *mark, rest, whole, room),
-        [Token::Number(_), ..] => Err(Stop::Syntax { left: tokens.len() }),
-        [Token::Type(_), ..] => Err(Stop::Syntax { left: tokens.len() }),
-        [Token::Compare(_), ..] => Err(Stop::Syntax { left: tokens.len() }),
-        [Token::Update(_), ..] => Err(Stop::Syntax { left: tokens.len() }),
+        _ => Err(Stop::Syntax { left: tokens.len() }),
     }
 }
 
