@@ -4,7 +4,7 @@ ghost use Rattle.std.specs.Prelude.{◌≡◌, ◌≤◌, ◌<◌, length, IfOk,
 ghost use Rattle.kernel_tree.specs.Plain.{term_of, name_of, words_of};
 ghost use Rattle.kernel_tree.specs.Grammar.{number_following, opening_of_mark};
 ghost use Rattle.kernel_syntax.specs.Reading.{Gives, chain_at, unary_at, term_before, name_by, pair_by, absolute_by, choice_by, signed_by, opened_by, unary_by, sign_front};
-ghost use Rattle.kernel_syntax.specs.Operands.{joined_by, compared_by, shifted_by, converted_by};
+ghost use Rattle.kernel_syntax.specs.Operands.{extended_by};
 ghost use Rattle.kernel_syntax.specs.Signs.{all_signed};
 
 use crate::fault::Stop;
@@ -12,20 +12,20 @@ use crate::front::{
     accept, copy_name, expect, expect_number, expect_type, front_mark, front_number, front_operator,
 };
 use crate::{build, class};
-use kernel_tree::mark::{Joint, Mark, Opening, Operator, Sign};
+use kernel_tree::mark::{Mark, Opening, Operator, Sign};
 use kernel_tree::token::{Number, Token};
-use kernel_tree::{BinaryOp, CompareOp, Expr, Name, UnaryOp};
+use kernel_tree::{BinaryOp, Expr, Name, UnaryOp};
 use std::alloc::{AllocError, Global};
 
 // The loosest level, that of any expression.
 const ANY: u8 = 10;
 
-// What stands after an operator that joins operands.
+// What an operator and what stands after it make of a first operand.
 #[cycle(expression)]
-#[tactic(auto, unfolding(crate::specs::Operands::joined_by))]
-fn joined<'a>(
+#[tactic(auto, unfolding(crate::specs::Operands::joined_by, crate::specs::Operands::compared_by, crate::specs::Operands::shifted_by, crate::specs::Operands::converted_by))]
+fn extended<'a>(
     alloc: Global,
-    joint: Joint,
+    operator: Operator,
     left: Box<Expr>,
     tokens: &'a [Token],
     level: u8,
@@ -33,67 +33,32 @@ fn joined<'a>(
 ) -> Result<(Box<Expr>, &'a [Token]), Stop>
     requires { level ≤ 9 }
     ensures value { Gives (λ x. (term_of x.0.value, words_of x.1.now)) result
-        (joined_by (chain_at (unary_at room) level) joint (term_of left.value) (words_of tokens.now)) }
+        (extended_by (chain_at (unary_at room) level) operator (term_of left.value) (words_of tokens.now)) }
     ensures shorter { IfOk result (λ x. length x.1.now < length tokens.now) }
 {
-    let (right, rest) = chain(alloc, tokens, level, room)?;
-    build::read(alloc, build::join(joint, left, right), rest)
-}
-
-// What stands after a comparison.
-#[cycle(expression)]
-#[tactic(auto, unfolding(crate::specs::Operands::compared_by))]
-fn compared<'a>(
-    alloc: Global,
-    op: CompareOp,
-    left: Box<Expr>,
-    tokens: &'a [Token],
-    level: u8,
-    room: usize,
-) -> Result<(Box<Expr>, &'a [Token]), Stop>
-    requires { level ≤ 9 }
-    ensures value { Gives (λ x. (term_of x.0.value, words_of x.1.now)) result
-        (compared_by (chain_at (unary_at room) level) op (term_of left.value) (words_of tokens.now)) }
-    ensures shorter { IfOk result (λ x. length x.1.now < length tokens.now) }
-{
-    let (right, rest) = chain(alloc, tokens, level, room)?;
-    build::read(alloc, Expr::Compare { op, left, right }, rest)
-}
-
-// What stands after a shift.
-#[tactic(auto, unfolding(crate::specs::Operands::shifted_by))]
-fn shifted<'a>(
-    alloc: Global,
-    to_left: bool,
-    left: Box<Expr>,
-    tokens: &'a [Token],
-) -> Result<(Box<Expr>, &'a [Token]), Stop>
-    ensures value { Gives (λ x. (term_of x.0.value, words_of x.1.now)) result
-        (shifted_by to_left (term_of left.value) (words_of tokens.now)) }
-    ensures shorter { IfOk result (λ x. length x.1.now < length tokens.now) }
-{
-    let (count, rest) = expect_number(tokens)?;
-    let shift = Expr::Shift {
-        left_shift: to_left,
-        arg: left,
-        count: count.value as i128,
-    };
-    build::read(alloc, shift, rest)
-}
-
-// What stands after the word that begins a conversion.
-#[tactic(auto, unfolding(crate::specs::Operands::converted_by))]
-fn converted<'a>(
-    alloc: Global,
-    left: Box<Expr>,
-    tokens: &'a [Token],
-) -> Result<(Box<Expr>, &'a [Token]), Stop>
-    ensures value { Gives (λ x. (term_of x.0.value, words_of x.1.now)) result
-        (converted_by (term_of left.value) (words_of tokens.now)) }
-    ensures shorter { IfOk result (λ x. length x.1.now < length tokens.now) }
-{
-    let (ty, rest) = expect_type(tokens)?;
-    build::read(alloc, Expr::Cast { arg: left, ty }, rest)
+    match operator {
+        Operator::Joined(joint) => {
+            let (right, rest) = chain(alloc, tokens, level, room)?;
+            build::read(alloc, build::join(joint, left, right), rest)
+        }
+        Operator::Compared(op) => {
+            let (right, rest) = chain(alloc, tokens, level, room)?;
+            build::read(alloc, Expr::Compare { op, left, right }, rest)
+        }
+        Operator::Shifted(to_left) => {
+            let (count, rest) = expect_number(tokens)?;
+            let shift = Expr::Shift {
+                left_shift: to_left,
+                arg: left,
+                count: count.value as i128,
+            };
+            build::read(alloc, shift, rest)
+        }
+        Operator::As => {
+            let (ty, rest) = expect_type(tokens)?;
+            build::read(alloc, Expr::Cast { arg: left, ty }, rest)
+        }
+    }
 }
 
 // An expression of a level.
@@ -116,24 +81,12 @@ fn chain<'a>(
     let mut left = first;
     let mut rest = following;
     'more: while let Some((operator, after)) = front_operator(rest, level) {
-        match operator {
-            Operator::Joined(joint) => {
-                let (whole, next) = joined(alloc, joint, left, after, level - 1, room)?;
-                left = whole;
-                rest = next;
-            }
-            Operator::Compared(op) => return compared(alloc, op, left, after, level - 1, room),
-            Operator::Shifted(to_left) => {
-                let (whole, next) = shifted(alloc, to_left, left, after)?;
-                left = whole;
-                rest = next;
-            }
-            Operator::As => {
-                let (whole, next) = converted(alloc, left, after)?;
-                left = whole;
-                rest = next;
-            }
+        let (whole, next) = extended(alloc, operator, left, after, level - 1, room)?;
+        if class::compares(operator) {
+            return Ok((whole, next));
         }
+        left = whole;
+        rest = next;
     }
     Ok((left, rest))
 }

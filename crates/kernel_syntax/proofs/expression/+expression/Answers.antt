@@ -1,11 +1,10 @@
-use Rattle.std.proofs.Common.{◌≡◌, ◌-◌, ◌<◌, length, Err, Some, refl, ◌∙◌, ap, arith}
+use Rattle.std.proofs.Common.{◌≡◌, ◌-◌, ◌<◌, length, Err, refl, sym, ◌∙◌, ap, arith}
 use Rattle.std.proofs.lemmas.Result.{err_from_is_err_and}
 use Rattle.std.proofs.lemmas.List.{length-map}
 use Rattle.kernel_tree.specs.Plain.{term_of, words_of, word_of}
-use Rattle.kernel_tree.specs.declared.mark.Operator.TheVariants.{Joined, Compared, Shifted, As}
-use Rattle.kernel_syntax.specs.Reading.{operator_at, chain_at, unary_at, signed_by, choice_by, pair_by, absolute_by, term_before}
+use Rattle.kernel_syntax.specs.Reading.{chain_at, unary_at, signed_by, choice_by, pair_by, absolute_by, term_before}
 use Rattle.kernel_syntax.specs.Operands.{joined_by, compared_by}
-use Rattle.kernel_syntax.proofs.Chain.{chain-zero, chain-above, fails_on, begins, ends, takes_joined, takes_shifted, takes_as, compared_is, refuses_joined, refuses_shifted, refuses_as}
+use Rattle.kernel_syntax.proofs.Chain.{chain-zero, chain-above, fails_on, begins, ends, takes, ends_at, refuses}
 use Rattle.kernel_syntax.proofs.Rooms.{unary-some}
 use Rattle.kernel_syntax.proofs.SignRows.{wraps_none, wraps_more, wraps_fails, wraps_stops, wraps_all}
 use Rattle.kernel_syntax.proofs.expression.+expression.Goals as goal
@@ -21,46 +20,18 @@ chain-returns-in_err-first-clause-value t c =
 pub chain-more-init : goal.chain-more-init
 chain-more-init t c = (c.in_ok-first.ensures.shorter, begins (unary_at c.args.room) c.args.level (words_of c.args.tokens.now) _ _ (omega arith) c.in_ok-first.ensures.value)
 
-pub chain-returns-in_err-whole-in-Joined-clause-value : goal.chain-returns-in_err-whole-in-Joined-clause-value
-chain-returns-in_err-whole-in-Joined-clause-value t c =
-    let found : Some (Joined c.in-Joined.joint, words_of c.in-Some.after.now) ≡ operator_at c.args.level (words_of c.more.rest.now) = rw c.in-Joined.is at c.in-Some.ensures.value in
-    let p = err_from_is_err_and c.from_residual-in_err-whole-in-Joined.result c.from_residual-in_err-whole-in-Joined.ensures.1 in
-    rw (p.1, p.2) (refuses_joined (unary_at c.args.room) c.args.level (words_of c.args.tokens.now) (term_of c.more.left.value) (words_of c.more.rest.now) c.more.invariant.1 c.in-Joined.joint (words_of c.in-Some.after.now) _ found c.in_err-whole-in-Joined.ensures.value)
+pub chain-returns-in_err-whole-clause-value : goal.chain-returns-in_err-whole-clause-value
+chain-returns-in_err-whole-clause-value t c =
+    let p = err_from_is_err_and c.from_residual-in_err-whole.result c.from_residual-in_err-whole.ensures.1 in
+    rw (p.1, p.2) (refuses (unary_at c.args.room) c.args.level (words_of c.args.tokens.now) (term_of c.more.left.value) (words_of c.more.rest.now) c.more.invariant.1 c.in-Some.operator (words_of c.in-Some.after.now) _ c.in-Some.ensures.value c.in_err-whole.ensures.value)
 
-pub chain-more-preserved-in-Joined : goal.chain-more-preserved-in-Joined
-chain-more-preserved-in-Joined t c =
-    let found : Some (Joined c.in-Joined.joint, words_of c.in-Some.after.now) ≡ operator_at c.args.level (words_of c.more.rest.now) = rw c.in-Joined.is at c.in-Some.ensures.value in
-    let short : length (words_of c.in_ok-whole-in-Joined.next.now) < length (words_of c.more.rest.now) = omega (arith, c.in_ok-whole-in-Joined.ensures.shorter, c.in-Some.ensures.shorter, length-map c.in_ok-whole-in-Joined.next.now word_of, length-map c.more.rest.now word_of) in
-    (omega (arith, c.in_ok-whole-in-Joined.ensures.shorter, c.in-Some.ensures.shorter), (takes_joined (unary_at c.args.room) c.args.level (words_of c.args.tokens.now) (term_of c.more.left.value) (words_of c.more.rest.now) c.more.invariant.1 c.in-Joined.joint (words_of c.in-Some.after.now) _ _ found c.in_ok-whole-in-Joined.ensures.value short))
-
-pub chain-returns-in-Compared-clause-value : goal.chain-returns-in-Compared-clause-value
-chain-returns-in-Compared-clause-value t c =
-    let found : Some (Compared c.in-Compared.op, words_of c.in-Some.after.now) ≡ operator_at c.args.level (words_of c.more.rest.now) = rw c.in-Compared.is at c.in-Some.ensures.value in
-    rw (compared_is (unary_at c.args.room) c.args.level (words_of c.args.tokens.now) (term_of c.more.left.value) (words_of c.more.rest.now) c.more.invariant.1 c.in-Compared.op (words_of c.in-Some.after.now) found) c.compared.ensures.value
-
-pub chain-returns-in_err-whole-in-Shifted-clause-value : goal.chain-returns-in_err-whole-in-Shifted-clause-value
-chain-returns-in_err-whole-in-Shifted-clause-value t c =
-    let found : Some (Shifted c.in-Shifted.to_left, words_of c.in-Some.after.now) ≡ operator_at c.args.level (words_of c.more.rest.now) = rw c.in-Shifted.is at c.in-Some.ensures.value in
-    let p = err_from_is_err_and c.from_residual-in_err-whole-in-Shifted.result c.from_residual-in_err-whole-in-Shifted.ensures.1 in
-    rw (p.1, p.2) (refuses_shifted (unary_at c.args.room) c.args.level (words_of c.args.tokens.now) (term_of c.more.left.value) (words_of c.more.rest.now) c.more.invariant.1 c.in-Shifted.to_left (words_of c.in-Some.after.now) _ found c.in_err-whole-in-Shifted.ensures.value)
-
-pub chain-more-preserved-in-Shifted : goal.chain-more-preserved-in-Shifted
-chain-more-preserved-in-Shifted t c =
-    let found : Some (Shifted c.in-Shifted.to_left, words_of c.in-Some.after.now) ≡ operator_at c.args.level (words_of c.more.rest.now) = rw c.in-Shifted.is at c.in-Some.ensures.value in
-    let short : length (words_of c.in_ok-whole-in-Shifted.next.now) < length (words_of c.more.rest.now) = omega (arith, c.in_ok-whole-in-Shifted.ensures.shorter, c.in-Some.ensures.shorter, length-map c.in_ok-whole-in-Shifted.next.now word_of, length-map c.more.rest.now word_of) in
-    (omega (arith, c.in_ok-whole-in-Shifted.ensures.shorter, c.in-Some.ensures.shorter), (takes_shifted (unary_at c.args.room) c.args.level (words_of c.args.tokens.now) (term_of c.more.left.value) (words_of c.more.rest.now) c.more.invariant.1 c.in-Shifted.to_left (words_of c.in-Some.after.now) _ _ found c.in_ok-whole-in-Shifted.ensures.value short))
-
-pub chain-returns-in_err-whole-in-As-clause-value : goal.chain-returns-in_err-whole-in-As-clause-value
-chain-returns-in_err-whole-in-As-clause-value t c =
-    let found : Some (As, words_of c.in-Some.after.now) ≡ operator_at c.args.level (words_of c.more.rest.now) = rw c.in-As.is at c.in-Some.ensures.value in
-    let p = err_from_is_err_and c.from_residual-in_err-whole-in-As.result c.from_residual-in_err-whole-in-As.ensures.1 in
-    rw (p.1, p.2) (refuses_as (unary_at c.args.room) c.args.level (words_of c.args.tokens.now) (term_of c.more.left.value) (words_of c.more.rest.now) c.more.invariant.1 (words_of c.in-Some.after.now) _ found c.in_err-whole-in-As.ensures.value)
+pub chain-returns-then-compares-clause-value : goal.chain-returns-then-compares-clause-value
+chain-returns-then-compares-clause-value t c = ends_at (unary_at c.args.room) c.args.level (words_of c.args.tokens.now) (term_of c.more.left.value) (words_of c.more.rest.now) c.more.invariant.1 c.in-Some.operator (words_of c.in-Some.after.now) _ _ c.in-Some.ensures.value c.in_ok-whole.ensures.value (sym c.compares.ensures ∙ c.if-compares.true)
 
 pub chain-more-preserved : goal.chain-more-preserved
 chain-more-preserved t c =
-    let found : Some (As, words_of c.in-Some.after.now) ≡ operator_at c.args.level (words_of c.more.rest.now) = rw c.in-As.is at c.in-Some.ensures.value in
-    let short : length (words_of c.in_ok-whole-in-As.next.now) < length (words_of c.more.rest.now) = omega (arith, c.in_ok-whole-in-As.ensures.shorter, c.in-Some.ensures.shorter, length-map c.in_ok-whole-in-As.next.now word_of, length-map c.more.rest.now word_of) in
-    (omega (arith, c.in_ok-whole-in-As.ensures.shorter, c.in-Some.ensures.shorter), (takes_as (unary_at c.args.room) c.args.level (words_of c.args.tokens.now) (term_of c.more.left.value) (words_of c.more.rest.now) c.more.invariant.1 (words_of c.in-Some.after.now) _ _ found c.in_ok-whole-in-As.ensures.value short))
+    let short : length (words_of c.in_ok-whole.next.now) < length (words_of c.more.rest.now) = omega (arith, c.in_ok-whole.ensures.shorter, c.in-Some.ensures.shorter, length-map c.in_ok-whole.next.now word_of, length-map c.more.rest.now word_of) in
+    (omega (arith, c.in_ok-whole.ensures.shorter, c.in-Some.ensures.shorter), (takes (unary_at c.args.room) c.args.level (words_of c.args.tokens.now) (term_of c.more.left.value) (words_of c.more.rest.now) c.more.invariant.1 c.in-Some.operator (words_of c.in-Some.after.now) _ _ c.in-Some.ensures.value c.in_ok-whole.ensures.value (sym c.compares.ensures ∙ c.if-compares.false) short))
 
 pub chain-returns-clause-value : goal.chain-returns-clause-value
 chain-returns-clause-value t c = ends (unary_at c.args.room) c.args.level (words_of c.args.tokens.now) (term_of c.more.left.value) (words_of c.more.rest.now) c.more.invariant.1 c.in_default.ensures.value
@@ -155,14 +126,14 @@ term_then-returns-in_err-expect-clause-value t c =
     let p = err_from_is_err_and c.from_residual-in_err-expect.result c.from_residual-in_err-expect.ensures.1 in
     rw (p.1, p.2, c.in_ok-e.ensures.value) (fails_on _ _ _ _ refl c.in_err-expect.ensures.value)
 
-pub joined-returns-in_err-right-clause-value : goal.joined-returns-in_err-right-clause-value
+pub extended-returns-in_err-right-in-Joined-clause-value : goal.extended-returns-in_err-right-in-Joined-clause-value
 unfolding joined_by
-joined-returns-in_err-right-clause-value t c =
+extended-returns-in_err-right-in-Joined-clause-value t c =
     let p = err_from_is_err_and c.from_residual.result c.from_residual.ensures.1 in
-    rw (p.1, p.2) (fails_on _ _ _ _ refl c.in_err-right.ensures.value)
+    rw (p.1, p.2, c.in-Joined.is) (fails_on _ _ _ _ refl c.in_err-right-in-Joined.ensures.value)
 
-pub compared-returns-in_err-right-clause-value : goal.compared-returns-in_err-right-clause-value
+pub extended-returns-in_err-right-in-Compared-clause-value : goal.extended-returns-in_err-right-in-Compared-clause-value
 unfolding compared_by
-compared-returns-in_err-right-clause-value t c =
-    let p = err_from_is_err_and c.from_residual.result c.from_residual.ensures.1 in
-    rw (p.1, p.2) (fails_on _ _ _ _ refl c.in_err-right.ensures.value)
+extended-returns-in_err-right-in-Compared-clause-value t c =
+    let p = err_from_is_err_and c.from_residual-in_err-right-in-Compared.result c.from_residual-in_err-right-in-Compared.ensures.1 in
+    rw (p.1, p.2, c.in-Compared.is) (fails_on _ _ _ _ refl c.in_err-right-in-Compared.ensures.value)
