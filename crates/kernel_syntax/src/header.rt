@@ -51,8 +51,7 @@ fn parameter<'a>(alloc: Global, tokens: &'a [Token]) -> Result<(Param, &'a [Toke
 
 // One to eight parameters and the parenthesis after them.
 fn some_params<'a>(alloc: Global, tokens: &'a [Token]) -> Result<(Vec<Param>, &'a [Token]), Stop>
-    ensures value { Gives (λ x. (parameters_of x.0.items, words_of x.1.now)) result (some_at 7 (words_of tokens.now)) }
-    ensures shorter { IfOk result (λ x. length x.1.now < length tokens.now) }
+    ensures { Gives (λ x. (parameters_of x.0.items, words_of x.1.now)) result (some_at 7 (words_of tokens.now)) }
 {
     let mut params = Vec::new(alloc);
     let mut rest = tokens;
@@ -77,8 +76,7 @@ fn some_params<'a>(alloc: Global, tokens: &'a [Token]) -> Result<(Vec<Param>, &'
 // The parameters and the parenthesis after them.
 #[tactic(auto, unfolding(crate::specs::Headers::params_at))]
 pub fn params<'a>(alloc: Global, tokens: &'a [Token]) -> Result<(Vec<Param>, &'a [Token]), Stop>
-    ensures value { Gives (λ x. (parameters_of x.0.items, words_of x.1.now)) result (params_at (words_of tokens.now)) }
-    ensures shorter { IfOk result (λ x. length x.1.now < length tokens.now) }
+    ensures { Gives (λ x. (parameters_of x.0.items, words_of x.1.now)) result (params_at (words_of tokens.now)) }
 {
     match accept(tokens, Mark::CloseParen) {
         Some(rest) => Ok((Vec::new(alloc), rest)),
@@ -104,8 +102,7 @@ fn accumulator<'a>(alloc: Global, tokens: &'a [Token]) -> Result<(Var, &'a [Toke
 
 // The accumulators at the front.
 pub fn vars<'a>(alloc: Global, tokens: &'a [Token]) -> Result<(Vec<Var>, &'a [Token]), Stop>
-    ensures value { Gives (λ x. (accumulators_of x.0.items, words_of x.1.now)) result (vars_at (words_of tokens.now)) }
-    ensures shorter { IfOk result (λ x. length x.1.now ≤ length tokens.now) }
+    ensures { Gives (λ x. (accumulators_of x.0.items, words_of x.1.now)) result (vars_at (words_of tokens.now)) }
 {
     let mut vars = Vec::new(alloc);
     let mut rest = tokens;
@@ -120,8 +117,7 @@ pub fn vars<'a>(alloc: Global, tokens: &'a [Token]) -> Result<(Vec<Var>, &'a [To
 // The number 0 that must stand at the front.
 #[tactic(auto, unfolding(crate::specs::Headers::zero_at))]
 fn expect_zero<'a>(tokens: &'a [Token]) -> Result<&'a [Token], Stop>
-    ensures value { Gives (λ rest. words_of rest.now) result (zero_at (words_of tokens.now)) }
-    ensures shorter { IfOk result (λ rest. length rest.now < length tokens.now) }
+    ensures { Gives (λ rest. words_of rest.now) result (zero_at (words_of tokens.now)) }
 {
     match front_number(tokens) {
         Some((number, rest)) => {
@@ -149,8 +145,7 @@ fn loop_of(alloc: Global, index: &Name, bound: &Name, body: Vec<Stmt>) -> Result
 // What stands after the word that begins a loop.
 #[tactic(auto, unfolding(crate::specs::Headers::for_loop_at))]
 fn for_loop<'a>(alloc: Global, tokens: &'a [Token]) -> Result<(Loop, &'a [Token]), Stop>
-    ensures value { Gives (λ x. (for_loop_of x.0, words_of x.1.now)) result (for_loop_at (words_of tokens.now)) }
-    ensures shorter { IfOk result (λ x. length x.1.now < length tokens.now) }
+    ensures { Gives (λ x. (for_loop_of x.0, words_of x.1.now)) result (for_loop_at (words_of tokens.now)) }
 {
     let (index, following) = expect_name(tokens)?;
     let from = expect(following, Mark::In)?;
@@ -165,8 +160,7 @@ fn for_loop<'a>(alloc: Global, tokens: &'a [Token]) -> Result<(Loop, &'a [Token]
 // The loop at the front, if there is one.
 #[tactic(auto, unfolding(crate::specs::Headers::loop_at))]
 pub fn body<'a>(alloc: Global, tokens: &'a [Token]) -> Result<(Option<Loop>, &'a [Token]), Stop>
-    ensures value { Gives (λ x. (option_map for_loop_of x.0, words_of x.1.now)) result (loop_at (words_of tokens.now)) }
-    ensures shorter { IfOk result (λ x. length x.1.now ≤ length tokens.now) }
+    ensures { Gives (λ x. (option_map for_loop_of x.0, words_of x.1.now)) result (loop_at (words_of tokens.now)) }
 {
     match accept(tokens, Mark::For) {
         Some(from) => {
@@ -180,8 +174,7 @@ pub fn body<'a>(alloc: Global, tokens: &'a [Token]) -> Result<(Option<Loop>, &'a
 // What stands after the parameters: the type of what is returned, if anything is, and the brace.
 #[tactic(auto, unfolding(crate::specs::Headers::tail_at))]
 pub fn tail<'a>(tokens: &'a [Token]) -> Result<(Option<Ty>, &'a [Token]), Stop>
-    ensures value { Gives (λ x. (x.0, words_of x.1.now)) result (tail_at (words_of tokens.now)) }
-    ensures shorter { IfOk result (λ x. length x.1.now < length tokens.now) }
+    ensures { Gives (λ x. (x.0, words_of x.1.now)) result (tail_at (words_of tokens.now)) }
 {
     match accept(tokens, Mark::OpenBrace) {
         Some(rest) => Ok((None, rest)),
@@ -201,9 +194,8 @@ pub fn read_answer<'a>(
     ty: Option<Ty>,
     tokens: &'a [Token],
 ) -> Result<(Option<Answer>, &'a [Token]), Stop>
-    ensures value { Gives (λ x. (option_map returned_of x.0, words_of x.1.now)) result
+    ensures { Gives (λ x. (option_map returned_of x.0, words_of x.1.now)) result
         (answer_by ty (words_of tokens.now)) }
-    ensures shorter { IfOk result (λ x. length x.1.now < length tokens.now) }
 {
     match ty {
         None => {

@@ -9,8 +9,8 @@ use Rattle.kernel_syntax.proofs.header.vars.Goals as goal
 pub more-init : goal.more-init
 more-init c = record { short = omega arith; follows = rw c.new-vars.ensures.items (vars_start (words_of c.args.tokens.now)) }
 
-pub returns-in_err-var-clause-value : goal.returns-in_err-var-clause-value
-returns-in_err-var-clause-value c =
+pub returns-in_err-var : goal.returns-in_err-var
+returns-in_err-var c =
     let p = err_from_is_err_and c.from_residual.result c.from_residual.ensures.1 in
     rw (p.1, p.2) (fails_accumulator (vars_at (words_of c.args.tokens.now)) (accumulators_of c.more.vars.items) (words_of c.more.rest.now) c.more.invariant.follows (words_of c.in-Some.from.now) _ c.in-Some.ensures.value c.in_err-var.ensures.value)
 
@@ -23,5 +23,5 @@ more-preserved c =
       follows = rw (c.in_ok-push.ensures.items, map-append) (takes_accumulator (vars_at (words_of c.args.tokens.now)) (accumulators_of c.more.vars.items) (words_of c.more.rest.now) c.more.invariant.follows (words_of c.in-Some.from.now) (accumulator_of c.in_ok-var.var) (words_of next) c.in-Some.ensures.value c.in_ok-var.ensures.value less);
     }
 
-pub returns-clause-value : goal.returns-clause-value
-returns-clause-value c = ends_accumulators (vars_at (words_of c.args.tokens.now)) (accumulators_of c.more.vars.items) (words_of c.more.rest.now) c.more.invariant.follows c.in_default.ensures.value
+pub returns : goal.returns
+returns c = ends_accumulators (vars_at (words_of c.args.tokens.now)) (accumulators_of c.more.vars.items) (words_of c.more.rest.now) c.more.invariant.follows c.in_default.ensures.value
