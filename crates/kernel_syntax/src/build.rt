@@ -1,6 +1,6 @@
 //! Nodes of the tree, each in a box of its own.
 
-ghost use Rattle.std.specs.Prelude.{◌≡◌, List, Ok, IfOk};
+ghost use Rattle.std.specs.Prelude.{◌≡◌, List, Ok};
 ghost use Rattle.kernel_tree.specs.Plain.{Term, term_of, words_of};
 ghost use Rattle.kernel_tree.specs.TextToken.{TextToken};
 ghost use Rattle.kernel_tree.specs.Grammar.{joined, signed};
@@ -18,9 +18,8 @@ pub fn read<'a>(
     expr: Expr,
     rest: &'a [Token],
 ) -> Result<(Box<Expr>, &'a [Token]), Stop>
-    ensures value { Gives {Y = Term × List TextToken} (λ x. (term_of x.0.value, words_of x.1.now)) result
+    ensures { Gives {Y = Term × List TextToken} (λ x. (term_of x.0.value, words_of x.1.now)) result
         (Ok (term_of expr, words_of rest.now)) }
-    ensures rest { IfOk result (λ x. x.1.now ≡ rest.now) }
 {
     Ok((Box::new(alloc, expr)?, rest))
 }

@@ -32,9 +32,8 @@ fn extended<'a>(
     room: usize,
 ) -> Result<(Box<Expr>, &'a [Token]), Stop>
     requires { level ≤ 9 }
-    ensures value { Gives (λ x. (term_of x.0.value, words_of x.1.now)) result
+    ensures { Gives (λ x. (term_of x.0.value, words_of x.1.now)) result
         (extended_by (chain_at (unary_at room) level) operator (term_of left.value) (words_of tokens.now)) }
-    ensures shorter { IfOk result (λ x. length x.1.now < length tokens.now) }
 {
     match operator {
         Operator::Joined(joint) => {
@@ -70,9 +69,8 @@ fn chain<'a>(
     room: usize,
 ) -> Result<(Box<Expr>, &'a [Token]), Stop>
     requires { level ≤ 10 }
-    ensures value { Gives (λ x. (term_of x.0.value, words_of x.1.now)) result
+    ensures { Gives (λ x. (term_of x.0.value, words_of x.1.now)) result
         (chain_at (unary_at room) level (words_of tokens.now)) }
-    ensures shorter { IfOk result (λ x. length x.1.now < length tokens.now) }
 {
     if level == 0 {
         return unary(alloc, tokens, room);
@@ -99,8 +97,7 @@ fn unary<'a>(
     tokens: &'a [Token],
     room: usize,
 ) -> Result<(Box<Expr>, &'a [Token]), Stop>
-    ensures value { Gives (λ x. (term_of x.0.value, words_of x.1.now)) result (unary_at room (words_of tokens.now)) }
-    ensures shorter { IfOk result (λ x. length x.1.now < length tokens.now) }
+    ensures { Gives (λ x. (term_of x.0.value, words_of x.1.now)) result (unary_at room (words_of tokens.now)) }
 {
     if room == 0 {
         return Err(Stop::Syntax { left: tokens.len() });
@@ -115,9 +112,8 @@ fn begun<'a>(
     tokens: &'a [Token],
     room: usize,
 ) -> Result<(Box<Expr>, &'a [Token]), Stop>
-    ensures value { Gives (λ x. (term_of x.0.value, words_of x.1.now)) result
+    ensures { Gives (λ x. (term_of x.0.value, words_of x.1.now)) result
         (unary_by (chain_at (unary_at room) 10) (unary_at room) (words_of tokens.now)) }
-    ensures shorter { IfOk result (λ x. length x.1.now < length tokens.now) }
 {
     match tokens {
         [Token::Number(n), rest @ ..] => build::read(alloc, Expr::Lit(n.value as i128), rest),
@@ -135,9 +131,8 @@ fn opened<'a>(
     tokens: &'a [Token],
     room: usize,
 ) -> Result<(Box<Expr>, &'a [Token]), Stop>
-    ensures value { Gives (λ x. (term_of x.0.value, words_of x.1.now)) result
+    ensures { Gives (λ x. (term_of x.0.value, words_of x.1.now)) result
         (opened_by (chain_at (unary_at room) 10) (unary_at room) (opening_of_mark mark) (words_of tokens.now)) }
-    ensures shorter { IfOk result (λ x. length x.1.now < length tokens.now) }
 {
     match class::opening(mark) {
         Some(Opening::Group) => term_then(alloc, tokens, Mark::CloseParen, room),
@@ -160,9 +155,8 @@ pub fn term_then<'a>(
     mark: Mark,
     room: usize,
 ) -> Result<(Box<Expr>, &'a [Token]), Stop>
-    ensures value { Gives (λ x. (term_of x.0.value, words_of x.1.now)) result
+    ensures { Gives (λ x. (term_of x.0.value, words_of x.1.now)) result
         (term_before (chain_at (unary_at room) 10) mark (words_of tokens.now)) }
-    ensures shorter { IfOk result (λ x. length x.1.now < length tokens.now) }
 {
     let (e, following) = chain(alloc, tokens, ANY, room)?;
     Ok((e, expect(following, mark)?))
@@ -177,9 +171,8 @@ fn named<'a>(
     tokens: &'a [Token],
     room: usize,
 ) -> Result<(Box<Expr>, &'a [Token]), Stop>
-    ensures value { Gives (λ x. (term_of x.0.value, words_of x.1.now)) result
+    ensures { Gives (λ x. (term_of x.0.value, words_of x.1.now)) result
         (name_by (chain_at (unary_at room) 10) (name_of name.now) (words_of tokens.now)) }
-    ensures shorter { IfOk result (λ x. length x.1.now ≤ length tokens.now) }
 {
     let name = copy_name(alloc, name)?;
     match accept(tokens, Mark::OpenBracket) {
@@ -200,9 +193,8 @@ fn pair<'a>(
     tokens: &'a [Token],
     room: usize,
 ) -> Result<(Box<Expr>, &'a [Token]), Stop>
-    ensures value { Gives (λ x. (term_of x.0.value, words_of x.1.now)) result
+    ensures { Gives (λ x. (term_of x.0.value, words_of x.1.now)) result
         (pair_by (chain_at (unary_at room) 10) op (words_of tokens.now)) }
-    ensures shorter { IfOk result (λ x. length x.1.now < length tokens.now) }
 {
     let from = expect(tokens, Mark::OpenParen)?;
     let (left, next) = term_then(alloc, from, Mark::Comma, room)?;
@@ -218,9 +210,8 @@ fn absolute<'a>(
     tokens: &'a [Token],
     room: usize,
 ) -> Result<(Box<Expr>, &'a [Token]), Stop>
-    ensures value { Gives (λ x. (term_of x.0.value, words_of x.1.now)) result
+    ensures { Gives (λ x. (term_of x.0.value, words_of x.1.now)) result
         (absolute_by (chain_at (unary_at room) 10) (words_of tokens.now)) }
-    ensures shorter { IfOk result (λ x. length x.1.now < length tokens.now) }
 {
     let from = expect(tokens, Mark::OpenParen)?;
     let (arg, rest) = term_then(alloc, from, Mark::CloseParen, room)?;
@@ -236,9 +227,8 @@ fn choice<'a>(
     tokens: &'a [Token],
     room: usize,
 ) -> Result<(Box<Expr>, &'a [Token]), Stop>
-    ensures value { Gives (λ x. (term_of x.0.value, words_of x.1.now)) result
+    ensures { Gives (λ x. (term_of x.0.value, words_of x.1.now)) result
         (choice_by (chain_at (unary_at room) 10) (words_of tokens.now)) }
-    ensures shorter { IfOk result (λ x. length x.1.now < length tokens.now) }
 {
     let from = expect(tokens, Mark::OpenParen)?;
     let (cond, next) = term_then(alloc, from, Mark::Comma, room)?;
@@ -249,9 +239,8 @@ fn choice<'a>(
 
 // The number that belongs to a sign in front of it.
 fn signed_number(sign: Sign, tokens: &[Token]) -> Option<(Number, &[Token])>
-    ensures value { option_map (λ x. (x.0.value, words_of x.1.now)) result
+    ensures { option_map (λ x. (x.0.value, words_of x.1.now)) result
         ≡ number_following sign (words_of tokens.now) }
-    ensures shorter { IfSome result (λ x. length x.1.now < length tokens.now) }
 {
     match sign {
         Sign::Minus => front_number(tokens),
@@ -296,9 +285,8 @@ fn operand<'a>(
     tokens: &'a [Token],
     room: usize,
 ) -> Result<(Box<Expr>, &'a [Token]), Stop>
-    ensures value { Gives (λ x. (term_of x.0.value, words_of x.1.now)) result
+    ensures { Gives (λ x. (term_of x.0.value, words_of x.1.now)) result
         (signed_by (unary_at room) sign (words_of tokens.now)) }
-    ensures shorter { IfOk result (λ x. length x.1.now < length tokens.now) }
 {
     match signed_number(sign, tokens) {
         Some((n, rest)) => build::read(alloc, Expr::Lit(-(n.value as i128)), rest),
@@ -317,9 +305,8 @@ fn signed<'a>(
     tokens: &'a [Token],
     room: usize,
 ) -> Result<(Box<Expr>, &'a [Token]), Stop>
-    ensures value { Gives (λ x. (term_of x.0.value, words_of x.1.now)) result
+    ensures { Gives (λ x. (term_of x.0.value, words_of x.1.now)) result
         (signed_by (unary_at room) sign (words_of tokens.now)) }
-    ensures shorter { IfOk result (λ x. length x.1.now < length tokens.now) }
 {
     let mut signs = Vec::new(alloc);
     let mut last = sign;

@@ -1,6 +1,6 @@
 //! Parameters, accumulators, the loop and the returned value.
 
-ghost use Rattle.std.specs.Prelude.{◌≡◌, ◌≤◌, ◌<◌, length, IfOk, IfSome, option_map};
+ghost use Rattle.std.specs.Prelude.{◌≡◌, IfOk, option_map};
 ghost use Rattle.kernel_tree.specs.Plain.{name_of, words_of, parameter_of, parameters_of, accumulator_of, accumulators_of, for_loop_of, returned_of};
 ghost use Rattle.kernel_syntax.specs.Reading.{Gives};
 ghost use Rattle.kernel_syntax.specs.Headers.{shape_at, param_at, some_at, params_at, var_at, vars_at, zero_at, for_loop_at, loop_at, tail_at, answer_by};
@@ -16,8 +16,7 @@ use std::alloc::{AllocError, Global};
 // What stands after the colon of a parameter.
 #[tactic(auto, unfolding(crate::specs::Headers::shape_at))]
 fn read_shape<'a>(tokens: &'a [Token]) -> Result<(Shape, &'a [Token]), Stop>
-    ensures value { Gives (λ x. (x.0, words_of x.1.now)) result (shape_at (words_of tokens.now)) }
-    ensures shorter { IfOk result (λ x. length x.1.now < length tokens.now) }
+    ensures { Gives (λ x. (x.0, words_of x.1.now)) result (shape_at (words_of tokens.now)) }
 {
     match accept(tokens, Mark::OpenBracket) {
         Some(from) => {
@@ -34,8 +33,7 @@ fn read_shape<'a>(tokens: &'a [Token]) -> Result<(Shape, &'a [Token]), Stop>
 
 #[tactic(auto, unfolding(crate::specs::Headers::param_at))]
 fn parameter<'a>(alloc: Global, tokens: &'a [Token]) -> Result<(Param, &'a [Token]), Stop>
-    ensures value { Gives (λ x. (parameter_of x.0, words_of x.1.now)) result (param_at (words_of tokens.now)) }
-    ensures shorter { IfOk result (λ x. length x.1.now < length tokens.now) }
+    ensures { Gives (λ x. (parameter_of x.0, words_of x.1.now)) result (param_at (words_of tokens.now)) }
 {
     let (name, following) = expect_name(tokens)?;
     let from = expect(following, Mark::Colon)?;
@@ -68,7 +66,8 @@ fn some_params<'a>(alloc: Global, tokens: &'a [Token]) -> Result<(Vec<Param>, &'
                 left: following.len(),
             });
         }
-        rest = expect(following, Mark::Comma)?;
+        let next = expect(following, Mark::Comma)?;
+        rest = next;
         others -= 1;
     }
 }
@@ -87,8 +86,7 @@ pub fn params<'a>(alloc: Global, tokens: &'a [Token]) -> Result<(Vec<Param>, &'a
 // What stands after the word that begins an accumulator.
 #[tactic(auto, unfolding(crate::specs::Headers::var_at))]
 fn accumulator<'a>(alloc: Global, tokens: &'a [Token]) -> Result<(Var, &'a [Token]), Stop>
-    ensures value { Gives (λ x. (accumulator_of x.0, words_of x.1.now)) result (var_at (words_of tokens.now)) }
-    ensures shorter { IfOk result (λ x. length x.1.now < length tokens.now) }
+    ensures { Gives (λ x. (accumulator_of x.0, words_of x.1.now)) result (var_at (words_of tokens.now)) }
 {
     let (name, following) = expect_name(tokens)?;
     let from = expect(following, Mark::Colon)?;
