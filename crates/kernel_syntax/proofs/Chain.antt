@@ -1,5 +1,5 @@
 -- A chain of operators of one level, as far as a loop has read it.
-use Rattle.std.proofs.Common.{◌≡◌, ℕ, zero, suc, ◌-◌, ◌<◌, Bool, List, length, Some, None, Result, Ok, Err, refl, sym, ap, subst, ◌∙◌, arith}
+use Rattle.std.proofs.Common.{◌≡◌, ℕ, zero, suc, ◌-◌, ◌<◌, Bool, true, false, List, length, Some, None, Result, Ok, Err, refl, sym, ap, subst, ◌∙◌, arith}
 use Rattle.std.specs.Prelude.{pos}
 use Rattle.kernel_tree.specs.declared.ops.Ty.{Ty}
 use Rattle.kernel_tree.specs.declared.ops.CompareOp.{CompareOp}
@@ -11,7 +11,7 @@ use Rattle.kernel_tree.specs.Plain.{Term, Comparison, Conversion, Shift}
 use Rattle.kernel_tree.specs.Grammar.{joined}
 use Rattle.kernel_syntax.specs.declared.fault.Stop.{Stop}
 use Rattle.kernel_syntax.specs.declared.fault.Stop.TheVariants as stop
-use Rattle.kernel_syntax.specs.Operands.{joined_by, compared_by, shifted_by, converted_by}
+use Rattle.kernel_syntax.specs.Operands.{joined_by, compared_by, shifted_by, converted_by, extended_by, is_comparison}
 use Rattle.kernel_syntax.specs.Reading.{◌>>=◌, Fails, given, Outcome, by_operator, operator_at, type_at, count_at, more, chain_at}
 
 pub chain-zero : (unary : List TextToken → Outcome) (level : ℕ) (words : List TextToken) → level ≡ 0 → chain_at unary level words ≡ unary words
@@ -106,3 +106,22 @@ module _ (unary : List TextToken → Outcome) (level : ℕ) (words : List TextTo
   pub refuses_as : (after : List TextToken) (f : Stop) → Some (As, after) ≡ operator_at level rest → Fails f (converted_by left after) → Fails f (chain_at unary level words)
   unfolding converted_by
   refuses_as after f e h = subst (Fails f) (sym (step As after e)) (fails_made f (type_at after) (λ t. (Conversion left t.0, t.1)) (more (chain_at unary (level - 1)) level goes.room) h)
+
+  -- by what any operator makes
+  pub takes : (o : Operator) (after : List TextToken) (new : Term) (next : List TextToken) → Some (o, after) ≡ operator_at level rest → extended_by (chain_at unary (level - 1)) o left after ≡ Ok (new, next) → is_comparison o ≡ false → length next < length rest → Goes unary level words new next
+  takes (Joined j) after new next e r c lt = takes_joined j after new next e r lt
+  takes (Compared op) after new next e r c lt = absurd cc
+  takes (Shifted to_left) after new next e r c lt = takes_shifted to_left after new next e r lt
+  takes As after new next e r c lt = takes_as after new next e r lt
+
+  pub ends_at : (o : Operator) (after : List TextToken) (new : Term) (next : List TextToken) → Some (o, after) ≡ operator_at level rest → extended_by (chain_at unary (level - 1)) o left after ≡ Ok (new, next) → is_comparison o ≡ true → chain_at unary level words ≡ Ok (new, next)
+  ends_at (Joined j) after new next e r c = absurd cc
+  ends_at (Compared op) after new next e r c = compared_is op after e ∙ r
+  ends_at (Shifted to_left) after new next e r c = absurd cc
+  ends_at As after new next e r c = absurd cc
+
+  pub refuses : (o : Operator) (after : List TextToken) (f : Stop) → Some (o, after) ≡ operator_at level rest → Fails f (extended_by (chain_at unary (level - 1)) o left after) → Fails f (chain_at unary level words)
+  refuses (Joined j) after f e h = refuses_joined j after f e h
+  refuses (Compared op) after f e h = subst (Fails f) (sym (compared_is op after e)) h
+  refuses (Shifted to_left) after f e h = refuses_shifted to_left after f e h
+  refuses As after f e h = refuses_as after f e h

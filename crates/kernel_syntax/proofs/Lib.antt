@@ -17,6 +17,7 @@ pub mod StuckKernel
 pub mod Within
 pub mod Reach
 pub mod WithinKernel
+pub mod Shorter
 pub mod ReachActions
 pub mod ReachKernel
 pub mod Extend

@@ -3,6 +3,7 @@
 ghost use Rattle.std.specs.Prelude.{◌≡◌};
 ghost use Rattle.kernel_tree.specs.Plain.{word_of};
 ghost use Rattle.kernel_tree.specs.Grammar.{operator_of, operator_of_mark, opening_of_mark, beginning_of_mark, level_of, level_of_joint, level_of_dual};
+ghost use Rattle.kernel_syntax.specs.Operands.{is_comparison};
 
 use kernel_tree::BinaryOp;
 use kernel_tree::mark::{Beginning, Joint, Mark, Opening, Operator, Sign};
@@ -34,10 +35,7 @@ pub fn operator(token: &Token) -> Option<Operator>
     match token {
         Token::Mark(mark) => mark_operator(*mark),
         Token::Compare(op) => Some(Operator::Compared(*op)),
-        Token::Name(_) => None,
-        Token::Number(_) => None,
-        Token::Type(_) => None,
-        Token::Update(_) => None,
+        _ => None,
     }
 }
 
@@ -62,6 +60,13 @@ fn joint_level(joint: Joint) -> u8
         Joint::Both => 9,
         Joint::Either => 10,
     }
+}
+
+// Whether an operator is a comparison, after which nothing of its level goes on.
+pub fn compares(operator: Operator) -> bool
+    ensures { result ≡ is_comparison operator }
+{
+    matches!(operator, Operator::Compared(_))
 }
 
 // The level of the expressions that an operator makes.

@@ -4,7 +4,7 @@ ghost use Rattle.std.specs.Prelude.{◌≡◌, ◌≤◌, ◌<◌, length, IfOk,
 ghost use Rattle.kernel_tree.specs.Plain.{term_of, name_of, words_of};
 ghost use Rattle.kernel_tree.specs.Grammar.{number_following, opening_of_mark};
 ghost use Rattle.kernel_syntax.specs.Reading.{Gives, chain_at, unary_at, term_before, name_by, pair_by, absolute_by, choice_by, signed_by, opened_by, unary_by, sign_front};
-ghost use Rattle.kernel_syntax.specs.Operands.{joined_by, compared_by, shifted_by, converted_by};
+ghost use Rattle.kernel_syntax.specs.Operands.{extended_by};
 ghost use Rattle.kernel_syntax.specs.Signs.{all_signed};
 
 use crate::fault::Stop;
@@ -12,83 +12,52 @@ use crate::front::{
     accept, copy_name, expect, expect_number, expect_type, front_mark, front_number, front_operator,
 };
 use crate::{build, class};
-use kernel_tree::mark::{Joint, Mark, Opening, Operator, Sign};
+use kernel_tree::mark::{Mark, Opening, Operator, Sign};
 use kernel_tree::token::{Number, Token};
-use kernel_tree::{BinaryOp, CompareOp, Expr, Name, UnaryOp};
+use kernel_tree::{BinaryOp, Expr, Name, UnaryOp};
 use std::alloc::{AllocError, Global};
 
 // The loosest level, that of any expression.
 const ANY: u8 = 10;
 
-// What stands after an operator that joins operands.
+// What an operator and what stands after it make of a first operand.
 #[cycle(expression)]
-#[tactic(auto, unfolding(crate::specs::Operands::joined_by))]
-fn joined<'a>(
+#[tactic(auto, unfolding(crate::specs::Operands::joined_by, crate::specs::Operands::compared_by, crate::specs::Operands::shifted_by, crate::specs::Operands::converted_by))]
+fn extended<'a>(
     alloc: Global,
-    joint: Joint,
+    operator: Operator,
     left: Box<Expr>,
     tokens: &'a [Token],
     level: u8,
     room: usize,
 ) -> Result<(Box<Expr>, &'a [Token]), Stop>
     requires { level ≤ 9 }
-    ensures value { Gives (λ x. (term_of x.0.value, words_of x.1.now)) result
-        (joined_by (chain_at (unary_at room) level) joint (term_of left.value) (words_of tokens.now)) }
-    ensures shorter { IfOk result (λ x. length x.1.now < length tokens.now) }
+    ensures { Gives (λ x. (term_of x.0.value, words_of x.1.now)) result
+        (extended_by (chain_at (unary_at room) level) operator (term_of left.value) (words_of tokens.now)) }
 {
-    let (right, rest) = chain(alloc, tokens, level, room)?;
-    Ok((build::join(alloc, joint, left, right)?, rest))
-}
-
-// What stands after a comparison.
-#[cycle(expression)]
-#[tactic(auto, unfolding(crate::specs::Operands::compared_by))]
-fn compared<'a>(
-    alloc: Global,
-    op: CompareOp,
-    left: Box<Expr>,
-    tokens: &'a [Token],
-    level: u8,
-    room: usize,
-) -> Result<(Box<Expr>, &'a [Token]), Stop>
-    requires { level ≤ 9 }
-    ensures value { Gives (λ x. (term_of x.0.value, words_of x.1.now)) result
-        (compared_by (chain_at (unary_at room) level) op (term_of left.value) (words_of tokens.now)) }
-    ensures shorter { IfOk result (λ x. length x.1.now < length tokens.now) }
-{
-    let (right, rest) = chain(alloc, tokens, level, room)?;
-    Ok((build::compare(alloc, op, left, right)?, rest))
-}
-
-// What stands after a shift.
-#[tactic(auto, unfolding(crate::specs::Operands::shifted_by))]
-fn shifted<'a>(
-    alloc: Global,
-    to_left: bool,
-    left: Box<Expr>,
-    tokens: &'a [Token],
-) -> Result<(Box<Expr>, &'a [Token]), Stop>
-    ensures value { Gives (λ x. (term_of x.0.value, words_of x.1.now)) result
-        (shifted_by to_left (term_of left.value) (words_of tokens.now)) }
-    ensures shorter { IfOk result (λ x. length x.1.now < length tokens.now) }
-{
-    let (count, rest) = expect_number(tokens)?;
-    Ok((build::shift(alloc, to_left, left, count)?, rest))
-}
-
-// What stands after the word that begins a conversion.
-#[tactic(auto, unfolding(crate::specs::Operands::converted_by))]
-fn converted<'a>(
-    alloc: Global,
-    left: Box<Expr>,
-    tokens: &'a [Token],
-) -> Result<(Box<Expr>, &'a [Token]), Stop>
-    ensures value { Gives (λ x. (term_of x.0.value, words_of x.1.now)) result
-        (converted_by (term_of left.value) (words_of tokens.now)) }
-    ensures shorter { IfOk result (λ x. length x.1.now < length tokens.now) }
-{
-    let (ty, rest) = expect_type(tokens)?;
-    Ok((build::cast(alloc, left, ty)?, rest))
+    match operator {
+        Operator::Joined(joint) => {
+            let (right, rest) = chain(alloc, tokens, level, room)?;
+            build::read(alloc, build::join(joint, left, right), rest)
+        }
+        Operator::Compared(op) => {
+            let (right, rest) = chain(alloc, tokens, level, room)?;
+            build::read(alloc, Expr::Compare { op, left, right }, rest)
+        }
+        Operator::Shifted(to_left) => {
+            let (count, rest) = expect_number(tokens)?;
+            let shift = Expr::Shift {
+                left_shift: to_left,
+                arg: left,
+                count: count.value as i128,
+            };
+            build::read(alloc, shift, rest)
+        }
+        Operator::As => {
+            let (ty, rest) = expect_type(tokens)?;
+            build::read(alloc, Expr::Cast { arg: left, ty }, rest)
+        }
+    }
 }
 
 // An expression of a level.
@@ -100,9 +69,8 @@ fn chain<'a>(
     room: usize,
 ) -> Result<(Box<Expr>, &'a [Token]), Stop>
     requires { level ≤ 10 }
-    ensures value { Gives (λ x. (term_of x.0.value, words_of x.1.now)) result
+    ensures { Gives (λ x. (term_of x.0.value, words_of x.1.now)) result
         (chain_at (unary_at room) level (words_of tokens.now)) }
-    ensures shorter { IfOk result (λ x. length x.1.now < length tokens.now) }
 {
     if level == 0 {
         return unary(alloc, tokens, room);
@@ -111,24 +79,12 @@ fn chain<'a>(
     let mut left = first;
     let mut rest = following;
     'more: while let Some((operator, after)) = front_operator(rest, level) {
-        match operator {
-            Operator::Joined(joint) => {
-                let (whole, next) = joined(alloc, joint, left, after, level - 1, room)?;
-                left = whole;
-                rest = next;
-            }
-            Operator::Compared(op) => return compared(alloc, op, left, after, level - 1, room),
-            Operator::Shifted(to_left) => {
-                let (whole, next) = shifted(alloc, to_left, left, after)?;
-                left = whole;
-                rest = next;
-            }
-            Operator::As => {
-                let (whole, next) = converted(alloc, left, after)?;
-                left = whole;
-                rest = next;
-            }
+        let (whole, next) = extended(alloc, operator, left, after, level - 1, room)?;
+        if class::compares(operator) {
+            return Ok((whole, next));
         }
+        left = whole;
+        rest = next;
     }
     Ok((left, rest))
 }
@@ -141,8 +97,7 @@ fn unary<'a>(
     tokens: &'a [Token],
     room: usize,
 ) -> Result<(Box<Expr>, &'a [Token]), Stop>
-    ensures value { Gives (λ x. (term_of x.0.value, words_of x.1.now)) result (unary_at room (words_of tokens.now)) }
-    ensures shorter { IfOk result (λ x. length x.1.now < length tokens.now) }
+    ensures { Gives (λ x. (term_of x.0.value, words_of x.1.now)) result (unary_at room (words_of tokens.now)) }
 {
     if room == 0 {
         return Err(Stop::Syntax { left: tokens.len() });
@@ -157,18 +112,14 @@ fn begun<'a>(
     tokens: &'a [Token],
     room: usize,
 ) -> Result<(Box<Expr>, &'a [Token]), Stop>
-    ensures value { Gives (λ x. (term_of x.0.value, words_of x.1.now)) result
+    ensures { Gives (λ x. (term_of x.0.value, words_of x.1.now)) result
         (unary_by (chain_at (unary_at room) 10) (unary_at room) (words_of tokens.now)) }
-    ensures shorter { IfOk result (λ x. length x.1.now < length tokens.now) }
 {
     match tokens {
-        [] => Err(Stop::Syntax { left: 0 }),
-        [Token::Number(n), rest @ ..] => Ok((build::literal(alloc, *n)?, rest)),
+        [Token::Number(n), rest @ ..] => build::read(alloc, Expr::Lit(n.value as i128), rest),
         [Token::Name(name), rest @ ..] => named(alloc, name, rest, room),
         [Token::Mark(mark), rest @ ..] => opened(alloc, *mark, rest, room),
-        [Token::Type(_), ..] => Err(Stop::Syntax { left: tokens.len() }),
-        [Token::Compare(_), ..] => Err(Stop::Syntax { left: tokens.len() }),
-        [Token::Update(_), ..] => Err(Stop::Syntax { left: tokens.len() }),
+        _ => Err(Stop::Syntax { left: tokens.len() }),
     }
 }
 
@@ -180,9 +131,8 @@ fn opened<'a>(
     tokens: &'a [Token],
     room: usize,
 ) -> Result<(Box<Expr>, &'a [Token]), Stop>
-    ensures value { Gives (λ x. (term_of x.0.value, words_of x.1.now)) result
+    ensures { Gives (λ x. (term_of x.0.value, words_of x.1.now)) result
         (opened_by (chain_at (unary_at room) 10) (unary_at room) (opening_of_mark mark) (words_of tokens.now)) }
-    ensures shorter { IfOk result (λ x. length x.1.now < length tokens.now) }
 {
     match class::opening(mark) {
         Some(Opening::Group) => term_then(alloc, tokens, Mark::CloseParen, room),
@@ -205,9 +155,8 @@ pub fn term_then<'a>(
     mark: Mark,
     room: usize,
 ) -> Result<(Box<Expr>, &'a [Token]), Stop>
-    ensures value { Gives (λ x. (term_of x.0.value, words_of x.1.now)) result
+    ensures { Gives (λ x. (term_of x.0.value, words_of x.1.now)) result
         (term_before (chain_at (unary_at room) 10) mark (words_of tokens.now)) }
-    ensures shorter { IfOk result (λ x. length x.1.now < length tokens.now) }
 {
     let (e, following) = chain(alloc, tokens, ANY, room)?;
     Ok((e, expect(following, mark)?))
@@ -222,17 +171,16 @@ fn named<'a>(
     tokens: &'a [Token],
     room: usize,
 ) -> Result<(Box<Expr>, &'a [Token]), Stop>
-    ensures value { Gives (λ x. (term_of x.0.value, words_of x.1.now)) result
+    ensures { Gives (λ x. (term_of x.0.value, words_of x.1.now)) result
         (name_by (chain_at (unary_at room) 10) (name_of name.now) (words_of tokens.now)) }
-    ensures shorter { IfOk result (λ x. length x.1.now ≤ length tokens.now) }
 {
     let name = copy_name(alloc, name)?;
     match accept(tokens, Mark::OpenBracket) {
         Some(from) => {
             let (index, rest) = term_then(alloc, from, Mark::CloseBracket, room)?;
-            Ok((build::element(alloc, name, index)?, rest))
+            build::read(alloc, Expr::Read { array: name, index }, rest)
         }
-        None => Ok((build::variable(alloc, name)?, tokens)),
+        None => build::read(alloc, Expr::Var(name), tokens),
     }
 }
 
@@ -245,14 +193,13 @@ fn pair<'a>(
     tokens: &'a [Token],
     room: usize,
 ) -> Result<(Box<Expr>, &'a [Token]), Stop>
-    ensures value { Gives (λ x. (term_of x.0.value, words_of x.1.now)) result
+    ensures { Gives (λ x. (term_of x.0.value, words_of x.1.now)) result
         (pair_by (chain_at (unary_at room) 10) op (words_of tokens.now)) }
-    ensures shorter { IfOk result (λ x. length x.1.now < length tokens.now) }
 {
     let from = expect(tokens, Mark::OpenParen)?;
     let (left, next) = term_then(alloc, from, Mark::Comma, room)?;
     let (right, rest) = term_then(alloc, next, Mark::CloseParen, room)?;
-    Ok((build::binary(alloc, op, left, right)?, rest))
+    build::read(alloc, Expr::Binary { op, left, right }, rest)
 }
 
 // The argument of an absolute value.
@@ -263,13 +210,13 @@ fn absolute<'a>(
     tokens: &'a [Token],
     room: usize,
 ) -> Result<(Box<Expr>, &'a [Token]), Stop>
-    ensures value { Gives (λ x. (term_of x.0.value, words_of x.1.now)) result
+    ensures { Gives (λ x. (term_of x.0.value, words_of x.1.now)) result
         (absolute_by (chain_at (unary_at room) 10) (words_of tokens.now)) }
-    ensures shorter { IfOk result (λ x. length x.1.now < length tokens.now) }
 {
     let from = expect(tokens, Mark::OpenParen)?;
     let (arg, rest) = term_then(alloc, from, Mark::CloseParen, room)?;
-    Ok((build::unary(alloc, UnaryOp::Abs, arg)?, rest))
+    let op = UnaryOp::Abs;
+    build::read(alloc, Expr::Unary { op, arg }, rest)
 }
 
 // The three arguments of a choice.
@@ -280,22 +227,20 @@ fn choice<'a>(
     tokens: &'a [Token],
     room: usize,
 ) -> Result<(Box<Expr>, &'a [Token]), Stop>
-    ensures value { Gives (λ x. (term_of x.0.value, words_of x.1.now)) result
+    ensures { Gives (λ x. (term_of x.0.value, words_of x.1.now)) result
         (choice_by (chain_at (unary_at room) 10) (words_of tokens.now)) }
-    ensures shorter { IfOk result (λ x. length x.1.now < length tokens.now) }
 {
     let from = expect(tokens, Mark::OpenParen)?;
     let (cond, next) = term_then(alloc, from, Mark::Comma, room)?;
     let (yes, last) = term_then(alloc, next, Mark::Comma, room)?;
     let (no, rest) = term_then(alloc, last, Mark::CloseParen, room)?;
-    Ok((build::select(alloc, cond, yes, no)?, rest))
+    build::read(alloc, Expr::Select { cond, yes, no }, rest)
 }
 
 // The number that belongs to a sign in front of it.
 fn signed_number(sign: Sign, tokens: &[Token]) -> Option<(Number, &[Token])>
-    ensures value { option_map (λ x. (x.0.value, words_of x.1.now)) result
+    ensures { option_map (λ x. (x.0.value, words_of x.1.now)) result
         ≡ number_following sign (words_of tokens.now) }
-    ensures shorter { IfSome result (λ x. length x.1.now < length tokens.now) }
 {
     match sign {
         Sign::Minus => front_number(tokens),
@@ -313,11 +258,7 @@ fn front_sign(tokens: &[Token]) -> Option<(Sign, &[Token])>
     match front_mark(tokens) {
         Some((mark, rest)) => match class::opening(mark) {
             Some(Opening::Signed(sign)) => Some((sign, rest)),
-            Some(Opening::Group) => None,
-            Some(Opening::Pair(_)) => None,
-            Some(Opening::Absolute) => None,
-            Some(Opening::Choice) => None,
-            None => None,
+            _ => None,
         },
         None => None,
     }
@@ -330,7 +271,7 @@ fn following_signs(alloc: Global, signs: Vec<Sign>, arg: Box<Expr>) -> Result<Bo
     let mut left = signs;
     let mut expr = arg;
     'more: while let Some(sign) = left.pop() {
-        expr = build::sign(alloc, sign, expr)?;
+        expr = Box::new(alloc, build::sign(sign, expr))?;
     }
     Ok(expr)
 }
@@ -344,15 +285,14 @@ fn operand<'a>(
     tokens: &'a [Token],
     room: usize,
 ) -> Result<(Box<Expr>, &'a [Token]), Stop>
-    ensures value { Gives (λ x. (term_of x.0.value, words_of x.1.now)) result
+    ensures { Gives (λ x. (term_of x.0.value, words_of x.1.now)) result
         (signed_by (unary_at room) sign (words_of tokens.now)) }
-    ensures shorter { IfOk result (λ x. length x.1.now < length tokens.now) }
 {
     match signed_number(sign, tokens) {
-        Some((n, rest)) => Ok((build::negative(alloc, n)?, rest)),
+        Some((n, rest)) => build::read(alloc, Expr::Lit(-(n.value as i128)), rest),
         None => {
             let (arg, rest) = unary(alloc, tokens, room)?;
-            Ok((build::sign(alloc, sign, arg)?, rest))
+            build::read(alloc, build::sign(sign, arg), rest)
         }
     }
 }
@@ -365,9 +305,8 @@ fn signed<'a>(
     tokens: &'a [Token],
     room: usize,
 ) -> Result<(Box<Expr>, &'a [Token]), Stop>
-    ensures value { Gives (λ x. (term_of x.0.value, words_of x.1.now)) result
+    ensures { Gives (λ x. (term_of x.0.value, words_of x.1.now)) result
         (signed_by (unary_at room) sign (words_of tokens.now)) }
-    ensures shorter { IfOk result (λ x. length x.1.now < length tokens.now) }
 {
     let mut signs = Vec::new(alloc);
     let mut last = sign;

@@ -1,9 +1,9 @@
 //! Single tokens at the front of some tokens.
 
-ghost use Rattle.std.specs.Prelude.{◌≡◌, ◌≤◌, ◌<◌, length, IfOk, IfSome, option_map};
+ghost use Rattle.std.specs.Prelude.{◌≡◌, ◌<◌, length, IfOk, IfSome, option_map};
 ghost use Rattle.kernel_tree.specs.Plain.{name_of, words_of};
 ghost use Rattle.kernel_tree.specs.Grammar.{number_at};
-ghost use Rattle.kernel_syntax.specs.Reading.{Gives, mark_at, name_front, type_front, update_front, following, past, name_at, type_at, count_at, operator_at};
+ghost use Rattle.kernel_syntax.specs.Reading.{Gives, mark_at, update_front, following, past, name_at, type_at, count_at, operator_at};
 
 use crate::class;
 use crate::fault::Stop;
@@ -18,77 +18,28 @@ pub fn front_mark(tokens: &[Token]) -> Option<(Mark, &[Token])>
     ensures shorter { IfSome result (λ x. length x.1.now < length tokens.now) }
 {
     match tokens {
-        [] => None,
         [Token::Mark(mark), rest @ ..] => Some((*mark, rest)),
-        [Token::Name(_), ..] => None,
-        [Token::Number(_), ..] => None,
-        [Token::Type(_), ..] => None,
-        [Token::Compare(_), ..] => None,
-        [Token::Update(_), ..] => None,
-    }
-}
-
-// The name at the front, and the tokens after it.
-fn front_name(tokens: &[Token]) -> Option<(&Name, &[Token])>
-    ensures value { option_map (λ x. (name_of x.0.now, words_of x.1.now)) result ≡ name_front (words_of tokens.now) }
-    ensures shorter { IfSome result (λ x. length x.1.now < length tokens.now) }
-{
-    match tokens {
-        [] => None,
-        [Token::Name(name), rest @ ..] => Some((name, rest)),
-        [Token::Mark(_), ..] => None,
-        [Token::Number(_), ..] => None,
-        [Token::Type(_), ..] => None,
-        [Token::Compare(_), ..] => None,
-        [Token::Update(_), ..] => None,
+        _ => None,
     }
 }
 
 // The number at the front, and the tokens after it.
 pub fn front_number(tokens: &[Token]) -> Option<(Number, &[Token])>
-    ensures value { option_map (λ x. (x.0.value, words_of x.1.now)) result ≡ number_at (words_of tokens.now) }
-    ensures shorter { IfSome result (λ x. length x.1.now < length tokens.now) }
+    ensures { option_map (λ x. (x.0.value, words_of x.1.now)) result ≡ number_at (words_of tokens.now) }
 {
     match tokens {
-        [] => None,
         [Token::Number(number), rest @ ..] => Some((*number, rest)),
-        [Token::Mark(_), ..] => None,
-        [Token::Name(_), ..] => None,
-        [Token::Type(_), ..] => None,
-        [Token::Compare(_), ..] => None,
-        [Token::Update(_), ..] => None,
-    }
-}
-
-// The type at the front, and the tokens after it.
-fn front_type(tokens: &[Token]) -> Option<(Ty, &[Token])>
-    ensures value { option_map (λ x. (x.0, words_of x.1.now)) result ≡ type_front (words_of tokens.now) }
-    ensures shorter { IfSome result (λ x. length x.1.now < length tokens.now) }
-{
-    match tokens {
-        [] => None,
-        [Token::Type(ty), rest @ ..] => Some((*ty, rest)),
-        [Token::Mark(_), ..] => None,
-        [Token::Name(_), ..] => None,
-        [Token::Number(_), ..] => None,
-        [Token::Compare(_), ..] => None,
-        [Token::Update(_), ..] => None,
+        _ => None,
     }
 }
 
 // The update at the front, and the tokens after it.
 pub fn front_update(tokens: &[Token]) -> Option<(UpdateOp, &[Token])>
-    ensures value { option_map (λ x. (x.0, words_of x.1.now)) result ≡ update_front (words_of tokens.now) }
-    ensures shorter { IfSome result (λ x. length x.1.now < length tokens.now) }
+    ensures { option_map (λ x. (x.0, words_of x.1.now)) result ≡ update_front (words_of tokens.now) }
 {
     match tokens {
-        [] => None,
         [Token::Update(op), rest @ ..] => Some((*op, rest)),
-        [Token::Mark(_), ..] => None,
-        [Token::Name(_), ..] => None,
-        [Token::Number(_), ..] => None,
-        [Token::Type(_), ..] => None,
-        [Token::Compare(_), ..] => None,
+        _ => None,
     }
 }
 
@@ -107,8 +58,7 @@ pub fn accept<'a>(tokens: &'a [Token], mark: Mark) -> Option<&'a [Token]>
 // The tokens after a mark, which must stand at the front.
 #[tactic(auto, unfolding(crate::specs::Reading::past))]
 pub fn expect<'a>(tokens: &'a [Token], mark: Mark) -> Result<&'a [Token], Stop>
-    ensures value { Gives (λ rest. words_of rest.now) result (past mark (words_of tokens.now)) }
-    ensures shorter { IfOk result (λ rest. length rest.now < length tokens.now) }
+    ensures { Gives (λ rest. words_of rest.now) result (past mark (words_of tokens.now)) }
 {
     match accept(tokens, mark) {
         Some(rest) => Ok(rest),
@@ -129,32 +79,29 @@ pub fn copy_name(alloc: Global, name: &Name) -> Result<Name, AllocError>
 // The name that must stand at the front.
 #[tactic(auto, unfolding(crate::specs::Reading::name_at))]
 pub fn expect_name<'a>(tokens: &'a [Token]) -> Result<(&'a Name, &'a [Token]), Stop>
-    ensures value { Gives (λ x. (name_of x.0.now, words_of x.1.now)) result (name_at (words_of tokens.now)) }
-    ensures shorter { IfOk result (λ x. length x.1.now < length tokens.now) }
+    ensures { Gives (λ x. (name_of x.0.now, words_of x.1.now)) result (name_at (words_of tokens.now)) }
 {
-    match front_name(tokens) {
-        Some((name, rest)) => Ok((name, rest)),
-        None => Err(Stop::Syntax { left: tokens.len() }),
+    match tokens {
+        [Token::Name(name), rest @ ..] => Ok((name, rest)),
+        _ => Err(Stop::Syntax { left: tokens.len() }),
     }
 }
 
 // The type that must stand at the front.
 #[tactic(auto, unfolding(crate::specs::Reading::type_at))]
 pub fn expect_type<'a>(tokens: &'a [Token]) -> Result<(Ty, &'a [Token]), Stop>
-    ensures value { Gives (λ x. (x.0, words_of x.1.now)) result (type_at (words_of tokens.now)) }
-    ensures shorter { IfOk result (λ x. length x.1.now < length tokens.now) }
+    ensures { Gives (λ x. (x.0, words_of x.1.now)) result (type_at (words_of tokens.now)) }
 {
-    match front_type(tokens) {
-        Some((ty, rest)) => Ok((ty, rest)),
-        None => Err(Stop::Syntax { left: tokens.len() }),
+    match tokens {
+        [Token::Type(ty), rest @ ..] => Ok((*ty, rest)),
+        _ => Err(Stop::Syntax { left: tokens.len() }),
     }
 }
 
 // The number that must stand at the front.
 #[tactic(auto, unfolding(crate::specs::Reading::count_at))]
 pub fn expect_number<'a>(tokens: &'a [Token]) -> Result<(Number, &'a [Token]), Stop>
-    ensures value { Gives (λ x. (x.0.value, words_of x.1.now)) result (count_at (words_of tokens.now)) }
-    ensures shorter { IfOk result (λ x. length x.1.now < length tokens.now) }
+    ensures { Gives (λ x. (x.0.value, words_of x.1.now)) result (count_at (words_of tokens.now)) }
 {
     match front_number(tokens) {
         Some((number, rest)) => Ok((number, rest)),

@@ -1,6 +1,6 @@
 //! Parameters, accumulators, the loop and the returned value.
 
-ghost use Rattle.std.specs.Prelude.{◌≡◌, ◌≤◌, ◌<◌, length, IfOk, IfSome, option_map};
+ghost use Rattle.std.specs.Prelude.{◌≡◌, IfOk, option_map};
 ghost use Rattle.kernel_tree.specs.Plain.{name_of, words_of, parameter_of, parameters_of, accumulator_of, accumulators_of, for_loop_of, returned_of};
 ghost use Rattle.kernel_syntax.specs.Reading.{Gives};
 ghost use Rattle.kernel_syntax.specs.Headers.{shape_at, param_at, some_at, params_at, var_at, vars_at, zero_at, for_loop_at, loop_at, tail_at, answer_by};
@@ -16,8 +16,7 @@ use std::alloc::{AllocError, Global};
 // What stands after the colon of a parameter.
 #[tactic(auto, unfolding(crate::specs::Headers::shape_at))]
 fn read_shape<'a>(tokens: &'a [Token]) -> Result<(Shape, &'a [Token]), Stop>
-    ensures value { Gives (λ x. (x.0, words_of x.1.now)) result (shape_at (words_of tokens.now)) }
-    ensures shorter { IfOk result (λ x. length x.1.now < length tokens.now) }
+    ensures { Gives (λ x. (x.0, words_of x.1.now)) result (shape_at (words_of tokens.now)) }
 {
     match accept(tokens, Mark::OpenBracket) {
         Some(from) => {
@@ -34,8 +33,7 @@ fn read_shape<'a>(tokens: &'a [Token]) -> Result<(Shape, &'a [Token]), Stop>
 
 #[tactic(auto, unfolding(crate::specs::Headers::param_at))]
 fn parameter<'a>(alloc: Global, tokens: &'a [Token]) -> Result<(Param, &'a [Token]), Stop>
-    ensures value { Gives (λ x. (parameter_of x.0, words_of x.1.now)) result (param_at (words_of tokens.now)) }
-    ensures shorter { IfOk result (λ x. length x.1.now < length tokens.now) }
+    ensures { Gives (λ x. (parameter_of x.0, words_of x.1.now)) result (param_at (words_of tokens.now)) }
 {
     let (name, following) = expect_name(tokens)?;
     let from = expect(following, Mark::Colon)?;
@@ -51,8 +49,7 @@ fn parameter<'a>(alloc: Global, tokens: &'a [Token]) -> Result<(Param, &'a [Toke
 
 // One to eight parameters and the parenthesis after them.
 fn some_params<'a>(alloc: Global, tokens: &'a [Token]) -> Result<(Vec<Param>, &'a [Token]), Stop>
-    ensures value { Gives (λ x. (parameters_of x.0.items, words_of x.1.now)) result (some_at 7 (words_of tokens.now)) }
-    ensures shorter { IfOk result (λ x. length x.1.now < length tokens.now) }
+    ensures { Gives (λ x. (parameters_of x.0.items, words_of x.1.now)) result (some_at 7 (words_of tokens.now)) }
 {
     let mut params = Vec::new(alloc);
     let mut rest = tokens;
@@ -69,7 +66,8 @@ fn some_params<'a>(alloc: Global, tokens: &'a [Token]) -> Result<(Vec<Param>, &'
                 left: following.len(),
             });
         }
-        rest = expect(following, Mark::Comma)?;
+        let next = expect(following, Mark::Comma)?;
+        rest = next;
         others -= 1;
     }
 }
@@ -77,8 +75,7 @@ fn some_params<'a>(alloc: Global, tokens: &'a [Token]) -> Result<(Vec<Param>, &'
 // The parameters and the parenthesis after them.
 #[tactic(auto, unfolding(crate::specs::Headers::params_at))]
 pub fn params<'a>(alloc: Global, tokens: &'a [Token]) -> Result<(Vec<Param>, &'a [Token]), Stop>
-    ensures value { Gives (λ x. (parameters_of x.0.items, words_of x.1.now)) result (params_at (words_of tokens.now)) }
-    ensures shorter { IfOk result (λ x. length x.1.now < length tokens.now) }
+    ensures { Gives (λ x. (parameters_of x.0.items, words_of x.1.now)) result (params_at (words_of tokens.now)) }
 {
     match accept(tokens, Mark::CloseParen) {
         Some(rest) => Ok((Vec::new(alloc), rest)),
@@ -89,8 +86,7 @@ pub fn params<'a>(alloc: Global, tokens: &'a [Token]) -> Result<(Vec<Param>, &'a
 // What stands after the word that begins an accumulator.
 #[tactic(auto, unfolding(crate::specs::Headers::var_at))]
 fn accumulator<'a>(alloc: Global, tokens: &'a [Token]) -> Result<(Var, &'a [Token]), Stop>
-    ensures value { Gives (λ x. (accumulator_of x.0, words_of x.1.now)) result (var_at (words_of tokens.now)) }
-    ensures shorter { IfOk result (λ x. length x.1.now < length tokens.now) }
+    ensures { Gives (λ x. (accumulator_of x.0, words_of x.1.now)) result (var_at (words_of tokens.now)) }
 {
     let (name, following) = expect_name(tokens)?;
     let from = expect(following, Mark::Colon)?;
@@ -104,8 +100,7 @@ fn accumulator<'a>(alloc: Global, tokens: &'a [Token]) -> Result<(Var, &'a [Toke
 
 // The accumulators at the front.
 pub fn vars<'a>(alloc: Global, tokens: &'a [Token]) -> Result<(Vec<Var>, &'a [Token]), Stop>
-    ensures value { Gives (λ x. (accumulators_of x.0.items, words_of x.1.now)) result (vars_at (words_of tokens.now)) }
-    ensures shorter { IfOk result (λ x. length x.1.now ≤ length tokens.now) }
+    ensures { Gives (λ x. (accumulators_of x.0.items, words_of x.1.now)) result (vars_at (words_of tokens.now)) }
 {
     let mut vars = Vec::new(alloc);
     let mut rest = tokens;
@@ -120,8 +115,7 @@ pub fn vars<'a>(alloc: Global, tokens: &'a [Token]) -> Result<(Vec<Var>, &'a [To
 // The number 0 that must stand at the front.
 #[tactic(auto, unfolding(crate::specs::Headers::zero_at))]
 fn expect_zero<'a>(tokens: &'a [Token]) -> Result<&'a [Token], Stop>
-    ensures value { Gives (λ rest. words_of rest.now) result (zero_at (words_of tokens.now)) }
-    ensures shorter { IfOk result (λ rest. length rest.now < length tokens.now) }
+    ensures { Gives (λ rest. words_of rest.now) result (zero_at (words_of tokens.now)) }
 {
     match front_number(tokens) {
         Some((number, rest)) => {
@@ -149,8 +143,7 @@ fn loop_of(alloc: Global, index: &Name, bound: &Name, body: Vec<Stmt>) -> Result
 // What stands after the word that begins a loop.
 #[tactic(auto, unfolding(crate::specs::Headers::for_loop_at))]
 fn for_loop<'a>(alloc: Global, tokens: &'a [Token]) -> Result<(Loop, &'a [Token]), Stop>
-    ensures value { Gives (λ x. (for_loop_of x.0, words_of x.1.now)) result (for_loop_at (words_of tokens.now)) }
-    ensures shorter { IfOk result (λ x. length x.1.now < length tokens.now) }
+    ensures { Gives (λ x. (for_loop_of x.0, words_of x.1.now)) result (for_loop_at (words_of tokens.now)) }
 {
     let (index, following) = expect_name(tokens)?;
     let from = expect(following, Mark::In)?;
@@ -165,8 +158,7 @@ fn for_loop<'a>(alloc: Global, tokens: &'a [Token]) -> Result<(Loop, &'a [Token]
 // The loop at the front, if there is one.
 #[tactic(auto, unfolding(crate::specs::Headers::loop_at))]
 pub fn body<'a>(alloc: Global, tokens: &'a [Token]) -> Result<(Option<Loop>, &'a [Token]), Stop>
-    ensures value { Gives (λ x. (option_map for_loop_of x.0, words_of x.1.now)) result (loop_at (words_of tokens.now)) }
-    ensures shorter { IfOk result (λ x. length x.1.now ≤ length tokens.now) }
+    ensures { Gives (λ x. (option_map for_loop_of x.0, words_of x.1.now)) result (loop_at (words_of tokens.now)) }
 {
     match accept(tokens, Mark::For) {
         Some(from) => {
@@ -180,8 +172,7 @@ pub fn body<'a>(alloc: Global, tokens: &'a [Token]) -> Result<(Option<Loop>, &'a
 // What stands after the parameters: the type of what is returned, if anything is, and the brace.
 #[tactic(auto, unfolding(crate::specs::Headers::tail_at))]
 pub fn tail<'a>(tokens: &'a [Token]) -> Result<(Option<Ty>, &'a [Token]), Stop>
-    ensures value { Gives (λ x. (x.0, words_of x.1.now)) result (tail_at (words_of tokens.now)) }
-    ensures shorter { IfOk result (λ x. length x.1.now < length tokens.now) }
+    ensures { Gives (λ x. (x.0, words_of x.1.now)) result (tail_at (words_of tokens.now)) }
 {
     match accept(tokens, Mark::OpenBrace) {
         Some(rest) => Ok((None, rest)),
@@ -201,9 +192,8 @@ pub fn read_answer<'a>(
     ty: Option<Ty>,
     tokens: &'a [Token],
 ) -> Result<(Option<Answer>, &'a [Token]), Stop>
-    ensures value { Gives (λ x. (option_map returned_of x.0, words_of x.1.now)) result
+    ensures { Gives (λ x. (option_map returned_of x.0, words_of x.1.now)) result
         (answer_by ty (words_of tokens.now)) }
-    ensures shorter { IfOk result (λ x. length x.1.now < length tokens.now) }
 {
     match ty {
         None => {

@@ -1,6 +1,6 @@
 //! Kernels.
 
-ghost use Rattle.std.specs.Prelude.{◌≡◌, ◌≤◌, ◌<◌, ℕ, length, IfOk, Ok, Err, Some, None};
+ghost use Rattle.std.specs.Prelude.{◌≡◌, ℕ, IfOk, Err, Some, None};
 ghost use Rattle.kernel_tree.specs.Plain.{words_of, program_of};
 ghost use Rattle.kernel_syntax.specs.Reading.{Gives};
 ghost use Rattle.kernel_syntax.specs.Headers.{kernel_at};

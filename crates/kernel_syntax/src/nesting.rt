@@ -36,11 +36,7 @@ fn open_after(depth: usize, token: &Token) -> usize
 {
     match token {
         Token::Mark(mark) => mark_open(depth, *mark),
-        Token::Name(_) => depth,
-        Token::Number(_) => depth,
-        Token::Type(_) => depth,
-        Token::Compare(_) => depth,
-        Token::Update(_) => depth,
+        _ => depth,
     }
 }
 
@@ -50,11 +46,7 @@ fn signs_after(signs: usize, token: &Token) -> usize
 {
     match token {
         Token::Mark(mark) => mark_signs(signs, *mark),
-        Token::Name(_) => 0,
-        Token::Number(_) => 0,
-        Token::Type(_) => 0,
-        Token::Compare(_) => 0,
-        Token::Update(_) => 0,
+        _ => 0,
     }
 }
 

@@ -1,6 +1,6 @@
 //! Statements.
 
-ghost use Rattle.std.specs.Prelude.{◌≡◌, ◌≤◌, ◌<◌, length, false, IfOk, IfSome, option_map};
+ghost use Rattle.std.specs.Prelude.{false};
 ghost use Rattle.kernel_tree.specs.Plain.{term_of, name_of, words_of, action_of, block_of};
 ghost use Rattle.kernel_tree.specs.Grammar.{beginning_of_mark};
 ghost use Rattle.kernel_syntax.specs.Reading.{Gives};
@@ -22,8 +22,7 @@ pub fn term<'a>(
     tokens: &'a [Token],
     mark: Mark,
 ) -> Result<(Box<Expr>, &'a [Token]), Stop>
-    ensures value { Gives (λ x. (term_of x.0.value, words_of x.1.now)) result (term_at mark (words_of tokens.now)) }
-    ensures shorter { IfOk result (λ x. length x.1.now < length tokens.now) }
+    ensures { Gives (λ x. (term_of x.0.value, words_of x.1.now)) result (term_at mark (words_of tokens.now)) }
 {
     term_then(alloc, tokens, mark, tokens.len())
 }
@@ -31,8 +30,7 @@ pub fn term<'a>(
 // The type that a definition may give.
 #[tactic(auto, unfolding(crate::specs::Statements::type_part))]
 fn declared_type<'a>(tokens: &'a [Token]) -> Result<(Option<Ty>, &'a [Token]), Stop>
-    ensures value { Gives (λ x. (x.0, words_of x.1.now)) result (type_part (words_of tokens.now)) }
-    ensures shorter { IfOk result (λ x. length x.1.now ≤ length tokens.now) }
+    ensures { Gives (λ x. (x.0, words_of x.1.now)) result (type_part (words_of tokens.now)) }
 {
     match accept(tokens, Mark::Colon) {
         Some(from) => {
@@ -46,8 +44,7 @@ fn declared_type<'a>(tokens: &'a [Token]) -> Result<(Option<Ty>, &'a [Token]), S
 // What stands after a let.
 #[tactic(auto, unfolding(crate::specs::Statements::define_at))]
 fn definition<'a>(alloc: Global, tokens: &'a [Token]) -> Result<(Stmt, &'a [Token]), Stop>
-    ensures value { Gives (λ x. (action_of x.0, words_of x.1.now)) result (define_at (words_of tokens.now)) }
-    ensures shorter { IfOk result (λ x. length x.1.now < length tokens.now) }
+    ensures { Gives (λ x. (action_of x.0, words_of x.1.now)) result (define_at (words_of tokens.now)) }
 {
     let (name, following) = expect_name(tokens)?;
     let (ty, next) = declared_type(following)?;
@@ -61,9 +58,8 @@ fn definition<'a>(alloc: Global, tokens: &'a [Token]) -> Result<(Stmt, &'a [Toke
 // What stands after the bracket of the element that a store writes.
 #[tactic(auto, unfolding(crate::specs::Statements::put_at))]
 fn store<'a>(alloc: Global, array: &Name, tokens: &'a [Token]) -> Result<(Stmt, &'a [Token]), Stop>
-    ensures value { Gives (λ x. (action_of x.0, words_of x.1.now)) result
+    ensures { Gives (λ x. (action_of x.0, words_of x.1.now)) result
         (put_at (name_of array.now) (words_of tokens.now)) }
-    ensures shorter { IfOk result (λ x. length x.1.now < length tokens.now) }
 {
     let array = copy_name(alloc, array)?;
     let (index, following) = term(alloc, tokens, Mark::CloseBracket)?;
@@ -87,9 +83,8 @@ fn update<'a>(
     op: UpdateOp,
     tokens: &'a [Token],
 ) -> Result<(Stmt, &'a [Token]), Stop>
-    ensures value { Gives (λ x. (action_of x.0, words_of x.1.now)) result
+    ensures { Gives (λ x. (action_of x.0, words_of x.1.now)) result
         (update_at (name_of name.now) op (words_of tokens.now)) }
-    ensures shorter { IfOk result (λ x. length x.1.now < length tokens.now) }
 {
     let name = copy_name(alloc, name)?;
     let (value, rest) = term(alloc, tokens, Mark::Semicolon)?;
@@ -100,9 +95,8 @@ fn update<'a>(
 // What stands after the name of what a statement changes.
 #[tactic(auto, unfolding(crate::specs::Statements::target_at))]
 fn target<'a>(alloc: Global, name: &Name, tokens: &'a [Token]) -> Result<(Stmt, &'a [Token]), Stop>
-    ensures value { Gives (λ x. (action_of x.0, words_of x.1.now)) result
+    ensures { Gives (λ x. (action_of x.0, words_of x.1.now)) result
         (target_at (name_of name.now) (words_of tokens.now)) }
-    ensures shorter { IfOk result (λ x. length x.1.now < length tokens.now) }
 {
     if let Some(from) = accept(tokens, Mark::OpenBracket) {
         return store(alloc, name, from);
@@ -116,8 +110,7 @@ fn target<'a>(alloc: Global, name: &Name, tokens: &'a [Token]) -> Result<(Stmt, 
 // What stands after a break, in the loop's own block or in another.
 #[tactic(auto, unfolding(crate::specs::Statements::leave_at))]
 fn leaving<'a>(alloc: Global, tokens: &'a [Token], whole: bool) -> Result<(Stmt, &'a [Token]), Stop>
-    ensures value { Gives (λ x. (action_of x.0, words_of x.1.now)) result (leave_at whole (words_of tokens.now)) }
-    ensures shorter { IfOk result (λ x. length x.1.now < length tokens.now) }
+    ensures { Gives (λ x. (action_of x.0, words_of x.1.now)) result (leave_at whole (words_of tokens.now)) }
 {
     if !whole {
         return Err(Stop::Syntax {
@@ -134,9 +127,8 @@ fn leaving<'a>(alloc: Global, tokens: &'a [Token], whole: bool) -> Result<(Stmt,
 #[cycle(block)]
 #[tactic(auto, unfolding(crate::specs::Statements::choose_by))]
 fn choice<'a>(alloc: Global, tokens: &'a [Token], room: usize) -> Result<(Stmt, &'a [Token]), Stop>
-    ensures value { Gives (λ x. (action_of x.0, words_of x.1.now)) result
+    ensures { Gives (λ x. (action_of x.0, words_of x.1.now)) result
         (choose_by (block_at false room) (words_of tokens.now)) }
-    ensures shorter { IfOk result (λ x. length x.1.now < length tokens.now) }
 {
     let (cond, from) = term(alloc, tokens, Mark::OpenBrace)?;
     let (then_part, following) = block(alloc, from, false, room)?;
@@ -162,9 +154,8 @@ fn begun<'a>(
     whole: bool,
     room: usize,
 ) -> Result<(Stmt, &'a [Token]), Stop>
-    ensures value { Gives (λ x. (action_of x.0, words_of x.1.now)) result
+    ensures { Gives (λ x. (action_of x.0, words_of x.1.now)) result
         (begun_by whole (block_at false room) (beginning_of_mark mark) (words_of tokens.now)) }
-    ensures shorter { IfOk result (λ x. length x.1.now < length tokens.now) }
 {
     match class::beginning(mark) {
         Some(Beginning::Definition) => definition(alloc, tokens),
@@ -185,18 +176,13 @@ fn statement<'a>(
     whole: bool,
     room: usize,
 ) -> Result<(Stmt, &'a [Token]), Stop>
-    ensures value { Gives (λ x. (action_of x.0, words_of x.1.now)) result
+    ensures { Gives (λ x. (action_of x.0, words_of x.1.now)) result
         (statement_by whole (block_at false room) (words_of tokens.now)) }
-    ensures shorter { IfOk result (λ x. length x.1.now < length tokens.now) }
 {
     match tokens {
-        [] => Err(Stop::Syntax { left: 0 }),
         [Token::Name(name), rest @ ..] => target(alloc, name, rest),
         [Token::Mark(mark), rest @ ..] => begun(alloc, *mark, rest, whole, room),
-        [Token::Number(_), ..] => Err(Stop::Syntax { left: tokens.len() }),
-        [Token::Type(_), ..] => Err(Stop::Syntax { left: tokens.len() }),
-        [Token::Compare(_), ..] => Err(Stop::Syntax { left: tokens.len() }),
-        [Token::Update(_), ..] => Err(Stop::Syntax { left: tokens.len() }),
+        _ => Err(Stop::Syntax { left: tokens.len() }),
     }
 }
 
@@ -209,9 +195,8 @@ pub fn block<'a>(
     whole: bool,
     room: usize,
 ) -> Result<(Vec<Stmt>, &'a [Token]), Stop>
-    ensures value { Gives (λ x. (block_of x.0.items, words_of x.1.now)) result
+    ensures { Gives (λ x. (block_of x.0.items, words_of x.1.now)) result
         (block_at whole room (words_of tokens.now)) }
-    ensures shorter { IfOk result (λ x. length x.1.now < length tokens.now) }
 {
     if room == 0 {
         return Err(Stop::Syntax { left: tokens.len() });

@@ -1,78 +1,59 @@
-use Rattle.std.proofs.Common.{◌≡◌, ◌-◌, ◌<◌, length, Err, Some, refl, ◌∙◌, ap, arith}
+use Rattle.std.proofs.Common.{◌≡◌, ◌-◌, ◌<◌, ◌≤◌, length, Err, refl, sym, ◌∙◌, ap, arith}
 use Rattle.std.proofs.lemmas.Result.{err_from_is_err_and}
 use Rattle.std.proofs.lemmas.List.{length-map}
 use Rattle.kernel_tree.specs.Plain.{term_of, words_of, word_of}
-use Rattle.kernel_tree.specs.declared.mark.Operator.TheVariants.{Joined, Compared, Shifted, As}
-use Rattle.kernel_syntax.specs.Reading.{operator_at, chain_at, unary_at, signed_by, choice_by, pair_by, absolute_by, term_before}
+use Rattle.kernel_syntax.specs.Reading.{chain_at, unary_at, signed_by, choice_by, pair_by, absolute_by, term_before}
 use Rattle.kernel_syntax.specs.Operands.{joined_by, compared_by}
-use Rattle.kernel_syntax.proofs.Chain.{chain-zero, chain-above, fails_on, begins, ends, takes_joined, takes_shifted, takes_as, compared_is, refuses_joined, refuses_shifted, refuses_as}
+use Rattle.kernel_syntax.proofs.Chain.{chain-zero, chain-above, fails_on, begins, ends, takes, ends_at, refuses}
 use Rattle.kernel_syntax.proofs.Rooms.{unary-some}
+use Rattle.kernel_syntax.proofs.Within.{reads_go}
+use Rattle.kernel_syntax.proofs.Shorter.{chain_short, extended_short}
 use Rattle.kernel_syntax.proofs.SignRows.{wraps_none, wraps_more, wraps_fails, wraps_stops, wraps_all}
 use Rattle.kernel_syntax.proofs.expression.+expression.Goals as goal
 
-pub chain-returns-then-level-eq0-clause-value : goal.chain-returns-then-level-eq0-clause-value
-chain-returns-then-level-eq0-clause-value t c = rw (chain-zero (unary_at c.args.room) c.args.level (words_of c.args.tokens.now) c.if-level-eq0.true) c.unary.ensures.value
+pub chain-returns-then-level-eq0 : goal.chain-returns-then-level-eq0
+chain-returns-then-level-eq0 t c = rw (chain-zero (unary_at c.args.room) c.args.level (words_of c.args.tokens.now) c.if-level-eq0.true) c.unary.ensures
 
-pub chain-returns-in_err-first-clause-value : goal.chain-returns-in_err-first-clause-value
-chain-returns-in_err-first-clause-value t c =
+pub chain-returns-in_err-first : goal.chain-returns-in_err-first
+chain-returns-in_err-first t c =
     let p = err_from_is_err_and c.from_residual.result c.from_residual.ensures.1 in
-    rw (p.1, p.2) (fails_on _ (chain_at (unary_at c.args.room) (c.args.level - 1) (words_of c.args.tokens.now)) _ _ (chain-above (unary_at c.args.room) c.args.level (words_of c.args.tokens.now) (omega arith)) c.in_err-first.ensures.value)
+    rw (p.1, p.2) (fails_on _ (chain_at (unary_at c.args.room) (c.args.level - 1) (words_of c.args.tokens.now)) _ _ (chain-above (unary_at c.args.room) c.args.level (words_of c.args.tokens.now) (omega arith)) c.in_err-first.ensures)
 
 pub chain-more-init : goal.chain-more-init
-chain-more-init t c = (c.in_ok-first.ensures.shorter, begins (unary_at c.args.room) c.args.level (words_of c.args.tokens.now) _ _ (omega arith) c.in_ok-first.ensures.value)
+chain-more-init t c =
+    let short : length (words_of c.in_ok-first.following.now) < length (words_of c.args.tokens.now) = chain_short c.args.room (c.args.level - 1) (words_of c.args.tokens.now) _ c.in_ok-first.ensures in
+    (omega (arith, short, length-map c.in_ok-first.following.now word_of, length-map c.args.tokens.now word_of), begins (unary_at c.args.room) c.args.level (words_of c.args.tokens.now) _ _ (omega arith) c.in_ok-first.ensures)
 
-pub chain-returns-in_err-whole-in-Joined-clause-value : goal.chain-returns-in_err-whole-in-Joined-clause-value
-chain-returns-in_err-whole-in-Joined-clause-value t c =
-    let found : Some (Joined c.in-Joined.joint, words_of c.in-Some.after.now) ≡ operator_at c.args.level (words_of c.more.rest.now) = rw c.in-Joined.is at c.in-Some.ensures.value in
-    let p = err_from_is_err_and c.from_residual-in_err-whole-in-Joined.result c.from_residual-in_err-whole-in-Joined.ensures.1 in
-    rw (p.1, p.2) (refuses_joined (unary_at c.args.room) c.args.level (words_of c.args.tokens.now) (term_of c.more.left.value) (words_of c.more.rest.now) c.more.invariant.1 c.in-Joined.joint (words_of c.in-Some.after.now) _ found c.in_err-whole-in-Joined.ensures.value)
+pub chain-returns-in_err-whole : goal.chain-returns-in_err-whole
+chain-returns-in_err-whole t c =
+    let p = err_from_is_err_and c.from_residual-in_err-whole.result c.from_residual-in_err-whole.ensures.1 in
+    rw (p.1, p.2) (refuses (unary_at c.args.room) c.args.level (words_of c.args.tokens.now) (term_of c.more.left.value) (words_of c.more.rest.now) c.more.invariant.1 c.in-Some.operator (words_of c.in-Some.after.now) _ c.in-Some.ensures.value c.in_err-whole.ensures)
 
-pub chain-more-preserved-in-Joined : goal.chain-more-preserved-in-Joined
-chain-more-preserved-in-Joined t c =
-    let found : Some (Joined c.in-Joined.joint, words_of c.in-Some.after.now) ≡ operator_at c.args.level (words_of c.more.rest.now) = rw c.in-Joined.is at c.in-Some.ensures.value in
-    let short : length (words_of c.in_ok-whole-in-Joined.next.now) < length (words_of c.more.rest.now) = omega (arith, c.in_ok-whole-in-Joined.ensures.shorter, c.in-Some.ensures.shorter, length-map c.in_ok-whole-in-Joined.next.now word_of, length-map c.more.rest.now word_of) in
-    (omega (arith, c.in_ok-whole-in-Joined.ensures.shorter, c.in-Some.ensures.shorter), (takes_joined (unary_at c.args.room) c.args.level (words_of c.args.tokens.now) (term_of c.more.left.value) (words_of c.more.rest.now) c.more.invariant.1 c.in-Joined.joint (words_of c.in-Some.after.now) _ _ found c.in_ok-whole-in-Joined.ensures.value short))
-
-pub chain-returns-in-Compared-clause-value : goal.chain-returns-in-Compared-clause-value
-chain-returns-in-Compared-clause-value t c =
-    let found : Some (Compared c.in-Compared.op, words_of c.in-Some.after.now) ≡ operator_at c.args.level (words_of c.more.rest.now) = rw c.in-Compared.is at c.in-Some.ensures.value in
-    rw (compared_is (unary_at c.args.room) c.args.level (words_of c.args.tokens.now) (term_of c.more.left.value) (words_of c.more.rest.now) c.more.invariant.1 c.in-Compared.op (words_of c.in-Some.after.now) found) c.compared.ensures.value
-
-pub chain-returns-in_err-whole-in-Shifted-clause-value : goal.chain-returns-in_err-whole-in-Shifted-clause-value
-chain-returns-in_err-whole-in-Shifted-clause-value t c =
-    let found : Some (Shifted c.in-Shifted.to_left, words_of c.in-Some.after.now) ≡ operator_at c.args.level (words_of c.more.rest.now) = rw c.in-Shifted.is at c.in-Some.ensures.value in
-    let p = err_from_is_err_and c.from_residual-in_err-whole-in-Shifted.result c.from_residual-in_err-whole-in-Shifted.ensures.1 in
-    rw (p.1, p.2) (refuses_shifted (unary_at c.args.room) c.args.level (words_of c.args.tokens.now) (term_of c.more.left.value) (words_of c.more.rest.now) c.more.invariant.1 c.in-Shifted.to_left (words_of c.in-Some.after.now) _ found c.in_err-whole-in-Shifted.ensures.value)
-
-pub chain-more-preserved-in-Shifted : goal.chain-more-preserved-in-Shifted
-chain-more-preserved-in-Shifted t c =
-    let found : Some (Shifted c.in-Shifted.to_left, words_of c.in-Some.after.now) ≡ operator_at c.args.level (words_of c.more.rest.now) = rw c.in-Shifted.is at c.in-Some.ensures.value in
-    let short : length (words_of c.in_ok-whole-in-Shifted.next.now) < length (words_of c.more.rest.now) = omega (arith, c.in_ok-whole-in-Shifted.ensures.shorter, c.in-Some.ensures.shorter, length-map c.in_ok-whole-in-Shifted.next.now word_of, length-map c.more.rest.now word_of) in
-    (omega (arith, c.in_ok-whole-in-Shifted.ensures.shorter, c.in-Some.ensures.shorter), (takes_shifted (unary_at c.args.room) c.args.level (words_of c.args.tokens.now) (term_of c.more.left.value) (words_of c.more.rest.now) c.more.invariant.1 c.in-Shifted.to_left (words_of c.in-Some.after.now) _ _ found c.in_ok-whole-in-Shifted.ensures.value short))
-
-pub chain-returns-in_err-whole-in-As-clause-value : goal.chain-returns-in_err-whole-in-As-clause-value
-chain-returns-in_err-whole-in-As-clause-value t c =
-    let found : Some (As, words_of c.in-Some.after.now) ≡ operator_at c.args.level (words_of c.more.rest.now) = rw c.in-As.is at c.in-Some.ensures.value in
-    let p = err_from_is_err_and c.from_residual-in_err-whole-in-As.result c.from_residual-in_err-whole-in-As.ensures.1 in
-    rw (p.1, p.2) (refuses_as (unary_at c.args.room) c.args.level (words_of c.args.tokens.now) (term_of c.more.left.value) (words_of c.more.rest.now) c.more.invariant.1 (words_of c.in-Some.after.now) _ found c.in_err-whole-in-As.ensures.value)
+pub chain-returns-then-compares : goal.chain-returns-then-compares
+chain-returns-then-compares t c = ends_at (unary_at c.args.room) c.args.level (words_of c.args.tokens.now) (term_of c.more.left.value) (words_of c.more.rest.now) c.more.invariant.1 c.in-Some.operator (words_of c.in-Some.after.now) _ _ c.in-Some.ensures.value c.in_ok-whole.ensures (sym c.compares.ensures ∙ c.if-compares.true)
 
 pub chain-more-preserved : goal.chain-more-preserved
 chain-more-preserved t c =
-    let found : Some (As, words_of c.in-Some.after.now) ≡ operator_at c.args.level (words_of c.more.rest.now) = rw c.in-As.is at c.in-Some.ensures.value in
-    let short : length (words_of c.in_ok-whole-in-As.next.now) < length (words_of c.more.rest.now) = omega (arith, c.in_ok-whole-in-As.ensures.shorter, c.in-Some.ensures.shorter, length-map c.in_ok-whole-in-As.next.now word_of, length-map c.more.rest.now word_of) in
-    (omega (arith, c.in_ok-whole-in-As.ensures.shorter, c.in-Some.ensures.shorter), (takes_as (unary_at c.args.room) c.args.level (words_of c.args.tokens.now) (term_of c.more.left.value) (words_of c.more.rest.now) c.more.invariant.1 (words_of c.in-Some.after.now) _ _ found c.in_ok-whole-in-As.ensures.value short))
+    let less : length (words_of c.in_ok-whole.next.now) ≤ length (words_of c.in-Some.after.now) = extended_short (chain_at (unary_at c.args.room) (c.args.level - 1)) (reads_go c.args.room (c.args.level - 1)) c.in-Some.operator (term_of c.more.left.value) (words_of c.in-Some.after.now) _ c.in_ok-whole.ensures in
+    let short : length (words_of c.in_ok-whole.next.now) < length (words_of c.more.rest.now) = omega (arith, less, c.in-Some.ensures.shorter, length-map c.in_ok-whole.next.now word_of, length-map c.in-Some.after.now word_of, length-map c.more.rest.now word_of) in
+    (omega (arith, less, c.in-Some.ensures.shorter, length-map c.in_ok-whole.next.now word_of, length-map c.in-Some.after.now word_of, length-map c.more.rest.now word_of), (takes (unary_at c.args.room) c.args.level (words_of c.args.tokens.now) (term_of c.more.left.value) (words_of c.more.rest.now) c.more.invariant.1 c.in-Some.operator (words_of c.in-Some.after.now) _ _ c.in-Some.ensures.value c.in_ok-whole.ensures (sym c.compares.ensures ∙ c.if-compares.false) short))
 
-pub chain-returns-clause-value : goal.chain-returns-clause-value
-chain-returns-clause-value t c = ends (unary_at c.args.room) c.args.level (words_of c.args.tokens.now) (term_of c.more.left.value) (words_of c.more.rest.now) c.more.invariant.1 c.in_default.ensures.value
+pub chain-more-smaller : goal.chain-more-smaller
+chain-more-smaller t c =
+    let less : length (words_of c.in_ok-whole.next.now) ≤ length (words_of c.in-Some.after.now) = extended_short (chain_at (unary_at c.args.room) (c.args.level - 1)) (reads_go c.args.room (c.args.level - 1)) c.in-Some.operator (term_of c.more.left.value) (words_of c.in-Some.after.now) _ c.in_ok-whole.ensures in
+    omega (arith, less, c.in-Some.ensures.shorter, length-map c.in_ok-whole.next.now word_of, length-map c.in-Some.after.now word_of, length-map c.more.rest.now word_of)
 
-pub unary-returns-clause-value : goal.unary-returns-clause-value
-unary-returns-clause-value t c = rw (unary-some c.args.room (words_of c.args.tokens.now) (omega arith)) c.begun.ensures.value
+pub chain-returns : goal.chain-returns
+chain-returns t c = ends (unary_at c.args.room) c.args.level (words_of c.args.tokens.now) (term_of c.more.left.value) (words_of c.more.rest.now) c.more.invariant.1 c.in_default.ensures.value
+
+pub unary-returns : goal.unary-returns
+unary-returns t c = rw (unary-some c.args.room (words_of c.args.tokens.now) (omega arith)) c.begun.ensures
 
 pub signed-more-init : goal.signed-more-init
 signed-more-init t c = record { short = omega arith; less = omega arith; wraps = rw c.new-signs.ensures.items (wraps_none (signed_by (unary_at c.args.room) c.args.sign (words_of c.args.tokens.now))) }
 
-pub signed-returns-then-inner-eq0-clause-value : goal.signed-returns-then-inner-eq0-clause-value
-signed-returns-then-inner-eq0-clause-value t c = wraps_stops _ c.more.signs.items c.more.inner c.more.last (words_of c.more.rest.now) c.in-Some.next (words_of c.in-Some.following.now) c.more.invariant.wraps c.if-inner-eq0.true c.in-Some.ensures.value ∙ ap Err (length-map c.more.rest.now word_of)
+pub signed-returns-then-inner-eq0 : goal.signed-returns-then-inner-eq0
+signed-returns-then-inner-eq0 t c = wraps_stops _ c.more.signs.items c.more.inner c.more.last (words_of c.more.rest.now) c.in-Some.next (words_of c.in-Some.following.now) c.more.invariant.wraps c.if-inner-eq0.true c.in-Some.ensures.value ∙ ap Err (length-map c.more.rest.now word_of)
 
 pub signed-more-preserved : goal.signed-more-preserved
 signed-more-preserved t c = record {
@@ -81,88 +62,88 @@ signed-more-preserved t c = record {
   wraps = rw c.in_ok-push.ensures.items (wraps_more _ c.more.signs.items c.more.inner c.more.last (words_of c.more.rest.now) c.in-Some.next (words_of c.in-Some.following.now) c.more.invariant.wraps (omega arith) c.in-Some.ensures.value);
 }
 
-pub signed-returns-in_err-arg-clause-value : goal.signed-returns-in_err-arg-clause-value
-signed-returns-in_err-arg-clause-value t c =
+pub signed-returns-in_err-arg : goal.signed-returns-in_err-arg
+signed-returns-in_err-arg t c =
     let p = err_from_is_err_and c.from_residual-in_err-arg.result c.from_residual-in_err-arg.ensures.1 in
-    rw (p.1, p.2) (wraps_fails _ c.more.signs.items _ _ c.more.invariant.wraps c.in_err-arg.ensures.value)
+    rw (p.1, p.2) (wraps_fails _ c.more.signs.items _ _ c.more.invariant.wraps c.in_err-arg.ensures)
 
-pub signed-returns-clause-value : goal.signed-returns-clause-value
-signed-returns-clause-value t c = rw c.in_ok-following_signs.ensures (wraps_all _ c.more.signs.items _ _ _ c.more.invariant.wraps c.in_ok-arg.ensures.value)
+pub signed-returns : goal.signed-returns
+signed-returns t c = rw c.in_ok-following_signs.ensures (wraps_all _ c.more.signs.items _ _ _ c.more.invariant.wraps c.in_ok-arg.ensures)
 
-pub choice-returns-in_err-from-clause-value : goal.choice-returns-in_err-from-clause-value
+pub choice-returns-in_err-from : goal.choice-returns-in_err-from
 unfolding choice_by
-choice-returns-in_err-from-clause-value t c =
+choice-returns-in_err-from t c =
     let p = err_from_is_err_and c.from_residual.result c.from_residual.ensures.1 in
-    rw (p.1, p.2) (fails_on _ _ _ _ refl c.in_err-from.ensures.value)
+    rw (p.1, p.2) (fails_on _ _ _ _ refl c.in_err-from.ensures)
 
-pub choice-returns-in_err-cond-clause-value : goal.choice-returns-in_err-cond-clause-value
+pub choice-returns-in_err-cond : goal.choice-returns-in_err-cond
 unfolding choice_by
-choice-returns-in_err-cond-clause-value t c =
+choice-returns-in_err-cond t c =
     let p = err_from_is_err_and c.from_residual-in_err-cond.result c.from_residual-in_err-cond.ensures.1 in
-    rw (p.1, p.2, c.in_ok-from.ensures.value) (fails_on _ _ _ _ refl c.in_err-cond.ensures.value)
+    rw (p.1, p.2, c.in_ok-from.ensures) (fails_on _ _ _ _ refl c.in_err-cond.ensures)
 
-pub choice-returns-in_err-yes-clause-value : goal.choice-returns-in_err-yes-clause-value
+pub choice-returns-in_err-yes : goal.choice-returns-in_err-yes
 unfolding choice_by
-choice-returns-in_err-yes-clause-value t c =
+choice-returns-in_err-yes t c =
     let p = err_from_is_err_and c.from_residual-in_err-yes.result c.from_residual-in_err-yes.ensures.1 in
-    rw (p.1, p.2, c.in_ok-from.ensures.value, c.in_ok-cond.ensures.value) (fails_on _ _ _ _ refl c.in_err-yes.ensures.value)
+    rw (p.1, p.2, c.in_ok-from.ensures, c.in_ok-cond.ensures) (fails_on _ _ _ _ refl c.in_err-yes.ensures)
 
-pub choice-returns-in_err-no-clause-value : goal.choice-returns-in_err-no-clause-value
+pub choice-returns-in_err-no : goal.choice-returns-in_err-no
 unfolding choice_by
-choice-returns-in_err-no-clause-value t c =
+choice-returns-in_err-no t c =
     let p = err_from_is_err_and c.from_residual-in_err-no.result c.from_residual-in_err-no.ensures.1 in
-    rw (p.1, p.2, c.in_ok-from.ensures.value, c.in_ok-cond.ensures.value, c.in_ok-yes.ensures.value) (fails_on _ _ _ _ refl c.in_err-no.ensures.value)
+    rw (p.1, p.2, c.in_ok-from.ensures, c.in_ok-cond.ensures, c.in_ok-yes.ensures) (fails_on _ _ _ _ refl c.in_err-no.ensures)
 
-pub pair-returns-in_err-from-clause-value : goal.pair-returns-in_err-from-clause-value
+pub pair-returns-in_err-from : goal.pair-returns-in_err-from
 unfolding pair_by
-pair-returns-in_err-from-clause-value t c =
+pair-returns-in_err-from t c =
     let p = err_from_is_err_and c.from_residual.result c.from_residual.ensures.1 in
-    rw (p.1, p.2) (fails_on _ _ _ _ refl c.in_err-from.ensures.value)
+    rw (p.1, p.2) (fails_on _ _ _ _ refl c.in_err-from.ensures)
 
-pub pair-returns-in_err-left-clause-value : goal.pair-returns-in_err-left-clause-value
+pub pair-returns-in_err-left : goal.pair-returns-in_err-left
 unfolding pair_by
-pair-returns-in_err-left-clause-value t c =
+pair-returns-in_err-left t c =
     let p = err_from_is_err_and c.from_residual-in_err-left.result c.from_residual-in_err-left.ensures.1 in
-    rw (p.1, p.2, c.in_ok-from.ensures.value) (fails_on _ _ _ _ refl c.in_err-left.ensures.value)
+    rw (p.1, p.2, c.in_ok-from.ensures) (fails_on _ _ _ _ refl c.in_err-left.ensures)
 
-pub pair-returns-in_err-right-clause-value : goal.pair-returns-in_err-right-clause-value
+pub pair-returns-in_err-right : goal.pair-returns-in_err-right
 unfolding pair_by
-pair-returns-in_err-right-clause-value t c =
+pair-returns-in_err-right t c =
     let p = err_from_is_err_and c.from_residual-in_err-right.result c.from_residual-in_err-right.ensures.1 in
-    rw (p.1, p.2, c.in_ok-from.ensures.value, c.in_ok-left.ensures.value) (fails_on _ _ _ _ refl c.in_err-right.ensures.value)
+    rw (p.1, p.2, c.in_ok-from.ensures, c.in_ok-left.ensures) (fails_on _ _ _ _ refl c.in_err-right.ensures)
 
-pub absolute-returns-in_err-from-clause-value : goal.absolute-returns-in_err-from-clause-value
+pub absolute-returns-in_err-from : goal.absolute-returns-in_err-from
 unfolding absolute_by
-absolute-returns-in_err-from-clause-value t c =
+absolute-returns-in_err-from t c =
     let p = err_from_is_err_and c.from_residual.result c.from_residual.ensures.1 in
-    rw (p.1, p.2) (fails_on _ _ _ _ refl c.in_err-from.ensures.value)
+    rw (p.1, p.2) (fails_on _ _ _ _ refl c.in_err-from.ensures)
 
-pub absolute-returns-in_err-arg-clause-value : goal.absolute-returns-in_err-arg-clause-value
+pub absolute-returns-in_err-arg : goal.absolute-returns-in_err-arg
 unfolding absolute_by
-absolute-returns-in_err-arg-clause-value t c =
+absolute-returns-in_err-arg t c =
     let p = err_from_is_err_and c.from_residual-in_err-arg.result c.from_residual-in_err-arg.ensures.1 in
-    rw (p.1, p.2, c.in_ok-from.ensures.value) (fails_on _ _ _ _ refl c.in_err-arg.ensures.value)
+    rw (p.1, p.2, c.in_ok-from.ensures) (fails_on _ _ _ _ refl c.in_err-arg.ensures)
 
-pub term_then-returns-in_err-e-clause-value : goal.term_then-returns-in_err-e-clause-value
+pub term_then-returns-in_err-e : goal.term_then-returns-in_err-e
 unfolding term_before
-term_then-returns-in_err-e-clause-value t c =
+term_then-returns-in_err-e t c =
     let p = err_from_is_err_and c.from_residual.result c.from_residual.ensures.1 in
-    rw (p.1, p.2) (fails_on _ _ _ _ refl c.in_err-e.ensures.value)
+    rw (p.1, p.2) (fails_on _ _ _ _ refl c.in_err-e.ensures)
 
-pub term_then-returns-in_err-expect-clause-value : goal.term_then-returns-in_err-expect-clause-value
+pub term_then-returns-in_err-expect : goal.term_then-returns-in_err-expect
 unfolding term_before
-term_then-returns-in_err-expect-clause-value t c =
+term_then-returns-in_err-expect t c =
     let p = err_from_is_err_and c.from_residual-in_err-expect.result c.from_residual-in_err-expect.ensures.1 in
-    rw (p.1, p.2, c.in_ok-e.ensures.value) (fails_on _ _ _ _ refl c.in_err-expect.ensures.value)
+    rw (p.1, p.2, c.in_ok-e.ensures) (fails_on _ _ _ _ refl c.in_err-expect.ensures)
 
-pub joined-returns-in_err-right-clause-value : goal.joined-returns-in_err-right-clause-value
+pub extended-returns-in_err-right-in-Joined : goal.extended-returns-in_err-right-in-Joined
 unfolding joined_by
-joined-returns-in_err-right-clause-value t c =
+extended-returns-in_err-right-in-Joined t c =
     let p = err_from_is_err_and c.from_residual.result c.from_residual.ensures.1 in
-    rw (p.1, p.2) (fails_on _ _ _ _ refl c.in_err-right.ensures.value)
+    rw (p.1, p.2, c.in-Joined.is) (fails_on _ _ _ _ refl c.in_err-right-in-Joined.ensures)
 
-pub compared-returns-in_err-right-clause-value : goal.compared-returns-in_err-right-clause-value
+pub extended-returns-in_err-right-in-Compared : goal.extended-returns-in_err-right-in-Compared
 unfolding compared_by
-compared-returns-in_err-right-clause-value t c =
-    let p = err_from_is_err_and c.from_residual.result c.from_residual.ensures.1 in
-    rw (p.1, p.2) (fails_on _ _ _ _ refl c.in_err-right.ensures.value)
+extended-returns-in_err-right-in-Compared t c =
+    let p = err_from_is_err_and c.from_residual-in_err-right-in-Compared.result c.from_residual-in_err-right-in-Compared.ensures.1 in
+    rw (p.1, p.2, c.in-Compared.is) (fails_on _ _ _ _ refl c.in_err-right-in-Compared.ensures)

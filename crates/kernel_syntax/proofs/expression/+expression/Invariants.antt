@@ -8,11 +8,8 @@ use Rattle.kernel_syntax.proofs.expression.+expression.Given as goal
 abbrev pub decreases-chain : goal.decreases-chain
 decreases-chain l = 32 * l.room + (1 + 2 * l.level)
 
-abbrev pub decreases-joined : goal.decreases-joined
-decreases-joined l = 32 * l.room + (2 + 2 * l.level)
-
-abbrev pub decreases-compared : goal.decreases-compared
-decreases-compared l = 32 * l.room + (2 + 2 * l.level)
+abbrev pub decreases-extended : goal.decreases-extended
+decreases-extended l = 32 * l.room + (2 + 2 * l.level)
 
 abbrev pub decreases-unary : goal.decreases-unary
 decreases-unary l = 32 * l.room

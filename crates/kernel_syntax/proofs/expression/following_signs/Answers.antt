@@ -7,7 +7,7 @@ use Rattle.kernel_syntax.proofs.SignRows.{all_signed-push}
 use Rattle.kernel_syntax.proofs.expression.following_signs.Goals as goal
 
 pub more-preserved : goal.more-preserved
-more-preserved c = rw c.in_ok-expr.ensures (sym (all_signed-push c.pop.new.self.items c.in-Some.sign (term_of c.more.expr.value)) ∙ ap (λ (ss : List Sign). all_signed ss (term_of c.more.expr.value)) (sym c.in-Some.ensures.items) ∙ c.more.invariant)
+more-preserved c = rw (ap term_of c.in_ok-expr.ensures.ok ∙ c.sign.ensures) (sym (all_signed-push c.pop.new.self.items c.in-Some.sign (term_of c.more.expr.value)) ∙ ap (λ (ss : List Sign). all_signed ss (term_of c.more.expr.value)) (sym c.in-Some.ensures.items) ∙ c.more.invariant)
 
 pub returns : goal.returns
 returns c =

@@ -6,44 +6,44 @@ use Rattle.kernel_syntax.specs.Headers.{for_loop_at}
 use Rattle.kernel_syntax.proofs.Chain.{fails_on}
 use Rattle.kernel_syntax.proofs.header.for_loop.Goals as goal
 
-pub returns-in_err-index-clause-value : goal.returns-in_err-index-clause-value
+pub returns-in_err-index : goal.returns-in_err-index
 unfolding for_loop_at
-returns-in_err-index-clause-value c =
+returns-in_err-index c =
     let p = err_from_is_err_and c.from_residual.result c.from_residual.ensures.1 in
-    rw (p.1, p.2) (fails_on _ _ _ _ refl c.in_err-index.ensures.value)
+    rw (p.1, p.2) (fails_on _ _ _ _ refl c.in_err-index.ensures)
 
-pub returns-in_err-from-clause-value : goal.returns-in_err-from-clause-value
+pub returns-in_err-from : goal.returns-in_err-from
 unfolding for_loop_at
-returns-in_err-from-clause-value c =
+returns-in_err-from c =
     let p = err_from_is_err_and c.from_residual-in_err-from.result c.from_residual-in_err-from.ensures.1 in
-    rw (p.1, p.2, c.in_ok-index.ensures.value) (fails_on _ _ _ _ refl c.in_err-from.ensures.value)
+    rw (p.1, p.2, c.in_ok-index.ensures) (fails_on _ _ _ _ refl c.in_err-from.ensures)
 
-pub returns-in_err-range-clause-value : goal.returns-in_err-range-clause-value
+pub returns-in_err-range : goal.returns-in_err-range
 unfolding for_loop_at
-returns-in_err-range-clause-value c =
+returns-in_err-range c =
     let p = err_from_is_err_and c.from_residual-in_err-range.result c.from_residual-in_err-range.ensures.1 in
-    rw (p.1, p.2, c.in_ok-index.ensures.value, c.in_ok-from.ensures.value) (fails_on _ _ _ _ refl c.in_err-range.ensures.value)
+    rw (p.1, p.2, c.in_ok-index.ensures, c.in_ok-from.ensures) (fails_on _ _ _ _ refl c.in_err-range.ensures)
 
-pub returns-in_err-end-clause-value : goal.returns-in_err-end-clause-value
+pub returns-in_err-end : goal.returns-in_err-end
 unfolding for_loop_at
-returns-in_err-end-clause-value c =
+returns-in_err-end c =
     let p = err_from_is_err_and c.from_residual-in_err-end.result c.from_residual-in_err-end.ensures.1 in
-    rw (p.1, p.2, c.in_ok-index.ensures.value, c.in_ok-from.ensures.value, c.in_ok-range.ensures.value) (fails_on _ _ _ _ refl c.in_err-end.ensures.value)
+    rw (p.1, p.2, c.in_ok-index.ensures, c.in_ok-from.ensures, c.in_ok-range.ensures) (fails_on _ _ _ _ refl c.in_err-end.ensures)
 
-pub returns-in_err-bound-clause-value : goal.returns-in_err-bound-clause-value
+pub returns-in_err-bound : goal.returns-in_err-bound
 unfolding for_loop_at
-returns-in_err-bound-clause-value c =
+returns-in_err-bound c =
     let p = err_from_is_err_and c.from_residual-in_err-bound.result c.from_residual-in_err-bound.ensures.1 in
-    rw (p.1, p.2, c.in_ok-index.ensures.value, c.in_ok-from.ensures.value, c.in_ok-range.ensures.value, c.in_ok-end.ensures.value) (fails_on _ _ _ _ refl c.in_err-bound.ensures.value)
+    rw (p.1, p.2, c.in_ok-index.ensures, c.in_ok-from.ensures, c.in_ok-range.ensures, c.in_ok-end.ensures) (fails_on _ _ _ _ refl c.in_err-bound.ensures)
 
-pub returns-in_err-inside-clause-value : goal.returns-in_err-inside-clause-value
+pub returns-in_err-inside : goal.returns-in_err-inside
 unfolding for_loop_at
-returns-in_err-inside-clause-value c =
+returns-in_err-inside c =
     let p = err_from_is_err_and c.from_residual-in_err-inside.result c.from_residual-in_err-inside.ensures.1 in
-    rw (p.1, p.2, c.in_ok-index.ensures.value, c.in_ok-from.ensures.value, c.in_ok-range.ensures.value, c.in_ok-end.ensures.value, c.in_ok-bound.ensures.value) (fails_on _ _ _ _ refl c.in_err-inside.ensures.value)
+    rw (p.1, p.2, c.in_ok-index.ensures, c.in_ok-from.ensures, c.in_ok-range.ensures, c.in_ok-end.ensures, c.in_ok-bound.ensures) (fails_on _ _ _ _ refl c.in_err-inside.ensures)
 
-pub returns-in_err-body-clause-value : goal.returns-in_err-body-clause-value
+pub returns-in_err-body : goal.returns-in_err-body
 unfolding for_loop_at
-returns-in_err-body-clause-value c =
+returns-in_err-body c =
     let p = err_from_is_err_and c.from_residual-in_err-body.result c.from_residual-in_err-body.ensures.1 in
-    rw (p.1, p.2, c.in_ok-index.ensures.value, c.in_ok-from.ensures.value, c.in_ok-range.ensures.value, c.in_ok-end.ensures.value, c.in_ok-bound.ensures.value, c.in_ok-inside.ensures.value, length-map c.in_ok-inside.inside.now word_of) (fails_on _ _ _ _ refl c.in_err-body.ensures.value)
+    rw (p.1, p.2, c.in_ok-index.ensures, c.in_ok-from.ensures, c.in_ok-range.ensures, c.in_ok-end.ensures, c.in_ok-bound.ensures, c.in_ok-inside.ensures, length-map c.in_ok-inside.inside.now word_of) (fails_on _ _ _ _ refl c.in_err-body.ensures)

@@ -6,10 +6,11 @@ use Rattle.kernel_tree.specs.Plain.{words_of, word_of}
 use Rattle.kernel_syntax.specs.Statements.{Statements, statement_by, block_at, choose_by}
 use Rattle.kernel_syntax.proofs.Blocks.{Follows, starts, closes, fails_inside, takes, block-none, block-some}
 use Rattle.kernel_syntax.proofs.Chain.{fails_on}
+use Rattle.kernel_syntax.proofs.Shorter.{statement_short}
 use Rattle.kernel_syntax.proofs.statement.+block.Goals as goal
 
-pub block-returns-then-room-eq0-clause-value : goal.block-returns-then-room-eq0-clause-value
-block-returns-then-room-eq0-clause-value t c = block-none c.args.whole c.args.room (words_of c.args.tokens.now) _ c.if-room-eq0.true (length-map c.args.tokens.now word_of)
+pub block-returns-then-room-eq0 : goal.block-returns-then-room-eq0
+block-returns-then-room-eq0 t c = block-none c.args.whole c.args.room (words_of c.args.tokens.now) _ c.if-room-eq0.true (length-map c.args.tokens.now word_of)
 
 pub block-more-init : goal.block-more-init
 block-more-init t c =
@@ -18,42 +19,47 @@ block-more-init t c =
     let first : Follows inner (block_at c.args.whole c.args.room words) [] words = subst (λ (w : Statements). Follows inner w [] words) (sym (block-some c.args.whole c.args.room words (omega arith))) (starts inner words) in
     (omega arith, subst (λ (s : List Stmt). Follows inner (block_at c.args.whole c.args.room words) s words) (sym c.new-stmts.ensures.items) first)
 
-pub block-returns-in-Some-clause-value : goal.block-returns-in-Some-clause-value
-block-returns-in-Some-clause-value t c = closes (statement_by c.args.whole (block_at false (c.args.room - 1))) (block_at c.args.whole c.args.room (words_of c.args.tokens.now)) c.more.stmts.items (words_of c.more.rest.now) c.more.invariant.1 (words_of c.in-Some.following.now) c.in-Some.ensures.value
+pub block-returns-in-Some : goal.block-returns-in-Some
+block-returns-in-Some t c = closes (statement_by c.args.whole (block_at false (c.args.room - 1))) (block_at c.args.whole c.args.room (words_of c.args.tokens.now)) c.more.stmts.items (words_of c.more.rest.now) c.more.invariant.1 (words_of c.in-Some.following.now) c.in-Some.ensures.value
 
-pub block-returns-in_err-stmt-in-None-clause-value : goal.block-returns-in_err-stmt-in-None-clause-value
-block-returns-in_err-stmt-in-None-clause-value t c =
+pub block-returns-in_err-stmt-in-None : goal.block-returns-in_err-stmt-in-None
+block-returns-in_err-stmt-in-None t c =
     let p = err_from_is_err_and c.from_residual.result c.from_residual.ensures.1 in
-    rw (p.1, p.2) (fails_inside (statement_by c.args.whole (block_at false (c.args.room - 1))) (block_at c.args.whole c.args.room (words_of c.args.tokens.now)) c.more.stmts.items (words_of c.more.rest.now) c.more.invariant.1 _ c.in-None.ensures.value c.in_err-stmt-in-None.ensures.value)
+    rw (p.1, p.2) (fails_inside (statement_by c.args.whole (block_at false (c.args.room - 1))) (block_at c.args.whole c.args.room (words_of c.args.tokens.now)) c.more.stmts.items (words_of c.more.rest.now) c.more.invariant.1 _ c.in-None.ensures.value c.in_err-stmt-in-None.ensures)
 
 pub block-more-preserved : goal.block-more-preserved
 block-more-preserved t c =
     let next = c.in_ok-stmt-in-None.next.now in
-    let short : length (words_of next) < length (words_of c.more.rest.now) = omega (arith, c.in_ok-stmt-in-None.ensures.shorter, length-map next word_of, length-map c.more.rest.now word_of) in (
-      omega (arith, c.in_ok-stmt-in-None.ensures.shorter),
-      rw c.in_ok-push-in-None.ensures.items (takes (statement_by c.args.whole (block_at false (c.args.room - 1))) (block_at c.args.whole c.args.room (words_of c.args.tokens.now)) c.more.stmts.items (words_of c.more.rest.now) c.more.invariant.1 c.in_ok-stmt-in-None.stmt (words_of next) c.in-None.ensures.value c.in_ok-stmt-in-None.ensures.value short),
+    let short : length (words_of next) < length (words_of c.more.rest.now) = statement_short c.args.whole (c.args.room - 1) (words_of c.more.rest.now) _ c.in_ok-stmt-in-None.ensures in (
+      omega (arith, short, length-map next word_of, length-map c.more.rest.now word_of),
+      rw c.in_ok-push-in-None.ensures.items (takes (statement_by c.args.whole (block_at false (c.args.room - 1))) (block_at c.args.whole c.args.room (words_of c.args.tokens.now)) c.more.stmts.items (words_of c.more.rest.now) c.more.invariant.1 c.in_ok-stmt-in-None.stmt (words_of next) c.in-None.ensures.value c.in_ok-stmt-in-None.ensures short),
     )
 
-pub choice-returns-in_err-cond-clause-value : goal.choice-returns-in_err-cond-clause-value
+pub block-more-smaller : goal.block-more-smaller
+block-more-smaller t c =
+    let short : length (words_of c.in_ok-stmt-in-None.next.now) < length (words_of c.more.rest.now) = statement_short c.args.whole (c.args.room - 1) (words_of c.more.rest.now) _ c.in_ok-stmt-in-None.ensures in
+    omega (arith, short, length-map c.in_ok-stmt-in-None.next.now word_of, length-map c.more.rest.now word_of)
+
+pub choice-returns-in_err-cond : goal.choice-returns-in_err-cond
 unfolding choose_by
-choice-returns-in_err-cond-clause-value t c =
+choice-returns-in_err-cond t c =
     let p = err_from_is_err_and c.from_residual.result c.from_residual.ensures.1 in
-    rw (p.1, p.2) (fails_on _ _ _ _ refl c.in_err-cond.ensures.value)
+    rw (p.1, p.2) (fails_on _ _ _ _ refl c.in_err-cond.ensures)
 
-pub choice-returns-in_err-then_part-clause-value : goal.choice-returns-in_err-then_part-clause-value
+pub choice-returns-in_err-then_part : goal.choice-returns-in_err-then_part
 unfolding choose_by
-choice-returns-in_err-then_part-clause-value t c =
+choice-returns-in_err-then_part t c =
     let p = err_from_is_err_and c.from_residual-in_err-then_part.result c.from_residual-in_err-then_part.ensures.1 in
-    rw (p.1, p.2, c.in_ok-cond.ensures.value) (fails_on _ _ _ _ refl c.in_err-then_part.ensures.value)
+    rw (p.1, p.2, c.in_ok-cond.ensures) (fails_on _ _ _ _ refl c.in_err-then_part.ensures)
 
-pub choice-returns-in_err-from-in-Some-clause-value : goal.choice-returns-in_err-from-in-Some-clause-value
+pub choice-returns-in_err-from-in-Some : goal.choice-returns-in_err-from-in-Some
 unfolding choose_by
-choice-returns-in_err-from-in-Some-clause-value t c =
+choice-returns-in_err-from-in-Some t c =
     let p = err_from_is_err_and c.from_residual-in_err-from-in-Some.result c.from_residual-in_err-from-in-Some.ensures.1 in
-    rw (p.1, p.2, c.in_ok-cond.ensures.value, c.in_ok-then_part.ensures.value, ← c.in-Some.ensures.value) (fails_on _ _ _ _ refl c.in_err-from-in-Some.ensures.value)
+    rw (p.1, p.2, c.in_ok-cond.ensures, c.in_ok-then_part.ensures, ← c.in-Some.ensures.value) (fails_on _ _ _ _ refl c.in_err-from-in-Some.ensures)
 
-pub choice-returns-in_err-other-in-Some-clause-value : goal.choice-returns-in_err-other-in-Some-clause-value
+pub choice-returns-in_err-other-in-Some : goal.choice-returns-in_err-other-in-Some
 unfolding choose_by
-choice-returns-in_err-other-in-Some-clause-value t c =
+choice-returns-in_err-other-in-Some t c =
     let p = err_from_is_err_and c.from_residual-in_err-other-in-Some.result c.from_residual-in_err-other-in-Some.ensures.1 in
-    rw (p.1, p.2, c.in_ok-cond.ensures.value, c.in_ok-then_part.ensures.value, ← c.in-Some.ensures.value, c.in_ok-from-in-Some.ensures.value) (fails_on _ _ _ _ refl c.in_err-other-in-Some.ensures.value)
+    rw (p.1, p.2, c.in_ok-cond.ensures, c.in_ok-then_part.ensures, ← c.in-Some.ensures.value, c.in_ok-from-in-Some.ensures) (fails_on _ _ _ _ refl c.in_err-other-in-Some.ensures)

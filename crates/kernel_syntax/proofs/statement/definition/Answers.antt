@@ -4,26 +4,26 @@ use Rattle.kernel_syntax.specs.Statements.{define_at}
 use Rattle.kernel_syntax.proofs.Chain.{fails_on}
 use Rattle.kernel_syntax.proofs.statement.definition.Goals as goal
 
-pub returns-in_err-name-clause-value : goal.returns-in_err-name-clause-value
+pub returns-in_err-name : goal.returns-in_err-name
 unfolding define_at
-returns-in_err-name-clause-value c =
+returns-in_err-name c =
     let p = err_from_is_err_and c.from_residual.result c.from_residual.ensures.1 in
-    rw (p.1, p.2) (fails_on _ _ _ _ refl c.in_err-name.ensures.value)
+    rw (p.1, p.2) (fails_on _ _ _ _ refl c.in_err-name.ensures)
 
-pub returns-in_err-ty-clause-value : goal.returns-in_err-ty-clause-value
+pub returns-in_err-ty : goal.returns-in_err-ty
 unfolding define_at
-returns-in_err-ty-clause-value c =
+returns-in_err-ty c =
     let p = err_from_is_err_and c.from_residual-in_err-ty.result c.from_residual-in_err-ty.ensures.1 in
-    rw (p.1, p.2, c.in_ok-name.ensures.value) (fails_on _ _ _ _ refl c.in_err-ty.ensures.value)
+    rw (p.1, p.2, c.in_ok-name.ensures) (fails_on _ _ _ _ refl c.in_err-ty.ensures)
 
-pub returns-in_err-from-clause-value : goal.returns-in_err-from-clause-value
+pub returns-in_err-from : goal.returns-in_err-from
 unfolding define_at
-returns-in_err-from-clause-value c =
+returns-in_err-from c =
     let p = err_from_is_err_and c.from_residual-in_err-from.result c.from_residual-in_err-from.ensures.1 in
-    rw (p.1, p.2, c.in_ok-name.ensures.value, c.in_ok-ty.ensures.value) (fails_on _ _ _ _ refl c.in_err-from.ensures.value)
+    rw (p.1, p.2, c.in_ok-name.ensures, c.in_ok-ty.ensures) (fails_on _ _ _ _ refl c.in_err-from.ensures)
 
-pub returns-in_err-value-clause-value : goal.returns-in_err-value-clause-value
+pub returns-in_err-value : goal.returns-in_err-value
 unfolding define_at
-returns-in_err-value-clause-value c =
+returns-in_err-value c =
     let p = err_from_is_err_and c.from_residual-in_err-value.result c.from_residual-in_err-value.ensures.1 in
-    rw (p.1, p.2, c.in_ok-name.ensures.value, c.in_ok-ty.ensures.value, c.in_ok-from.ensures.value) (fails_on _ _ _ _ refl c.in_err-value.ensures.value)
+    rw (p.1, p.2, c.in_ok-name.ensures, c.in_ok-ty.ensures, c.in_ok-from.ensures) (fails_on _ _ _ _ refl c.in_err-value.ensures)
