@@ -1,7 +1,7 @@
 //! Emits the code of expressions.
 
 ghost use Rattle.std.specs.Prelude.{◌≡◌, ◌+◌, ◌<◌, ◌^◌, true, None, IfOk, OnOk};
-ghost use Rattle.kernel_tree.specs.Plain.{Unary, Element, Operation, Shift, Conversion, Choice, Comparison, Both, Either, Not, name_of, term_of};
+ghost use Rattle.kernel_tree.specs.Plain.{Unary, Element, Operation, Shift, Conversion, Choice, Comparison, Both, Either, name_of, term_of};
 ghost use Rattle.kernel_tree.specs.Items.{term_size, index_items};
 ghost use Rattle.kernel_tree.specs.Kinds.{IsValue, IsTruth};
 ghost use Rattle.kernel_scope.specs.Scopes.{scope_of};
