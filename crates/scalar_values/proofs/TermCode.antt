@@ -1,6 +1,7 @@
 -- The code of expressions and conditions, put together from that of their parts.
 use Rattle.std.proofs.Common.{◌≡◌, ℕ, ◌+◌, Bool, true, false, List, Option, Some, None, refl, arith}
 use Rattle.std.specs.Prelude.{ℤ, not, if◌then◌else◌, [], ◌∷◌, option_map, OnOk}
+use Rattle.std.specs.Result.{result_and}
 use Rattle.std.specs.declared.result.Result.{Result}
 use Rattle.std.specs.declared.result.Result.TheVariants.{Ok, Err}
 use Rattle.machine_model.specs.InstructionTable.{Listed}
@@ -59,6 +60,10 @@ choice_labels n given given2 given3 p q r e f g = omega arith
 pub on_ok : {T E : Type 0} (r : Result T E) {P Q : Type 0} → OnOk r P → (P → Q) → OnOk r Q
 on_ok (Ok v) p f = f p
 on_ok (Err v) p f = p
+
+pub on_and : {T U E : Type 0} (r : Result T E) {q : Result U E} (v : U) {P Q : Type 0} → q ≡ result_and r (Ok v) → OnOk r P → (P → Q) → OnOk q Q
+on_and (Ok u) v e p f = rw e (f p)
+on_and (Err u) v e p f = rw e p
 
 pub chosen_is : (L : Layout) (hs : Homes) (s : Scope) (want : Option Ty) (b n given : ℕ) (op : CompareOp) (x y : Term) (d p q : ℕ) (rest : List DraftEntry) → want ≡ side_type s x y → given ≡ n + 2 → d ≡ reg_of L (b + term_size s.index (Comparison op x y))
     → flags_code L hs s b given (Comparison op x y) (ins csel (d ∷ p ∷ condition op (signed_side want) ∷ q ∷ []) ∷ rest) ≡ one_of_code L hs s b n (Comparison op x y) p q rest

@@ -16,7 +16,7 @@ ghost use Rattle.scalar_values.specs.Covers as asked;
 use crate::extent::{Extent, converted_extent, extent_of, within_type};
 use crate::instructions::index_word;
 use crate::leaving::{binary_asks, shift_asks, unary_asks};
-use kernel_scope::{Scope, element_type, first, lookup, own_type, side_type};
+use kernel_scope::{Scope, array_type, first, own_type, side_type};
 use kernel_tree::{Expr, Name, Ty};
 use scalar_words::{Form, Loose, loose_form, loose_form_named};
 
@@ -138,7 +138,7 @@ pub fn covers_index(loose: &[Loose], scope: &Scope, array: &Name, index: &Expr) 
 {
     match index_word(scope, index) {
         Some(_) => {
-            let ty = lookup(scope, array).and_then(element_type);
+            let ty = array_type(scope, array);
             stands_together(loose_form(loose, array), index_form(loose, scope.index), ty)
         }
         None => {

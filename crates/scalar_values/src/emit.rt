@@ -1,7 +1,7 @@
 //! Emits the code of expressions.
 
 ghost use Rattle.std.specs.Prelude.{◌≡◌, ◌+◌, ◌<◌, ◌^◌, true, None, IfOk, OnOk};
-ghost use Rattle.kernel_tree.specs.Plain.{Unary, Element, Operation, Shift, Conversion, Choice, Comparison, Both, Either, Not, name_of, term_of};
+ghost use Rattle.kernel_tree.specs.Plain.{Unary, Element, Operation, Shift, Conversion, Choice, Comparison, Both, Either, name_of, term_of};
 ghost use Rattle.kernel_tree.specs.Items.{term_size, index_items};
 ghost use Rattle.kernel_tree.specs.Kinds.{IsValue, IsTruth};
 ghost use Rattle.kernel_scope.specs.Scopes.{scope_of};
@@ -29,7 +29,7 @@ use crate::place::place_of;
 use crate::registers::{take, take_held, take_literal};
 use crate::side::Side;
 use a64_code::Reg;
-use kernel_scope::{Scope, element_type, first, lookup, own_type, side_type};
+use kernel_scope::{Scope, array_type, first, own_type, side_type};
 use kernel_tree::{BinaryOp, CompareOp, Expr, Name, Ty, UnaryOp};
 use label_fix::{Draft, Label};
 use scalar_words::places::Places;
@@ -64,7 +64,22 @@ pub fn emit_loose(
         Expr::Unary { op, arg } => emit_one(
             draft, places, homes, scope, extent, want, *op, arg, item,
         ),
-        Expr::Shift { .. } => emit_moved(draft, places, homes, scope, extent, want, expr, item),
+        Expr::Shift {
+            left_shift,
+            arg,
+            count,
+        } => emit_moved(
+            draft,
+            places,
+            homes,
+            scope,
+            extent,
+            want,
+            *left_shift,
+            arg,
+            *count,
+            item,
+        ),
         Expr::Cast { arg, ty } => emit_converted(
             draft, places, homes, scope, extent, arg, *ty, item,
         ),
@@ -109,10 +124,8 @@ fn emit_one(
     let may_leave = unary_may_leave(scope, want, op, arg);
     let asked = asked_extent(unary_joins(op), may_leave, extent, want);
     let a = emit_loose(draft, places, homes, scope, asked, want, arg, item)?;
-    let r = take(places, item);
     let leaves = settles(within(extent, want), unary_joins(op), may_leave);
-    want_unary(draft, op, leaves, want, r, a)?;
-    Ok(r)
+    want_unary(draft, places, op, leaves, want, a, item)
 }
 
 // A shift by a constant.
@@ -124,36 +137,29 @@ fn emit_moved(
     scope: &Scope,
     extent: Extent,
     want: Option<Ty>,
-    expr: &Expr,
+    left_shift: bool,
+    arg: &Expr,
+    count: i128,
     item: &mut usize,
 ) -> Result<Reg, AllocError>
-    requires kind { IsValue (term_of expr.now) }
-    requires shift { code.IsShift (term_of expr.now) }
-    requires fits { item.old + term_size (scope_of scope.now).index (term_of expr.now) < 2 ^ 32 }
+    requires kind { IsValue (term_of arg.now) }
+    requires fits { item.old + term_size (scope_of scope.now).index (Shift left_shift (term_of arg.now) count)
+        < 2 ^ 32 }
     ensures register { IfOk result (λ r. r.number
-        ≡ placed.home places.now (homes_of homes.now) (scope_of scope.now).index item.old (term_of expr.now)) }
-    ensures item { OnOk result (item.new ≡ item.old + term_size (scope_of scope.now).index (term_of expr.now)) }
+        ≡ placed.home places.now (homes_of homes.now) (scope_of scope.now).index item.old
+        (Shift left_shift (term_of arg.now) count)) }
+    ensures item { OnOk result (item.new
+        ≡ item.old + term_size (scope_of scope.now).index (Shift left_shift (term_of arg.now) count)) }
     ensures emits { OnOk result (Emits draft.old draft.new
-        (draft.old.labels + code.labels (scope_of scope.now).index (term_of expr.now))
+        (draft.old.labels + code.labels (scope_of scope.now).index (Shift left_shift (term_of arg.now) count))
         (code.loose_code places.now (homes_of homes.now) (scope_of scope.now) extent want item.old draft.old.labels
-        (term_of expr.now))) }
+        (Shift left_shift (term_of arg.now) count))) }
 {
-    match expr {
-        Expr::Shift {
-            left_shift,
-            arg,
-            count,
-        } => {
-            let may_leave = shift_may_leave(scope, want, *left_shift, arg, *count);
-            let asked = asked_extent(*left_shift, may_leave, extent, want);
-            let a = emit_loose(draft, places, homes, scope, asked, want, arg, item)?;
-            let r = take(places, item);
-            let leaves = settles(within(extent, want), *left_shift, may_leave);
-            want_shift(draft, leaves, *left_shift, *count, want, r, a)?;
-            Ok(r)
-        }
-        _ => unreachable!(),
-    }
+    let may_leave = shift_may_leave(scope, want, left_shift, arg, count);
+    let asked = asked_extent(left_shift, may_leave, extent, want);
+    let a = emit_loose(draft, places, homes, scope, asked, want, arg, item)?;
+    let leaves = settles(within(extent, want), left_shift, may_leave);
+    want_shift(draft, places, leaves, left_shift, count, want, a, item)
 }
 
 // A cast, whose operand is of its own type.
@@ -183,9 +189,7 @@ fn emit_converted(
     let from = own_type(scope, arg);
     let asked = converted_extent(extent, from, ty);
     let a = emit_loose(draft, places, homes, scope, asked, from, arg, item)?;
-    let r = take(places, item);
-    want_cast(draft, within_type(extent, ty), from, ty, r, a)?;
-    Ok(r)
+    want_cast(draft, places, within_type(extent, ty), from, ty, a, item)
 }
 
 // An operator on two values.
@@ -224,8 +228,7 @@ fn emit_two(
     )?;
     let r = take(places, item);
     let leaves = settles(within(extent, want), binary_joins(op), may_leave);
-    want_operator(draft, op, sides.0, leaves, want, r, sides.1)?;
-    Ok(r)
+    want_operator(draft, op, sides.0, leaves, want, r, sides.1).and(Ok(r))
 }
 
 // Both sides of an operator, of which so much is asked for; answers what its word takes of one, and the register of the
@@ -260,7 +263,9 @@ fn emit_sides(
         (term_of left.now) (term_of right.now))) }
 {
     if is_led(places, homes, scope, op, extent, want, left, right, *item) {
-        let side = emit_parts(draft, places, homes, scope, extent, want, left, item)?;
+        let side = part_side(places, homes, scope, want, left, *item);
+        emit_parts(draft, places, homes, scope, extent, want, left, item)?;
+        *item += 1;
         let r = emit_loose(draft, places, homes, scope, extent, want, right, item)?;
         Ok((side, r))
     } else {
@@ -304,7 +309,9 @@ pub fn emit_side(
         }
         None => {
             if fused {
-                let side = emit_parts(draft, places, homes, scope, extent, want, expr, item)?;
+                let side = part_side(places, homes, scope, want, expr, *item);
+                emit_parts(draft, places, homes, scope, extent, want, expr, item)?;
+                *item += 1;
                 Ok(side)
             } else {
                 let r = emit_loose(draft, places, homes, scope, extent, want, expr, item)?;
@@ -314,7 +321,7 @@ pub fn emit_side(
     }
 }
 
-// The operands of a value that stands in the word of its user.
+// The operands of a value that stands in the word of its user, before its own item; answers the register of the last one.
 #[cycle(terms)]
 fn emit_parts(
     draft: &mut Draft,
@@ -325,24 +332,21 @@ fn emit_parts(
     want: Option<Ty>,
     expr: &Expr,
     item: &mut usize,
-) -> Result<Side, AllocError>
+) -> Result<Reg, AllocError>
     requires kind { IsValue (term_of expr.now) }
     requires parts { code.HasParts true (term_of expr.now) }
     requires fits { item.old + term_size (scope_of scope.now).index (term_of expr.now) < 2 ^ 32 }
-    ensures side { IfOk result (λ s. side_view s ≡ code.part_side places.now (homes_of homes.now)
-        (scope_of scope.now).index want item.old (term_of expr.now)) }
-    ensures item { OnOk result (item.new ≡ item.old + term_size (scope_of scope.now).index (term_of expr.now)) }
+    ensures item { OnOk result (item.new + 1 ≡ item.old + term_size (scope_of scope.now).index (term_of expr.now)) }
     ensures emits { OnOk result (Emits draft.old draft.new
         (draft.old.labels + code.labels (scope_of scope.now).index (term_of expr.now))
         (code.parts_code places.now (homes_of homes.now) (scope_of scope.now) extent want item.old draft.old.labels
         (term_of expr.now))) }
 {
-    let side = part_side(places, homes, scope, want, expr, *item);
     match expr {
         Expr::Binary { op, left, right } => {
             let asked = binary_asks(scope, want, *op, left, right, extent);
             emit_loose(draft, places, homes, scope, asked, want, left, item)?;
-            emit_loose(draft, places, homes, scope, asked, want, right, item)?;
+            emit_loose(draft, places, homes, scope, asked, want, right, item)
         }
         Expr::Shift {
             left_shift,
@@ -350,17 +354,15 @@ fn emit_parts(
             count,
         } => {
             let asked = shift_asks(scope, want, *left_shift, arg, *count, extent);
-            emit_loose(draft, places, homes, scope, asked, want, arg, item)?;
+            emit_loose(draft, places, homes, scope, asked, want, arg, item)
         }
         Expr::Cast { arg, ty } => {
             let from = own_type(scope, arg);
             let asked = converted_extent(extent, from, *ty);
-            emit_loose(draft, places, homes, scope, asked, from, arg, item)?;
+            emit_loose(draft, places, homes, scope, asked, from, arg, item)
         }
         _ => unreachable!(),
     }
-    *item += 1;
-    Ok(side)
 }
 
 // The right side of a comparison, which takes no code where its word holds it as a number; answers the register of its
@@ -420,18 +422,12 @@ fn emit_read(
         (code.loose_code places.now (homes_of homes.now) (scope_of scope.now) extent None item.old draft.old.labels
         (Element (name_of array.now) (term_of index.now)))) }
 {
-    let ty = lookup(scope, array).and_then(element_type);
+    let ty = array_type(scope, array);
     match place_of(places, homes, scope, array, index) {
-        Some(place) => {
-            let r = take(places, item);
-            emit_load(draft, ty, r, place, loop_variable())?;
-            Ok(r)
-        }
+        Some(place) => emit_load(draft, places, ty, place, loop_variable(), item),
         None => {
             let x = emit_number(draft, places, homes, scope, index, item)?;
-            let r = take(places, item);
-            emit_load(draft, ty, r, register_at(homes, array), x)?;
-            Ok(r)
+            emit_load(draft, places, ty, register_at(homes, array), x, item)
         }
     }
 }
@@ -499,15 +495,12 @@ fn emit_one_of(
     match cond {
         Expr::Compare { op, left, right } => {
             emit_flags(draft, places, homes, scope, *op, left, right, item)?;
-            let r = take(places, item);
-            emit_chosen(draft, *op, side_type(scope, left, right), r, a, b)?;
-            Ok(r)
+            let want = side_type(scope, left, right);
+            emit_chosen(draft, places, *op, want, a, b, item)
         }
         _ => {
             emit_jump(draft, places, homes, scope, false, other, cond, item)?;
-            let r = take(places, item);
-            emit_pick(draft, r, a, b, other, end)?;
-            Ok(r)
+            emit_pick(draft, places, a, b, other, end, item)
         }
     }
 }
@@ -543,9 +536,8 @@ fn emit_flags(
     let b = emit_right(
         draft, places, homes, scope, whole, want, number, right, item,
     )?;
-    draft.put(compare_word(number, a, b))?;
     *item += 1;
-    Ok(())
+    draft.put(compare_word(number, a, b))
 }
 
 /// The code of a condition, which goes to a label where its truth is `sense`, and else on.
@@ -580,7 +572,11 @@ pub fn emit_jump(
         Expr::Or { left, right } => emit_either(
             draft, places, homes, scope, sense, to, left, right, item,
         ),
-        Expr::Not { arg } => emit_contrary(draft, places, homes, scope, sense, to, arg, item),
+        Expr::Not { arg } => {
+            emit_jump(draft, places, homes, scope, !sense, to, arg, item)?;
+            *item += 1;
+            Ok(())
+        }
         _ => unreachable!(),
     }
 }
@@ -619,36 +615,8 @@ fn emit_comparison(
     let b = emit_right(
         draft, places, homes, scope, whole, want, number, right, item,
     )?;
-    emit_branch(draft, op, sense, want, number, a, b, to)?;
     *item += 1;
-    Ok(())
-}
-
-// The contrary of a condition.
-#[cycle(terms)]
-fn emit_contrary(
-    draft: &mut Draft,
-    places: &Places,
-    homes: &[Home],
-    scope: &Scope,
-    sense: bool,
-    to: Label,
-    arg: &Expr,
-    item: &mut usize,
-) -> Result<(), AllocError>
-    requires given { to < draft.old.labels }
-    requires kind { IsTruth (term_of arg.now) }
-    requires fits { item.old + term_size (scope_of scope.now).index (Not (term_of arg.now)) < 2 ^ 32 }
-    ensures item { OnOk result (item.new ≡ item.old + term_size (scope_of scope.now).index
-        (Not (term_of arg.now))) }
-    ensures emits { OnOk result (Emits draft.old draft.new
-        (draft.old.labels + code.labels (scope_of scope.now).index (Not (term_of arg.now)))
-        (code.jump_code places.now (homes_of homes.now) (scope_of scope.now) sense to item.old draft.old.labels
-        (Not (term_of arg.now)))) }
-{
-    emit_jump(draft, places, homes, scope, !sense, to, arg, item)?;
-    *item += 1;
-    Ok(())
+    emit_branch(draft, op, sense, want, number, a, b, to)
 }
 
 // Two conditions, the second of which is passed over where the first does not hold.
@@ -680,9 +648,8 @@ fn emit_both(
     let first = if sense { over } else { to };
     emit_jump(draft, places, homes, scope, false, first, left, item)?;
     emit_jump(draft, places, homes, scope, sense, to, right, item)?;
-    emit_placed(draft, sense, over)?;
     *item += 1;
-    Ok(())
+    emit_placed(draft, sense, over)
 }
 
 // Two conditions, the second of which is passed over where the first holds.
@@ -715,9 +682,8 @@ fn emit_either(
     emit_jump(draft, places, homes, scope, true, first, left, item)?;
     *item += 1;
     emit_jump(draft, places, homes, scope, sense, to, right, item)?;
-    emit_placed(draft, !sense, over)?;
     *item += 1;
-    Ok(())
+    emit_placed(draft, !sense, over)
 }
 
 // The code of an index, and the register that holds it.
@@ -746,8 +712,7 @@ fn emit_number(
         None => {
             let want = first(own_type(scope, number), Some(Ty::U64));
             let whole = Extent::Whole;
-            let r = emit_loose(draft, places, homes, scope, whole, want, number, item)?;
-            Ok(r)
+            emit_loose(draft, places, homes, scope, whole, want, number, item)
         }
     }
 }

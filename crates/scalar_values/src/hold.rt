@@ -10,7 +10,7 @@ ghost use Rattle.scalar_values.specs.HeldNumbers as numbers;
 use crate::instructions::{addend, held_addend, immediate, index_word};
 use crate::place::{moved_key, near_offset};
 use kernel_meaning::word;
-use kernel_scope::{Scope, element_type, literal_value, lookup};
+use kernel_scope::{Scope, array_type, literal_value};
 use kernel_tree::{BinaryOp, Expr, Name};
 use scalar_words::{Constant, Home, Key, constant_in, is_same_number, register_at};
 use std::alloc::AllocError;
@@ -50,9 +50,10 @@ fn hold_key(constants: &mut Vec<Constant>, params: usize, key: Key) -> Result<()
         Some(_) => Ok(()),
         None => {
             if has_room(params, constants) {
-                add_key(constants, key)?;
+                add_key(constants, key)
+            } else {
+                Ok(())
             }
-            Ok(())
         }
     }
 }
@@ -84,9 +85,10 @@ fn hold_moved(
         None => Ok(()),
         Some(key) => {
             if is_reached(params, key) {
-                hold_key(constants, params, key)?;
+                hold_key(constants, params, key)
+            } else {
+                Ok(())
             }
-            Ok(())
         }
     }
 }
@@ -105,7 +107,7 @@ pub fn hold_element(
         ≡ numbers.hold_element params (homes_of homes.now) (scope_of scope.now) (name_of array.now)
         (items.stream_offset (scope_of scope.now).index (term_of index.now)) (constants_of constants.old.items)) }
 {
-    let ty = lookup(scope, array).and_then(element_type);
+    let ty = array_type(scope, array);
     let key = moved_key(register_at(homes, array), ty, near_offset(scope, index));
     hold_moved(constants, params, key)
 }
@@ -114,16 +116,20 @@ pub fn hold_element(
 pub fn addend_of(op: BinaryOp, expr: &Expr) -> Option<u64>
     ensures { result ≡ numbers.addend_of op (term_of expr.now) }
 {
-    let value = literal_value(expr)?;
-    held_addend(op, word(value))
+    match literal_value(expr) {
+        None => None,
+        Some(value) => held_addend(op, word(value)),
+    }
 }
 
 // The same of a comparison.
 fn immediate_of(expr: &Expr) -> Option<u64>
     ensures { result ≡ numbers.immediate_of (term_of expr.now) }
 {
-    let value = literal_value(expr)?;
-    immediate(word(value))
+    match literal_value(expr) {
+        None => None,
+        Some(value) => immediate(word(value)),
+    }
 }
 
 /// What is held for an expression, after what is held before it.
@@ -143,10 +149,7 @@ pub fn hold_term(
     match expr {
         Expr::Lit(value) => hold_key(constants, params, Key::Number(*value)),
         Expr::Var(_) => Ok(()),
-        Expr::Read { array, index } => {
-            hold_index(constants, params, homes, scope, index)?;
-            hold_element(constants, params, homes, scope, array, index)
-        }
+        Expr::Read { array, index } => hold_read(constants, params, homes, scope, array, index),
         Expr::Unary { arg, .. }
         | Expr::Shift { arg, .. }
         | Expr::Cast { arg, .. }
@@ -214,24 +217,30 @@ fn hold_sides(
     }
 }
 
-// An index, where it is computed.
+// An element that is read, after its index, where that is computed.
 #[cycle(terms)]
 #[tactic(auto, using(crate::proofs::IndexCode::held_stream, crate::proofs::IndexCode::held_computed))]
-fn hold_index(
+fn hold_read(
     constants: &mut Vec<Constant>,
     params: usize,
     homes: &[Home],
     scope: &Scope,
+    array: &Name,
     index: &Expr,
 ) -> Result<(), AllocError>
     requires { params ≤ 8 }
     ensures { OnOk result (constants_of constants.new.items
-        ≡ numbers.hold_index (items.stream_offset (scope_of scope.now).index (term_of index.now))
+        ≡ numbers.hold_element params (homes_of homes.now) (scope_of scope.now) (name_of array.now)
+        (items.stream_offset (scope_of scope.now).index (term_of index.now))
+        (numbers.hold_index (items.stream_offset (scope_of scope.now).index (term_of index.now))
         (numbers.hold_term params (homes_of homes.now) (scope_of scope.now) (term_of index.now))
-        (constants_of constants.old.items)) }
+        (constants_of constants.old.items))) }
 {
     match index_word(scope, index) {
-        Some(_) => Ok(()),
-        None => hold_term(constants, params, homes, scope, index),
+        Some(_) => hold_element(constants, params, homes, scope, array, index),
+        None => {
+            hold_term(constants, params, homes, scope, index)?;
+            hold_element(constants, params, homes, scope, array, index)
+        }
     }
 }

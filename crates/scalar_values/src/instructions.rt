@@ -1,6 +1,6 @@
 //! The instructions of one item.
 
-ghost use Rattle.std.specs.Prelude.{◌≡◌, ◌<◌, ◌≤◌, true, neg_ℤ, option_map, option_and_then, ◌∷◌, []};
+ghost use Rattle.std.specs.Prelude.{◌≡◌, ◌<◌, ◌≤◌, ◌%◌, true, neg_ℤ, unsigned_abs, option_map, option_and_then, ◌∷◌, []};
 ghost use Rattle.kernel_tree.specs.Plain.{term_of};
 ghost use Rattle.kernel_scope.specs.Scopes.{scope_of};
 ghost use Rattle.label_fix.specs.Draft.{word_view};
@@ -54,9 +54,9 @@ fn index_at(offset: i128) -> Option<Word>
     if offset == 0 {
         None
     } else if offset > 0 {
-        Some(index_up((offset.unsigned_abs() % 4096) as u32))
+        Some(index_by(AddSubOp::Add, offset))
     } else {
-        Some(index_down((offset.unsigned_abs() % 4096) as u32))
+        Some(index_by(AddSubOp::Sub, offset))
     }
 }
 
@@ -68,36 +68,23 @@ fn index_back(offset: i128) -> Option<Word>
     if offset == 0 {
         None
     } else if offset > 0 {
-        Some(index_down((offset.unsigned_abs() % 4096) as u32))
+        Some(index_by(AddSubOp::Sub, offset))
     } else {
-        Some(index_up((offset.unsigned_abs() % 4096) as u32))
+        Some(index_by(AddSubOp::Add, offset))
     }
 }
 
-fn index_up(by: u32) -> Word
-    requires { by < 4096 }
-    ensures { word_view result ≡ plain.word_of table.add_imm (26 ∷ 9 ∷ by ∷ 0 ∷ []) }
+// ADD or SUB of so much, of the loop variable.
+fn index_by(op: AddSubOp, offset: i128) -> Word
+    ensures { word_view result ≡ plain.word_of (seen.add_sub_imm_name op)
+        (26 ∷ 9 ∷ unsigned_abs offset % 4096 ∷ 0 ∷ []) }
 {
-    Word::A(A64::AddSubImmediate {
-        op: AddSubOp::Add,
-        rd: scratch(),
-        rn: Bits { number: 9 },
-        imm12: Bits { number: by },
-        sh: false,
-    })
-}
-
-fn index_down(by: u32) -> Word
-    requires { by < 4096 }
-    ensures { word_view result ≡ plain.word_of table.sub_imm (26 ∷ 9 ∷ by ∷ 0 ∷ []) }
-{
-    Word::A(A64::AddSubImmediate {
-        op: AddSubOp::Sub,
-        rd: scratch(),
-        rn: Bits { number: 9 },
-        imm12: Bits { number: by },
-        sh: false,
-    })
+    add_sub_number(
+        op,
+        scratch(),
+        index(),
+        (offset.unsigned_abs() % 4096) as u32,
+    )
 }
 
 /// The contrary of the condition that holds of two operands.
@@ -158,8 +145,10 @@ pub fn compared_number(want: Option<Ty>, expr: &Expr) -> Option<u64>
     ensures number { result ≡ code.compared_number want (term_of expr.now) }
     ensures held { code.IsHeld result (term_of expr.now) }
 {
-    let value = literal_value(expr)?;
-    immediate(word(wrapped(want, value)))
+    match literal_value(expr) {
+        None => None,
+        Some(value) => immediate(word(wrapped(want, value))),
+    }
 }
 
 /// The number that the word of an operator holds as its right side.
@@ -167,8 +156,10 @@ pub fn added_number(op: BinaryOp, want: Option<Ty>, expr: &Expr) -> Option<u64>
     ensures number { result ≡ code.added_number op want (term_of expr.now) }
     ensures held { code.IsHeld result (term_of expr.now) }
 {
-    let value = literal_value(expr)?;
-    held_addend(op, word(wrapped(want, value)))
+    match literal_value(expr) {
+        None => None,
+        Some(value) => held_addend(op, word(wrapped(want, value))),
+    }
 }
 
 /// A register and a number more.
@@ -268,12 +259,12 @@ pub fn compare_word(number: Option<u64>, a: Reg, b: Reg) -> Word
 pub fn zero_test(op: CompareOp, number: Option<u64>) -> Option<bool>
     ensures { result ≡ words.zero_test op number }
 {
-    if number? != 0 {
-        return None;
-    }
-    match op {
-        CompareOp::Eq => Some(true),
-        CompareOp::Ne => Some(false),
+    match number {
+        Some(0) => match op {
+            CompareOp::Eq => Some(true),
+            CompareOp::Ne => Some(false),
+            _ => None,
+        },
         _ => None,
     }
 }
@@ -393,11 +384,13 @@ fn moved_word(op: BinaryOp, by: Option<i128>) -> Option<Option<Word>>
     ensures word { option_map (option_map word_view) result ≡ option_map words.index_word
         (option_and_then (items.moved_by op) by) }
 {
-    let by = by?;
-    match op {
-        BinaryOp::Add => Some(index_at(by)),
-        BinaryOp::Sub => Some(index_back(by)),
-        _ => None,
+    match by {
+        None => None,
+        Some(by) => match op {
+            BinaryOp::Add => Some(index_at(by)),
+            BinaryOp::Sub => Some(index_back(by)),
+            _ => None,
+        },
     }
 }
 
@@ -449,13 +442,7 @@ pub fn index() -> Reg
 pub fn next_iteration() -> Word
     ensures { word_view result ≡ plain.word_of table.add_imm (9 ∷ 9 ∷ 1 ∷ 0 ∷ []) }
 {
-    Word::A(A64::AddSubImmediate {
-        op: AddSubOp::Add,
-        rd: index(),
-        rn: index(),
-        imm12: Bits { number: 1 },
-        sh: false,
-    })
+    add_sub_number(AddSubOp::Add, index(), index(), 1)
 }
 
 /// A small number into a register.

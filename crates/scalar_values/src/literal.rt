@@ -32,9 +32,6 @@ pub fn emit_literal(
     let own = take(places, item);
     match places.constant(Key::Number(value)) {
         Some(held) => Ok(held),
-        None => {
-            emit_const(draft, own, word(wrapped(want, value)))?;
-            Ok(own)
-        }
+        None => emit_const(draft, own, word(wrapped(want, value))).and(Ok(own)),
     }
 }

@@ -1,6 +1,6 @@
 //! Emits the code of operators, loads and branches, whose operands are in registers.
 
-ghost use Rattle.std.specs.Prelude.{◌≡◌, ◌<◌, ◌+◌, true, [], ◌∷◌, IfOk, OnOk, option_map};
+ghost use Rattle.std.specs.Prelude.{◌≡◌, ◌<◌, ◌+◌, ◌^◌, true, [], ◌∷◌, IfOk, OnOk, option_map};
 ghost use Rattle.label_fix.specs.Draft.{word_view, kind_view};
 ghost use Rattle.label_fix.specs.Emits.{Emits};
 ghost use Rattle.label_fix.specs.Finished.{is_plain, has_register};
@@ -9,6 +9,7 @@ ghost use Rattle.kernel_tree.specs.Wrap as wrap;
 ghost use Rattle.label_fix.specs.DraftRun as plain;
 ghost use Rattle.scalar_values.specs.ItemWords as words;
 ghost use Rattle.scalar_words.specs.Words as common;
+ghost use Rattle.scalar_words.specs.Layout as layout;
 ghost use Rattle.scalar_values.specs.Code as code;
 ghost use Rattle.scalar_values.specs.Sides.{side_view};
 
@@ -16,6 +17,7 @@ use crate::instructions::{
     compare_word, index, load, product_word, scratch, shift_count, shift_word, shifted, sum_word,
     turned, zero_test,
 };
+use crate::registers::take;
 use crate::side::Side;
 use a64_code::{AddSubOp, Cond, LogicalOp, Reg, SelectOp, zero};
 use kernel_meaning::{fits, is_signed};
@@ -23,35 +25,8 @@ use kernel_tree::{BinaryOp, CompareOp, Ty, UnaryOp};
 use label_fix::{BranchKind, Draft, Label, Word};
 use scalar_words::instructions::{add_sub, condition, extending, is_narrow, logical, select};
 use scalar_words::operations::{emit_copy, emit_operation, emit_settle};
+use scalar_words::places::Places;
 use std::alloc::AllocError;
-
-// A register extended by a type into another one.
-fn emit_extend(draft: &mut Draft, ty: Ty, d: Reg, a: Reg) -> Result<(), AllocError>
-    ensures { OnOk result (Emits draft.old draft.new draft.old.labels
-        (common.word_code (common.extend_word ty d.number a.number))) }
-{
-    if is_narrow(ty) {
-        draft.put(extending(ty, d, a))?;
-        Ok(())
-    } else {
-        emit_copy(draft, d, a)?;
-        Ok(())
-    }
-}
-
-// A value of one type as one of another.
-fn emit_cast(draft: &mut Draft, from: Ty, ty: Ty, d: Reg, a: Reg) -> Result<(), AllocError>
-    ensures { OnOk result (Emits draft.old draft.new draft.old.labels
-        (common.word_code (words.cast_word from ty d.number a.number))) }
-{
-    if fits(from, ty) {
-        emit_copy(draft, d, a)?;
-        Ok(())
-    } else {
-        emit_extend(draft, ty, d, a)?;
-        Ok(())
-    }
-}
 
 // A word whose result is extended in place where it may have left the extended form.
 fn emit_settled(
@@ -66,8 +41,7 @@ fn emit_settled(
         (λ rest. plain.Put (word_view word) ∷ common.word_code (common.settle_word leaves ty d.number) rest)) }
 {
     draft.put(word)?;
-    emit_settle(draft, leaves, ty, d)?;
-    Ok(())
+    emit_settle(draft, leaves, ty, d)
 }
 
 // The absolute value.
@@ -78,11 +52,9 @@ fn emit_abs(draft: &mut Draft, leaves: bool, ty: Ty, d: Reg, a: Reg) -> Result<(
     if is_signed(ty) {
         draft.put(add_sub(AddSubOp::Subs, scratch(), zero(), a))?;
         let word = select(SelectOp::Csel, d, scratch(), Cond::Ge, a);
-        emit_settled(draft, word, leaves, ty, d)?;
-        Ok(())
+        emit_settled(draft, word, leaves, ty, d)
     } else {
-        emit_copy(draft, d, a)?;
-        Ok(())
+        emit_copy(draft, d, a)
     }
 }
 
@@ -101,34 +73,14 @@ fn emit_unary(
     match op {
         UnaryOp::Neg => {
             let word = add_sub(AddSubOp::Sub, d, zero(), a);
-            emit_settled(draft, word, leaves, ty, d)?;
-            Ok(())
+            emit_settled(draft, word, leaves, ty, d)
         }
         UnaryOp::Flip => {
             let word = logical(LogicalOp::Orn, d, zero(), a);
-            emit_settled(draft, word, leaves, ty, d)?;
-            Ok(())
+            emit_settled(draft, word, leaves, ty, d)
         }
         UnaryOp::Abs => emit_abs(draft, leaves, ty, d, a),
     }
-}
-
-// The code of a shift by a constant.
-fn emit_shift(
-    draft: &mut Draft,
-    leaves: bool,
-    left: bool,
-    count: i128,
-    ty: Ty,
-    d: Reg,
-    a: Reg,
-) -> Result<(), AllocError>
-    ensures { OnOk result (Emits draft.old draft.new draft.old.labels
-        (words.shift_code leaves left count ty d.number a.number)) }
-{
-    draft.put(shifted(left, is_signed(ty), shift_count(count), d, a))?;
-    emit_settle(draft, leaves, ty, d)?;
-    Ok(())
 }
 
 /// Whether a type, if there is one, is signed.
@@ -158,14 +110,10 @@ pub fn emit_branch(
 {
     let signed = signed_side(want);
     match zero_test(op, number) {
-        Some(zero) => {
-            draft.branch(zero_branch(same_sense(sense, zero), a), to)?;
-            Ok(())
-        }
+        Some(zero) => draft.branch(zero_branch(same_sense(sense, zero), a), to),
         None => {
             draft.put(compare_word(number, a, b))?;
-            draft.branch(BranchKind::If(turned(sense, op, signed)), to)?;
-            Ok(())
+            draft.branch(BranchKind::If(turned(sense, op, signed)), to)
         }
     }
 }
@@ -192,40 +140,49 @@ fn zero_branch(zero: bool, r: Reg) -> BranchKind
 /// A choice by the flags of a comparison.
 pub fn emit_chosen(
     draft: &mut Draft,
+    places: &Places,
     op: CompareOp,
     want: Option<Ty>,
-    d: Reg,
     a: Reg,
     b: Reg,
-) -> Result<(), AllocError>
-    ensures { OnOk result (Emits draft.old draft.new draft.old.labels
-        (λ rest. plain.ins table.csel
-        (d.number ∷ a.number ∷ common.condition op (code.signed_side want) ∷ b.number ∷ []) ∷ rest)) }
+    item: &mut usize,
+) -> Result<Reg, AllocError>
+    requires { item.old < 2 ^ 32 }
+    ensures register { IfOk result (λ r. r.number ≡ layout.reg_of places.now item.old) }
+    ensures item { item.new ≡ item.old + 1 }
+    ensures emits { OnOk result (Emits draft.old draft.new draft.old.labels
+        (λ rest. plain.ins table.csel (layout.reg_of places.now item.old ∷ a.number
+        ∷ common.condition op (code.signed_side want) ∷ b.number ∷ []) ∷ rest)) }
 {
-    draft.put(select(SelectOp::Csel, d, a, condition(op, signed_side(want)), b))?;
-    Ok(())
+    let d = take(places, item);
+    let word = select(SelectOp::Csel, d, a, condition(op, signed_side(want)), b);
+    draft.put(word).and(Ok(d))
 }
 
 /// The first of two values into a register where the code before goes on, and the second where it goes to a label.
 pub fn emit_pick(
     draft: &mut Draft,
-    d: Reg,
+    places: &Places,
     a: Reg,
     b: Reg,
     other: Label,
     end: Label,
-) -> Result<(), AllocError>
+    item: &mut usize,
+) -> Result<Reg, AllocError>
     requires next { end ≡ other + 1 }
     requires given { end < draft.old.labels }
-    ensures { OnOk result (Emits draft.old draft.new draft.old.labels
-        (words.pick_code d.number a.number b.number other)) }
+    requires fits { item.old < 2 ^ 32 }
+    ensures register { IfOk result (λ r. r.number ≡ layout.reg_of places.now item.old) }
+    ensures item { item.new ≡ item.old + 1 }
+    ensures emits { OnOk result (Emits draft.old draft.new draft.old.labels
+        (words.pick_code (layout.reg_of places.now item.old) a.number b.number other)) }
 {
+    let d = take(places, item);
     emit_copy(draft, d, a)?;
     draft.branch(BranchKind::Always, end)?;
     draft.place(other)?;
     emit_copy(draft, d, b)?;
-    draft.place(end)?;
-    Ok(())
+    draft.place(end).and(Ok(d))
 }
 
 /// The place of a label, where it is wanted.
@@ -233,10 +190,7 @@ pub fn emit_placed(draft: &mut Draft, wanted: bool, label: Label) -> Result<(), 
     requires { label < draft.old.labels }
     ensures { OnOk result (Emits draft.old draft.new draft.old.labels (words.placed_code wanted label)) }
 {
-    if wanted {
-        draft.place(label)?;
-    }
-    Ok(())
+    if wanted { draft.place(label) } else { Ok(()) }
 }
 
 // The code of an operator, by what its word takes as its right side.
@@ -255,18 +209,15 @@ fn emit_operator(
     match side {
         Side::Register(c) => {
             emit_operation(draft, op, is_signed(ty), d, a, c)?;
-            emit_settle(draft, leaves, ty, d)?;
-            Ok(())
+            emit_settle(draft, leaves, ty, d)
         }
         Side::Number(number) => {
             let word = sum_word(op, number, d, a);
-            emit_settled(draft, word, leaves, ty, d)?;
-            Ok(())
+            emit_settled(draft, word, leaves, ty, d)
         }
         Side::Product(p, q) => {
             let word = product_word(op, d, a, p, q);
-            emit_settled(draft, word, leaves, ty, d)?;
-            Ok(())
+            emit_settled(draft, word, leaves, ty, d)
         }
         Side::Moved {
             left,
@@ -275,8 +226,7 @@ fn emit_operator(
             register,
         } => {
             let word = shift_word(op, d, a, left, signed, count, register);
-            emit_settled(draft, word, leaves, ty, d)?;
-            Ok(())
+            emit_settled(draft, word, leaves, ty, d)
         }
     }
 }
@@ -301,47 +251,59 @@ pub fn want_operator(
     }
 }
 
-/// The same where a type is wanted.
+/// The same of an operator on one value, into the register of its item.
 pub fn want_unary(
     draft: &mut Draft,
+    places: &Places,
     op: UnaryOp,
     leaves: bool,
     want: Option<Ty>,
-    d: Reg,
     a: Reg,
-) -> Result<(), AllocError>
-    ensures { OnOk result (Emits draft.old draft.new draft.old.labels
-        (λ rest. common.at_type want (λ t. words.unary_code leaves op t d.number a.number rest) rest)) }
+    item: &mut usize,
+) -> Result<Reg, AllocError>
+    requires { item.old < 2 ^ 32 }
+    ensures register { IfOk result (λ r. r.number ≡ layout.reg_of places.now item.old) }
+    ensures item { item.new ≡ item.old + 1 }
+    ensures emits { OnOk result (Emits draft.old draft.new draft.old.labels
+        (λ rest. common.at_type want (λ t. words.unary_code leaves op t (layout.reg_of places.now item.old) a.number
+        rest) rest)) }
 {
+    let d = take(places, item);
     match want {
-        None => Ok(()),
-        Some(ty) => emit_unary(draft, op, leaves, ty, d, a),
+        None => Ok(d),
+        Some(ty) => emit_unary(draft, op, leaves, ty, d, a).and(Ok(d)),
     }
 }
 
-/// The same where a type is wanted.
+/// The same of a shift by a constant.
 pub fn want_shift(
     draft: &mut Draft,
+    places: &Places,
     leaves: bool,
     left: bool,
     count: i128,
     want: Option<Ty>,
-    d: Reg,
     a: Reg,
-) -> Result<(), AllocError>
-    ensures { OnOk result (Emits draft.old draft.new draft.old.labels
-        (λ rest. common.at_type want (λ t. words.shift_code leaves left count t d.number a.number rest) rest)) }
+    item: &mut usize,
+) -> Result<Reg, AllocError>
+    requires { item.old < 2 ^ 32 }
+    ensures register { IfOk result (λ r. r.number ≡ layout.reg_of places.now item.old) }
+    ensures item { item.new ≡ item.old + 1 }
+    ensures emits { OnOk result (Emits draft.old draft.new draft.old.labels
+        (λ rest. common.at_type want (λ t. words.shift_code leaves left count t (layout.reg_of places.now item.old)
+        a.number rest) rest)) }
 {
+    let d = take(places, item);
     match want {
-        None => Ok(()),
+        None => Ok(d),
         Some(ty) => {
-            emit_shift(draft, leaves, left, count, ty, d, a)?;
-            Ok(())
+            let word = shifted(left, is_signed(ty), shift_count(count), d, a);
+            emit_settled(draft, word, leaves, ty, d).and(Ok(d))
         }
     }
 }
 
-// The same, of which no more than the low bits of the type may be asked for.
+// A value of one type as one of another, of which no more than the low bits of that type may be asked for.
 fn emit_convert(
     draft: &mut Draft,
     low: bool,
@@ -353,31 +315,34 @@ fn emit_convert(
     ensures { OnOk result (Emits draft.old draft.new draft.old.labels
         (common.word_code (words.convert_word low from ty d.number a.number))) }
 {
-    if low {
-        emit_copy(draft, d, a)?;
-        Ok(())
+    if low || (fits(from, ty) || !is_narrow(ty)) {
+        emit_copy(draft, d, a)
     } else {
-        emit_cast(draft, from, ty, d, a)?;
-        Ok(())
+        draft.put(extending(ty, d, a))
     }
 }
 
-/// A cast, where its operand has a type.
+/// A cast, where its operand has a type, into the register of its item.
 pub fn want_cast(
     draft: &mut Draft,
+    places: &Places,
     low: bool,
     from: Option<Ty>,
     ty: Ty,
-    d: Reg,
     a: Reg,
-) -> Result<(), AllocError>
-    ensures { OnOk result (Emits draft.old draft.new draft.old.labels
-        (λ rest. common.at_type from (λ s. common.word_code (words.convert_word low s ty d.number a.number) rest)
-        rest)) }
+    item: &mut usize,
+) -> Result<Reg, AllocError>
+    requires { item.old < 2 ^ 32 }
+    ensures register { IfOk result (λ r. r.number ≡ layout.reg_of places.now item.old) }
+    ensures item { item.new ≡ item.old + 1 }
+    ensures emits { OnOk result (Emits draft.old draft.new draft.old.labels
+        (λ rest. common.at_type from (λ s. common.word_code (words.convert_word low s ty
+        (layout.reg_of places.now item.old) a.number) rest) rest)) }
 {
+    let d = take(places, item);
     match from {
-        None => Ok(()),
-        Some(from) => emit_convert(draft, low, from, ty, d, a),
+        None => Ok(d),
+        Some(from) => emit_convert(draft, low, from, ty, d, a).and(Ok(d)),
     }
 }
 
@@ -397,22 +362,24 @@ pub fn emit_offset(draft: &mut Draft, moved: Option<Word>) -> Result<Reg, AllocE
     }
 }
 
-/// A load, where the elements have a type.
+/// A load, where the elements have a type, into the register of its item.
 pub fn emit_load(
     draft: &mut Draft,
+    places: &Places,
     ty: Option<Ty>,
-    d: Reg,
     p: Reg,
     r: Reg,
-) -> Result<(), AllocError>
-    ensures { OnOk result (Emits draft.old draft.new draft.old.labels
-        (words.load_code ty d.number p.number r.number)) }
+    item: &mut usize,
+) -> Result<Reg, AllocError>
+    requires { item.old < 2 ^ 32 }
+    ensures register { IfOk result (λ r. r.number ≡ layout.reg_of places.now item.old) }
+    ensures item { item.new ≡ item.old + 1 }
+    ensures emits { OnOk result (Emits draft.old draft.new draft.old.labels
+        (words.load_code ty (layout.reg_of places.now item.old) p.number r.number)) }
 {
+    let d = take(places, item);
     match ty {
-        None => Ok(()),
-        Some(ty) => {
-            draft.put(load(ty, d, p, r))?;
-            Ok(())
-        }
+        None => Ok(d),
+        Some(ty) => draft.put(load(ty, d, p, r)).and(Ok(d)),
     }
 }

@@ -11,7 +11,7 @@ ghost use Rattle.kernel_tree.specs.Typing as typing;
 ghost use Rattle.scalar_values.specs.Code as code;
 
 use a64_code::Reg;
-use kernel_scope::{Scope, element_type, is_index, is_index_term, literal_value, lookup};
+use kernel_scope::{Scope, array_type, is_index, is_index_term, literal_value};
 use kernel_tree::{BinaryOp, Expr, Name, Ty};
 use scalar_words::places::Places;
 use scalar_words::{Home, Key, register_at};
@@ -42,11 +42,13 @@ fn near_down(by: i128) -> Option<i32>
 fn near_by(op: BinaryOp, by: Option<i128>) -> Option<i32>
     ensures { result ≡ code.near (option_and_then (items.moved_by op) by) }
 {
-    let by = by?;
-    match op {
-        BinaryOp::Add => near_up(by),
-        BinaryOp::Sub => near_down(by),
-        _ => None,
+    match by {
+        None => None,
+        Some(by) => match op {
+            BinaryOp::Add => near_up(by),
+            BinaryOp::Sub => near_down(by),
+            _ => None,
+        },
     }
 }
 
@@ -89,20 +91,23 @@ fn bytes_of(ty: Ty, offset: i32) -> i128
 pub fn moved_key(array: Reg, ty: Option<Ty>, offset: Option<i32>) -> Option<Key>
     ensures { option_map key_of result ≡ code.key_at array.number ty offset }
 {
-    let ty = ty?;
-    let offset = offset?;
-    Some(Key::Address {
-        array,
-        by: bytes_of(ty, offset),
-    })
+    match (ty, offset) {
+        (Some(ty), Some(offset)) => Some(Key::Address {
+            array,
+            by: bytes_of(ty, offset),
+        }),
+        _ => None,
+    }
 }
 
 fn register_of(places: &Places, key: Option<Key>) -> Option<Reg>
     ensures { option_map register_number result
         ≡ option_and_then (layout.constant_at places.now) (option_map key_of key) }
 {
-    let key = key?;
-    places.constant(key)
+    match key {
+        None => None,
+        Some(key) => places.constant(key),
+    }
 }
 
 /// The register that holds the address of an element.
@@ -118,7 +123,7 @@ pub fn place_of(
         (option_and_then typing.element_type (typing.lookup (scope_of scope.now) (name_of array.now)))
         (items.stream_offset (scope_of scope.now).index (term_of index.now)) }
 {
-    let ty = lookup(scope, array).and_then(element_type);
+    let ty = array_type(scope, array);
     let key = moved_key(register_at(homes, array), ty, near_offset(scope, index));
     register_of(places, key)
 }

@@ -116,17 +116,12 @@ pub fn home_of(places: &Places, homes: &[Home], scope: &Scope, expr: &Expr, item
     match expr {
         Expr::Lit(value) => number_home(places, *value, item),
         Expr::Var(name) => register_at(homes, name),
-        Expr::Read { index, .. } => places.reg(item + index_size(scope, index)),
-        Expr::Unary { arg, .. } | Expr::Shift { arg, .. } | Expr::Cast { arg, .. } => {
-            places.reg(item + expr_size(scope, arg))
-        }
-        Expr::Binary { left, right, .. } => {
-            places.reg(item + expr_size(scope, left) + expr_size(scope, right))
-        }
-        Expr::Select { cond, yes, no } => {
-            let sides = item + expr_size(scope, yes) + expr_size(scope, no);
-            places.reg(sides + expr_size(scope, cond))
-        }
+        Expr::Read { .. }
+        | Expr::Unary { .. }
+        | Expr::Shift { .. }
+        | Expr::Cast { .. }
+        | Expr::Binary { .. }
+        | Expr::Select { .. } => places.reg(item + expr_size(scope, expr) - 1),
         _ => zero(),
     }
 }

@@ -12,7 +12,7 @@ abbrev pub decreases-emit_one : goal.decreases-emit_one
 decreases-emit_one l = 4 * term_depth (term_of l.arg.now) + 2
 
 abbrev pub decreases-emit_moved : goal.decreases-emit_moved
-decreases-emit_moved l = 4 * term_depth (term_of l.expr.now)
+decreases-emit_moved l = 4 * term_depth (term_of l.arg.now) + 2
 
 abbrev pub decreases-emit_converted : goal.decreases-emit_converted
 decreases-emit_converted l = 4 * term_depth (term_of l.arg.now) + 2
@@ -49,9 +49,6 @@ decreases-emit_jump l = 4 * term_depth (term_of l.expr.now)
 
 abbrev pub decreases-emit_comparison : goal.decreases-emit_comparison
 decreases-emit_comparison l = 4 * max (term_depth (term_of l.left.now)) (term_depth (term_of l.right.now)) + 3
-
-abbrev pub decreases-emit_contrary : goal.decreases-emit_contrary
-decreases-emit_contrary l = 4 * term_depth (term_of l.arg.now) + 2
 
 abbrev pub decreases-emit_both : goal.decreases-emit_both
 decreases-emit_both l = 4 * max (term_depth (term_of l.left.now)) (term_depth (term_of l.right.now)) + 2

@@ -14,5 +14,5 @@ decreases-hold_both l = 2 * max (term_depth (term_of l.left.now)) (term_depth (t
 abbrev pub decreases-hold_sides : goal.decreases-hold_sides
 decreases-hold_sides l = 2 * max (term_depth (term_of l.left.now)) (term_depth (term_of l.right.now)) + 1
 
-abbrev pub decreases-hold_index : goal.decreases-hold_index
-decreases-hold_index l = 2 * term_depth (term_of l.index.now) + 1
+abbrev pub decreases-hold_read : goal.decreases-hold_read
+decreases-hold_read l = 2 * term_depth (term_of l.index.now) + 1
