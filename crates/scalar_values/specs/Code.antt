@@ -102,10 +102,6 @@ is_fused s op w want (Shift left e z) = takes_shift op && stays (shift_settles s
 is_fused s op w want (Conversion e t) = within_type w t || fits_at (own s e) t
 is_fused s op w want _ = false
 
-abbrev pub IsShift : Term → Type 0
-IsShift (Shift left e z) = Unit {0}
-IsShift _ = ⊥
-
 abbrev pub HasParts : Bool → Term → Type 0
 HasParts true (Operation o p q) = Unit {0}
 HasParts true (Shift left e z) = Unit {0}
