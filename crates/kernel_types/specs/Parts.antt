@@ -1,5 +1,5 @@
 -- What the code makes of a part of a kernel, as the rules of typing have it.
-use Rattle.std.specs.Prelude.{◌≡◌, Bool, false, ℕ, ℤ, unsigned_abs, List, [], ◌∷◌, ◌++◌, Option, Some, None, option_map, ◌+◌}
+use Rattle.std.specs.Prelude.{◌≡◌, false, ℕ, ℤ, unsigned_abs, List, [], ◌∷◌, ◌++◌, Option, Some, None, option_map, ◌+◌}
 use Rattle.kernel_tree.specs.declared.ops.Ty.{Ty}
 use Rattle.kernel_tree.specs.declared.fault.Found.{Found}
 use Rattle.kernel_tree.specs.Plain.{Accumulator}

@@ -35,7 +35,6 @@ pub fn end(notes: &mut Notes, found: Option<Found>, ty: Option<Ty>)
     notes.next += 1;
 }
 
-#[tactic(auto, using(crate::proofs::LeastFault::sooner_rules))]
 fn walk_literal(notes: &mut Notes, role: Role, value: i128)
     requires { notes.old.next + 1 < 2 ^ 32 }
     ensures next { notes.new.next ≡ notes.old.next + 1 }
@@ -51,7 +50,6 @@ fn walk_literal(notes: &mut Notes, role: Role, value: i128)
     end(notes, found, ty)
 }
 
-#[tactic(auto, using(crate::proofs::LeastFault::sooner_rules))]
 fn walk_name(notes: &mut Notes, scope: &Scope, role: Role, name: &Name)
     requires { notes.old.next + 1 < 2 ^ 32 }
     ensures next { notes.new.next ≡ notes.old.next + 1 }
@@ -72,7 +70,6 @@ fn walk_name(notes: &mut Notes, scope: &Scope, role: Role, name: &Name)
 }
 
 // Goes past a shift by a count.
-#[tactic(auto, using(crate::proofs::LeastFault::sooner_rules))]
 fn end_shift(notes: &mut Notes, role: Role, count: i128)
     requires { notes.old.next + 1 < 2 ^ 32 }
     ensures next { notes.new.next ≡ notes.old.next + 1 }
@@ -90,7 +87,6 @@ fn end_shift(notes: &mut Notes, role: Role, count: i128)
 
 /// Goes over an expression in a place of this role.
 #[cycle(terms)]
-#[tactic(auto, using(crate::proofs::LeastFault::sooner_rules))]
 pub fn walk_expr(notes: &mut Notes, scope: &Scope, role: Role, expr: &Expr)
     requires { notes.old.next + items.term_size (scope_of scope.now).index (term_of expr.now) < 2 ^ 32 }
     ensures next { notes.new.next
@@ -143,7 +139,6 @@ fn walk_index(notes: &mut Notes, scope: &Scope, index: &Expr)
 }
 
 #[cycle(terms)]
-#[tactic(auto, using(crate::proofs::LeastFault::sooner_rules))]
 fn walk_read(notes: &mut Notes, scope: &Scope, role: Role, array: &Name, index: &Expr)
     requires { notes.old.next + items.term_size (scope_of scope.now).index
         (Element (name_of array.now) (term_of index.now)) < 2 ^ 32 }
@@ -167,7 +162,6 @@ fn walk_read(notes: &mut Notes, scope: &Scope, role: Role, array: &Name, index: 
 }
 
 #[cycle(terms)]
-#[tactic(auto, using(crate::proofs::LeastFault::sooner_rules))]
 fn walk_unary(notes: &mut Notes, scope: &Scope, role: Role, arg: &Expr)
     requires { notes.old.next + items.term_size (scope_of scope.now).index
         (Unary unary.Neg (term_of arg.now)) < 2 ^ 32 }
@@ -185,7 +179,6 @@ fn walk_unary(notes: &mut Notes, scope: &Scope, role: Role, arg: &Expr)
 }
 
 #[cycle(terms)]
-#[tactic(auto, using(crate::proofs::LeastFault::sooner_rules))]
 fn walk_binary(notes: &mut Notes, scope: &Scope, role: Role, left: &Expr, right: &Expr)
     requires { notes.old.next + items.term_size (scope_of scope.now).index
         (Operation binary.Add (term_of left.now) (term_of right.now)) < 2 ^ 32 }
@@ -206,7 +199,6 @@ fn walk_binary(notes: &mut Notes, scope: &Scope, role: Role, left: &Expr, right:
 }
 
 #[cycle(terms)]
-#[tactic(auto, using(crate::proofs::LeastFault::sooner_rules))]
 fn walk_shift(notes: &mut Notes, scope: &Scope, role: Role, arg: &Expr, count: i128)
     requires { notes.old.next + items.term_size (scope_of scope.now).index
         (Shift true (term_of arg.now) count) < 2 ^ 32 }
@@ -223,7 +215,6 @@ fn walk_shift(notes: &mut Notes, scope: &Scope, role: Role, arg: &Expr, count: i
 }
 
 #[cycle(terms)]
-#[tactic(auto, using(crate::proofs::LeastFault::sooner_rules))]
 fn walk_cast(notes: &mut Notes, scope: &Scope, role: Role, arg: &Expr, ty: Ty)
     requires { notes.old.next + items.term_size (scope_of scope.now).index (Conversion (term_of arg.now) ty) < 2 ^ 32 }
     ensures next { notes.new.next
@@ -243,7 +234,6 @@ fn walk_cast(notes: &mut Notes, scope: &Scope, role: Role, arg: &Expr, ty: Ty)
 }
 
 #[cycle(terms)]
-#[tactic(auto, using(crate::proofs::LeastFault::sooner_rules))]
 fn walk_select(notes: &mut Notes, scope: &Scope, role: Role, cond: &Expr, yes: &Expr, no: &Expr)
     requires { notes.old.next + items.term_size (scope_of scope.now).index
         (Choice (term_of cond.now) (term_of yes.now) (term_of no.now)) < 2 ^ 32 }
@@ -265,7 +255,6 @@ fn walk_select(notes: &mut Notes, scope: &Scope, role: Role, cond: &Expr, yes: &
 }
 
 #[cycle(terms)]
-#[tactic(auto, using(crate::proofs::LeastFault::sooner_rules))]
 fn walk_compare(notes: &mut Notes, scope: &Scope, role: Role, left: &Expr, right: &Expr)
     requires { notes.old.next + items.term_size (scope_of scope.now).index
         (Comparison compare.Eq (term_of left.now) (term_of right.now)) < 2 ^ 32 }
@@ -288,7 +277,6 @@ fn walk_compare(notes: &mut Notes, scope: &Scope, role: Role, left: &Expr, right
 }
 
 #[cycle(terms)]
-#[tactic(auto, using(crate::proofs::LeastFault::sooner_rules))]
 fn walk_and(notes: &mut Notes, scope: &Scope, role: Role, left: &Expr, right: &Expr)
     requires { notes.old.next + items.term_size (scope_of scope.now).index
         (Both (term_of left.now) (term_of right.now)) < 2 ^ 32 }
@@ -307,7 +295,6 @@ fn walk_and(notes: &mut Notes, scope: &Scope, role: Role, left: &Expr, right: &E
 }
 
 #[cycle(terms)]
-#[tactic(auto, using(crate::proofs::LeastFault::sooner_rules))]
 fn walk_or(notes: &mut Notes, scope: &Scope, role: Role, left: &Expr, right: &Expr)
     requires { notes.old.next + items.term_size (scope_of scope.now).index
         (Either (term_of left.now) (term_of right.now)) < 2 ^ 32 }
@@ -327,7 +314,6 @@ fn walk_or(notes: &mut Notes, scope: &Scope, role: Role, left: &Expr, right: &Ex
 }
 
 #[cycle(terms)]
-#[tactic(auto, using(crate::proofs::LeastFault::sooner_rules))]
 fn walk_not(notes: &mut Notes, scope: &Scope, role: Role, arg: &Expr)
     requires { notes.old.next + items.term_size (scope_of scope.now).index (Not (term_of arg.now)) < 2 ^ 32 }
     ensures next { notes.new.next
