@@ -66,7 +66,8 @@ fn walk_var<'a>(notes: &mut Notes, scope: &mut Scope<'a>, var: &'a Var) -> Resul
     ensures found { IfOk result (λ _. notes.new.found
         ≡ typing.sooner notes.old.found (typing.least
         (var_faults (scope_of scope.old) notes.old.next (accumulator_of var.now)))) }
-    ensures types { IfOk result (λ _. Adds notes.old notes.new (var_types (scope_of scope.old) (accumulator_of var.now))) }
+    ensures types { IfOk result (λ _. Adds notes.old notes.new
+        (var_types (scope_of scope.old) (accumulator_of var.now))) }
 {
     walk_expr(notes, scope, Role::Value(Some(var.ty)), &var.init);
     let found = twice(notes.next, is_taken(scope, &var.name));
@@ -87,7 +88,8 @@ fn walk_vars<'a>(
     ensures found { IfOk result (λ _. notes.new.found
         ≡ typing.sooner notes.old.found (typing.least
         (typing.vars_faults (scope_of scope.old) notes.old.next (accumulators_of vars.now)))) }
-    ensures types { IfOk result (λ _. Adds notes.old notes.new (typing.vars_types (scope_of scope.old) (accumulators_of vars.now))) }
+    ensures types { IfOk result (λ _. Adds notes.old notes.new
+        (typing.vars_types (scope_of scope.old) (accumulators_of vars.now))) }
 {
     for var in vars {
         walk_var(notes, scope, var)?;
@@ -110,7 +112,8 @@ fn walk_body<'a>(
     ensures found { IfOk result (λ _. notes.new.found
         ≡ typing.sooner notes.old.found (typing.least
         (typing.block_faults (in_body (scope_of scope.old)) notes.old.next (block_of block.now)))) }
-    ensures types { IfOk result (λ _. Adds notes.old notes.new (typing.block_types (in_body (scope_of scope.old)) (block_of block.now))) }
+    ensures types { IfOk result (λ _. Adds notes.old notes.new
+        (typing.block_types (in_body (scope_of scope.old)) (block_of block.now))) }
 {
     let visible = visible_count(scope);
     let taken = declared_count(scope);
@@ -136,7 +139,8 @@ fn walk_loop<'a>(
     ensures found { IfOk result (λ _. notes.new.found
         ≡ typing.sooner notes.old.found (typing.least
         (typing.for_loop_faults (scope_of scope.old) notes.old.next (Some (for_loop_of for_loop.now))))) }
-    ensures types { IfOk result (λ _. Adds notes.old notes.new (typing.for_loop_types (scope_of scope.old) (Some (for_loop_of for_loop.now)))) }
+    ensures types { IfOk result (λ _. Adds notes.old notes.new
+        (typing.for_loop_types (scope_of scope.old) (Some (for_loop_of for_loop.now)))) }
 {
     let item = notes.next;
     let bound = bound_fault(item, lookup(scope, &for_loop.bound));
@@ -161,7 +165,8 @@ fn walk_for_loop<'a>(
     ensures found { IfOk result (λ _. notes.new.found
         ≡ typing.sooner notes.old.found (typing.least
         (typing.for_loop_faults (scope_of scope.old) notes.old.next (option_map for_loop_of for_loop.now)))) }
-    ensures types { IfOk result (λ _. Adds notes.old notes.new (typing.for_loop_types (scope_of scope.old) (option_map for_loop_of for_loop.now))) }
+    ensures types { IfOk result (λ _. Adds notes.old notes.new
+        (typing.for_loop_types (scope_of scope.old) (option_map for_loop_of for_loop.now))) }
 {
     match for_loop {
         None => Ok(()),
@@ -178,7 +183,8 @@ fn walk_answer(notes: &mut Notes, scope: &Scope, answer: &Option<Answer>)
     ensures found { notes.new.found
         ≡ typing.sooner notes.old.found (typing.least
         (typing.answer_faults (scope_of scope.now) notes.old.next (option_map returned_of answer.now))) }
-    ensures types { Adds notes.old notes.new (typing.answer_types (scope_of scope.now) (option_map returned_of answer.now)) }
+    ensures types { Adds notes.old notes.new
+        (typing.answer_types (scope_of scope.now) (option_map returned_of answer.now)) }
 {
     match answer {
         None => {}

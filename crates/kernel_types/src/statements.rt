@@ -115,7 +115,8 @@ fn walk_stmt<'a>(notes: &mut Notes, scope: &mut Scope<'a>, stmt: &'a Stmt) -> Re
     ensures found { IfOk result (λ _. notes.new.found
         ≡ typing.sooner notes.old.found (typing.least
         (typing.action_faults (scope_of scope.old) notes.old.next (action_of stmt.now)))) }
-    ensures types { IfOk result (λ _. Adds notes.old notes.new (typing.action_types (scope_of scope.old) (action_of stmt.now))) }
+    ensures types { IfOk result (λ _. Adds notes.old notes.new
+        (typing.action_types (scope_of scope.old) (action_of stmt.now))) }
 {
     match parts(stmt) {
         Part::Let { name, ty, value } => walk_let(notes, scope, name, ty, value),
@@ -239,7 +240,8 @@ pub fn walk_block<'a>(
     ensures found { IfOk result (λ _. notes.new.found
         ≡ typing.sooner notes.old.found (typing.least
         (typing.block_faults (scope_of scope.old) notes.old.next (block_of block.now)))) }
-    ensures types { IfOk result (λ _. Adds notes.old notes.new (typing.block_types (scope_of scope.old) (block_of block.now))) }
+    ensures types { IfOk result (λ _. Adds notes.old notes.new
+        (typing.block_types (scope_of scope.old) (block_of block.now))) }
 {
     for stmt in block {
         walk_stmt(notes, scope, stmt)?;

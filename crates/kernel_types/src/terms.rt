@@ -94,7 +94,8 @@ pub fn walk_expr(notes: &mut Notes, scope: &Scope, role: Role, expr: &Expr)
     ensures found { notes.new.found
         ≡ typing.sooner notes.old.found (typing.least
         (typing.faults (scope_of scope.now) notes.old.next (role_of role) (term_of expr.now))) }
-    ensures types { Adds notes.old notes.new (typing.term_types (scope_of scope.now) (role_of role) (term_of expr.now)) }
+    ensures types { Adds notes.old notes.new
+        (typing.term_types (scope_of scope.now) (role_of role) (term_of expr.now)) }
 {
     match expr {
         Expr::Lit(value) => walk_literal(notes, role, *value),
@@ -321,7 +322,8 @@ fn walk_not(notes: &mut Notes, scope: &Scope, role: Role, arg: &Expr)
     ensures found { notes.new.found
         ≡ typing.sooner notes.old.found (typing.least
         (typing.faults (scope_of scope.now) notes.old.next (role_of role) (Not (term_of arg.now)))) }
-    ensures types { Adds notes.old notes.new (typing.term_types (scope_of scope.now) (role_of role) (Not (term_of arg.now))) }
+    ensures types { Adds notes.old notes.new
+        (typing.term_types (scope_of scope.now) (role_of role) (Not (term_of arg.now))) }
 {
     walk_expr(notes, scope, Role::Condition, arg);
     end(notes, as_condition(notes.next, role), None)
