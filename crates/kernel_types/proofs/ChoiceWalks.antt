@@ -1,12 +1,14 @@
 -- The walks over the condition and the blocks of an `if`, put together.
-use Rattle.std.proofs.Common.{◌≡◌, ℕ, ◌+◌, List, [], ◌∷◌, ◌++◌, Option, None, sym, ap, ap₂, ◌∙◌, append_assoc, arith}
+use Rattle.std.proofs.Common.{◌≡◌, ℕ, ◌+◌, List, [], ◌∷◌, ◌++◌, Option, None, sym, ap, ap₂, ◌∙◌, arith}
 use Rattle.std.proofs.lemmas.List.{append-nil}
-use Rattle.kernel_tree.specs.declared.ops.Ty.{Ty}
 use Rattle.kernel_tree.specs.declared.fault.Found.{Found}
 use Rattle.kernel_tree.specs.Plain.{Term, Block, Choose, Nothing, Else}
 use Rattle.kernel_tree.specs.Items.{term_size, action_size, block_size}
 use Rattle.kernel_tree.specs.Typing.{Scope, Condition, left, after_action, after_block, faults, action_faults, block_faults, term_types, action_types, block_types, sooner, least}
+use Rattle.kernel_types.specs.declared.notes.Notes.{Notes}
+use Rattle.kernel_types.specs.Parts.{Adds}
 use Rattle.kernel_types.proofs.ListWalks.{two_parts}
+use Rattle.kernel_types.proofs.TypeLists.{after_mark}
 
 -- ---- with one block
 
@@ -20,8 +22,8 @@ one_found s n m o p q c b d e f =
     ∙ two_parts o p fs gs e
     ∙ ap (λ (hs : List Found). sooner o (least (fs ++ hs))) (sym (append-nil gs))
 
-pub one_types : (s : Scope) (ts us vs : List (Option Ty)) (c : Term) (b : Block) → us ≡ ts ++ (term_types s Condition c ++ None ∷ []) → vs ≡ us ++ (block_types s b ++ None ∷ []) → vs ≡ ts ++ action_types s (Choose c b Nothing)
-one_types s ts us vs c b e f = rw (f, e) (simp append_assoc)
+pub one_types : {m n o : Notes} (s : Scope) (c : Term) (b : Block) → Adds m n (term_types s Condition c ++ None ∷ []) → Adds n o (block_types s b ++ None ∷ []) → Adds m o (action_types s (Choose c b Nothing))
+one_types s c b e f = after_mark (term_types s Condition c) e f
 
 -- ---- with two blocks
 
@@ -46,5 +48,5 @@ two_found s t n m l o p q r c b d g i j e f h =
     ∙ two_parts p q gs hs first
     ∙ two_parts o p fs (gs ++ hs) e
 
-pub two_types : (s t : Scope) (ts us vs ws : List (Option Ty)) (c : Term) (b d : Block) → t ≡ left s (after_block s b) → us ≡ ts ++ (term_types s Condition c ++ None ∷ []) → vs ≡ us ++ (block_types s b ++ None ∷ []) → ws ≡ vs ++ (block_types t d ++ None ∷ []) → ws ≡ ts ++ action_types s (Choose c b (Else d))
-two_types s t ts us vs ws c b d g e f h = rw (h, f, e, g) (simp append_assoc)
+pub two_types : {m n o p : Notes} (s t : Scope) (c : Term) (b d : Block) → t ≡ left s (after_block s b) → Adds m n (term_types s Condition c ++ None ∷ []) → Adds n o (block_types s b ++ None ∷ []) → Adds o p (block_types t d ++ None ∷ []) → Adds m p (action_types s (Choose c b (Else d)))
+two_types s t c b d g e f h = after_mark (term_types s Condition c) e (after_mark (block_types s b) f (rw g at h))

@@ -1,5 +1,5 @@
 -- The walks over the parts of a kernel, put together.
-use Rattle.std.proofs.Common.{◌≡◌, ℕ, ◌+◌, ◌<◌, ◌^◌, List, [], ◌++◌, Bool, Option, Some, false, if◌then◌else◌, length, refl, sym, ap, ap₂, ◌∙◌, append_assoc, arith}
+use Rattle.std.proofs.Common.{◌≡◌, ℕ, ◌+◌, ◌<◌, ◌^◌, List, [], ◌∷◌, ◌++◌, Bool, Option, Some, None, false, if◌then◌else◌, length, refl, sym, ap, ap₂, ◌∙◌, append_assoc, arith}
 use Rattle.std.proofs.lemmas.List.{length-map}
 use Rattle.kernel_tree.specs.declared.ast.Param.{Param}
 use Rattle.kernel_tree.specs.declared.fault.Found.{Found}
@@ -8,11 +8,14 @@ use Rattle.kernel_tree.specs.declared.fault.Binding.TheVariants as binding
 use Rattle.kernel_tree.specs.declared.fault.Fault.TheVariants as fault
 use Rattle.kernel_tree.specs.Plain.{Parameter, Accumulator, Block, PlainLoop, Program, parameter_of, parameters_of}
 use Rattle.kernel_tree.specs.Items.{vars_size, for_loop_size, answer_size, loop_index, size_of}
-use Rattle.kernel_tree.specs.Typing.{Scope, empty, after_for_loop, param_scope, var_scope, params_faults, vars_faults, for_loop_faults, answer_faults, kernel_faults, block_faults, bound_faults, found_at, twice, is_taken, lookup, declared, in_loop, sooner, least}
+use Rattle.kernel_tree.specs.Typing.{Scope, empty, after_for_loop, param_scope, var_scope, params_faults, vars_faults, for_loop_faults, for_loop_types, answer_faults, kernel_faults, block_faults, block_types, bound_faults, found_at, twice, is_taken, lookup, declared, in_loop, sooner, least}
 use Rattle.kernel_scope.specs.Scopes.{in_body}
+use Rattle.kernel_types.specs.declared.notes.Notes.{Notes}
+use Rattle.kernel_types.specs.Parts.{Adds}
 use Rattle.kernel_tree.proofs.Scopes.{param_index, scope_index, last_index, scope_outside}
 use Rattle.kernel_types.proofs.LeastFault.{sooner-assoc, least-append, both_rules}
 use Rattle.kernel_types.proofs.ListWalks.{two_parts}
+use Rattle.kernel_types.proofs.TypeLists.{then_types}
 
 index : Scope → Option (List ℕ)
 index s = s.index
@@ -87,3 +90,7 @@ loop_found s t n m o p q bound again both x taken l b a c d e f g h i j k =
     ∙ ap (λ (fs : List Found). sooner p (least fs)) body
     ∙ two_parts o p (bs ++ ts) gs first
     ∙ ap (λ (fs : List Found). sooner o (least fs)) (append_assoc bs ts gs)
+
+-- the wanted types of the items of a loop: that of the loop itself, and then those of its body
+pub loop_types : {m n o : Notes} (s t : Scope) (l : PlainLoop) (b : Block) → t ≡ declared s l.index binding.Index → b ≡ l.body → Adds m n (None ∷ []) → Adds n o (block_types (in_body t) b) → Adds m o (for_loop_types s (Some l))
+loop_types s t l b e f g h = then_types g (rw (e, f) at h)

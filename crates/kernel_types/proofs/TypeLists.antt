@@ -1,12 +1,22 @@
--- The wanted types of the items of an expression, part by part.
-use Rattle.std.proofs.Common.{◌≡◌, List, ◌++◌, Option, ap, ◌∙◌, append_assoc}
+-- The wanted types of the items of a kernel, part by part.
+use Rattle.std.proofs.Common.{List, [], ◌∷◌, ◌++◌, Option, None, sym, ap, subst, ◌∙◌, append_assoc}
+use Rattle.std.proofs.lemmas.List.{append-nil}
 use Rattle.kernel_tree.specs.declared.ops.Ty.{Ty}
+use Rattle.kernel_types.specs.declared.notes.Notes.{Notes}
+use Rattle.kernel_types.specs.Parts.{Adds}
 
-pub one_part : (o p xs ys : List (Option Ty)) → p ≡ o ++ xs → p ++ ys ≡ o ++ (xs ++ ys)
-one_part o p xs ys e = ap (λ l. l ++ ys) e ∙ append_assoc o xs ys
+pub no_types : (m : Notes) → Adds m m []
+no_types m = record {
+  kept = λ e. e;
+  items = λ e. sym (append-nil m.types.items);
+}
 
-pub two_parts : (o p q xs ys zs : List (Option Ty)) → p ≡ o ++ xs → q ≡ p ++ ys → q ++ zs ≡ o ++ (xs ++ (ys ++ zs))
-two_parts o p q xs ys zs e f = one_part p q ys zs f ∙ one_part o p xs (ys ++ zs) e
+pub then_types : {m n o : Notes} {xs ys : List (Option Ty)} → Adds m n xs → Adds n o ys → Adds m o (xs ++ ys)
+then_types {m = m} {xs = xs} {ys = ys} a b = record {
+  kept = λ e. a.kept (b.kept e);
+  items = λ e. b.items e ∙ ap (λ (ts : List (Option Ty)). ts ++ ys) (a.items (b.kept e)) ∙ append_assoc m.types.items xs ys;
+}
 
-pub three_parts : (o p q r xs ys zs ws : List (Option Ty)) → p ≡ o ++ xs → q ≡ p ++ ys → r ≡ q ++ zs → r ++ ws ≡ o ++ (xs ++ (ys ++ (zs ++ ws)))
-three_parts o p q r xs ys zs ws e f g = two_parts p q r ys zs ws f g ∙ one_part o p xs (ys ++ (zs ++ ws)) e
+-- what follows a part and the mark after it
+pub after_mark : {m n o : Notes} (xs : List (Option Ty)) {ys : List (Option Ty)} → Adds m n (xs ++ None ∷ []) → Adds n o ys → Adds m o (xs ++ None ∷ ys)
+after_mark {m = m} {o = o} xs {ys = ys} a b = subst (λ (ts : List (Option Ty)). Adds m o ts) (append_assoc xs (None ∷ []) ys) (then_types a b)

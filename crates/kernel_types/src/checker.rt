@@ -67,6 +67,8 @@ pub fn check(alloc: Global, kernel: Kernel) -> Result<Checked, TypeFault>
     ensures kernel { IfOk result (λ c. kernel_of c ≡ kernel) }
     ensures refused { IfErr result (λ fault. IsCause (check_fault (program_of kernel)) fault) }
 {
-    let types = item_types(alloc, &kernel)?;
-    Ok(Checked::new(kernel, types))
+    match item_types(alloc, &kernel) {
+        Ok(types) => Ok(Checked::new(kernel, types)),
+        Err(fault) => Err(fault),
+    }
 }

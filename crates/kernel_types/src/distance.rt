@@ -14,7 +14,10 @@ fn moved_by(op: BinaryOp, by: Option<i128>) -> Option<u128>
     ensures { result ≡ distance_of (option_and_then (items.moved_by op) by) }
 {
     match op {
-        BinaryOp::Add | BinaryOp::Sub => by.map(|by| by.unsigned_abs()),
+        BinaryOp::Add | BinaryOp::Sub => match by {
+            Some(by) => Some(by.unsigned_abs()),
+            None => None,
+        },
         _ => None,
     }
 }

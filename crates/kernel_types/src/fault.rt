@@ -34,13 +34,8 @@ pub enum TypeFault {
     Memory,
 }
 
-// Writes what is wrong at an item.
-fn write_item<W: fmt::Write>(f: &mut fmt::Formatter<W>, text: &str, item: u32) -> fmt::Result {
-    write!(f, "{text} at item {item}")
-}
-
-// Writes a limit that is passed, and the number that is too great.
-fn write_excess<W: fmt::Write>(f: &mut fmt::Formatter<W>, text: &str, number: u32) -> fmt::Result {
+// Writes what is wrong, and the number of the item where it is, or the number that is too great.
+fn write_number<W: fmt::Write>(f: &mut fmt::Formatter<W>, text: &str, number: u32) -> fmt::Result {
     write!(f, "{text} {number}")
 }
 
@@ -58,16 +53,20 @@ fn write_mismatch<W: fmt::Write>(
 impl fmt::Display for TypeFault {
     fn fmt<W: fmt::Write>(&self, f: &mut fmt::Formatter<W>) -> fmt::Result {
         match *self {
-            TypeFault::Unknown { item } => write_item(f, "unknown name", item),
-            TypeFault::Twice { item } => write_item(f, "name declared twice", item),
-            TypeFault::WrongKind { item } => write_item(f, "wrong kind", item),
+            TypeFault::Unknown { item } => write_number(f, "unknown name at item", item),
+            TypeFault::Twice { item } => write_number(f, "name declared twice at item", item),
+            TypeFault::WrongKind { item } => write_number(f, "wrong kind at item", item),
             TypeFault::Mismatch { item, want, found } => write_mismatch(f, item, want, found),
-            TypeFault::Untyped { item } => write_item(f, "no type", item),
-            TypeFault::LiteralRange { item } => write_item(f, "literal out of range", item),
-            TypeFault::ShiftRange { item } => write_item(f, "shift out of range", item),
-            TypeFault::OffsetRange { item } => write_item(f, "offset out of range", item),
-            TypeFault::TooLarge { size } => write_excess(f, "too large", size),
-            TypeFault::TooDeep { depth } => write_excess(f, "too deep", depth),
+            TypeFault::Untyped { item } => write_number(f, "no type at item", item),
+            TypeFault::LiteralRange { item } => write_number(
+                f,
+                "literal out of range at item",
+                item,
+            ),
+            TypeFault::ShiftRange { item } => write_number(f, "shift out of range at item", item),
+            TypeFault::OffsetRange { item } => write_number(f, "offset out of range at item", item),
+            TypeFault::TooLarge { size } => write_number(f, "too large", size),
+            TypeFault::TooDeep { depth } => write_number(f, "too deep", depth),
             TypeFault::Memory => f.write_str("out of memory"),
         }
     }

@@ -5,7 +5,7 @@ ghost use Rattle.kernel_tree.specs.Plain.{name_of, term_of, block_of, parameter_
 ghost use Rattle.kernel_tree.specs.Items as items;
 ghost use Rattle.kernel_tree.specs.Typing as typing;
 ghost use Rattle.kernel_scope.specs.Scopes.{scope_of, in_body, after_param, after_var};
-ghost use Rattle.kernel_types.specs.Parts.{var_faults, var_types};
+ghost use Rattle.kernel_types.specs.Parts.{Adds, var_faults, var_types};
 
 use crate::notes::{Notes, Role};
 use crate::rules::{bound_fault, sooner, twice};
@@ -30,10 +30,10 @@ fn walk_param<'a>(
     ensures found { IfOk result (λ _. notes.new.found
         ≡ typing.sooner notes.old.found (typing.least
         (typing.twice notes.old.next (scope_of scope.old) (name_of param.now.name)))) }
-    ensures types { IfOk result (λ _. notes.new.types.items ≡ notes.old.types.items ++ None ∷ []) }
+    ensures types { IfOk result (λ _. Adds notes.old notes.new (None ∷ [])) }
 {
     let found = twice(notes.next, is_taken(scope, &param.name));
-    end(notes, found, None)?;
+    end(notes, found, None);
     declare(scope, &param.name, param.shape.binding())
 }
 
@@ -49,8 +49,7 @@ fn walk_params<'a>(
     ensures found { IfOk result (λ _. notes.new.found
         ≡ typing.sooner notes.old.found (typing.least
         (typing.params_faults (scope_of scope.old) notes.old.next (parameters_of params.now)))) }
-    ensures types { IfOk result (λ _. notes.new.types.items
-        ≡ notes.old.types.items ++ typing.params_types (parameters_of params.now)) }
+    ensures types { IfOk result (λ _. Adds notes.old notes.new (typing.params_types (parameters_of params.now))) }
 {
     for param in params {
         walk_param(notes, scope, param)?;
@@ -67,12 +66,12 @@ fn walk_var<'a>(notes: &mut Notes, scope: &mut Scope<'a>, var: &'a Var) -> Resul
     ensures found { IfOk result (λ _. notes.new.found
         ≡ typing.sooner notes.old.found (typing.least
         (var_faults (scope_of scope.old) notes.old.next (accumulator_of var.now)))) }
-    ensures types { IfOk result (λ _. notes.new.types.items
-        ≡ notes.old.types.items ++ var_types (scope_of scope.old) (accumulator_of var.now)) }
+    ensures types { IfOk result (λ _. Adds notes.old notes.new
+        (var_types (scope_of scope.old) (accumulator_of var.now))) }
 {
-    walk_expr(notes, scope, Role::Value(Some(var.ty)), &var.init)?;
+    walk_expr(notes, scope, Role::Value(Some(var.ty)), &var.init);
     let found = twice(notes.next, is_taken(scope, &var.name));
-    end(notes, found, None)?;
+    end(notes, found, None);
     declare(scope, &var.name, Binding::Accumulator(var.ty))
 }
 
@@ -89,8 +88,8 @@ fn walk_vars<'a>(
     ensures found { IfOk result (λ _. notes.new.found
         ≡ typing.sooner notes.old.found (typing.least
         (typing.vars_faults (scope_of scope.old) notes.old.next (accumulators_of vars.now)))) }
-    ensures types { IfOk result (λ _. notes.new.types.items
-        ≡ notes.old.types.items ++ typing.vars_types (scope_of scope.old) (accumulators_of vars.now)) }
+    ensures types { IfOk result (λ _. Adds notes.old notes.new
+        (typing.vars_types (scope_of scope.old) (accumulators_of vars.now))) }
 {
     for var in vars {
         walk_var(notes, scope, var)?;
@@ -113,8 +112,8 @@ fn walk_body<'a>(
     ensures found { IfOk result (λ _. notes.new.found
         ≡ typing.sooner notes.old.found (typing.least
         (typing.block_faults (in_body (scope_of scope.old)) notes.old.next (block_of block.now)))) }
-    ensures types { IfOk result (λ _. notes.new.types.items
-        ≡ notes.old.types.items ++ typing.block_types (in_body (scope_of scope.old)) (block_of block.now)) }
+    ensures types { IfOk result (λ _. Adds notes.old notes.new
+        (typing.block_types (in_body (scope_of scope.old)) (block_of block.now))) }
 {
     let visible = visible_count(scope);
     let taken = declared_count(scope);
@@ -140,13 +139,13 @@ fn walk_loop<'a>(
     ensures found { IfOk result (λ _. notes.new.found
         ≡ typing.sooner notes.old.found (typing.least
         (typing.for_loop_faults (scope_of scope.old) notes.old.next (Some (for_loop_of for_loop.now))))) }
-    ensures types { IfOk result (λ _. notes.new.types.items
-        ≡ notes.old.types.items ++ typing.for_loop_types (scope_of scope.old) (Some (for_loop_of for_loop.now))) }
+    ensures types { IfOk result (λ _. Adds notes.old notes.new
+        (typing.for_loop_types (scope_of scope.old) (Some (for_loop_of for_loop.now)))) }
 {
     let item = notes.next;
     let bound = bound_fault(item, lookup(scope, &for_loop.bound));
     let found = sooner(bound, twice(item, is_taken(scope, &for_loop.index)));
-    end(notes, found, None)?;
+    end(notes, found, None);
     declare(scope, &for_loop.index, Binding::Index)?;
     walk_body(notes, scope, &for_loop.body)
 }
@@ -166,8 +165,8 @@ fn walk_for_loop<'a>(
     ensures found { IfOk result (λ _. notes.new.found
         ≡ typing.sooner notes.old.found (typing.least
         (typing.for_loop_faults (scope_of scope.old) notes.old.next (option_map for_loop_of for_loop.now)))) }
-    ensures types { IfOk result (λ _. notes.new.types.items
-        ≡ notes.old.types.items ++ typing.for_loop_types (scope_of scope.old) (option_map for_loop_of for_loop.now)) }
+    ensures types { IfOk result (λ _. Adds notes.old notes.new
+        (typing.for_loop_types (scope_of scope.old) (option_map for_loop_of for_loop.now))) }
 {
     match for_loop {
         None => Ok(()),
@@ -176,24 +175,31 @@ fn walk_for_loop<'a>(
 }
 
 #[tactic(auto, using(crate::proofs::LeastFault::sooner_rules))]
-fn walk_answer(notes: &mut Notes, scope: &Scope, answer: &Option<Answer>) -> Result<(), AllocError>
+fn walk_answer(notes: &mut Notes, scope: &Scope, answer: &Option<Answer>)
     requires room { notes.old.next + items.answer_size (scope_of scope.now).index
         (option_map returned_of answer.now) < 2 ^ 32 }
-    ensures next { IfOk result (λ _. notes.new.next
-        ≡ notes.old.next + items.answer_size (scope_of scope.now).index (option_map returned_of answer.now)) }
-    ensures found { IfOk result (λ _. notes.new.found
+    ensures next { notes.new.next
+        ≡ notes.old.next + items.answer_size (scope_of scope.now).index (option_map returned_of answer.now) }
+    ensures found { notes.new.found
         ≡ typing.sooner notes.old.found (typing.least
-        (typing.answer_faults (scope_of scope.now) notes.old.next (option_map returned_of answer.now)))) }
-    ensures types { IfOk result (λ _. notes.new.types.items
-        ≡ notes.old.types.items ++ typing.answer_types (scope_of scope.now) (option_map returned_of answer.now)) }
+        (typing.answer_faults (scope_of scope.now) notes.old.next (option_map returned_of answer.now))) }
+    ensures types { Adds notes.old notes.new
+        (typing.answer_types (scope_of scope.now) (option_map returned_of answer.now)) }
 {
     match answer {
-        None => Ok(()),
+        None => {}
         Some(answer) => {
-            walk_expr(notes, scope, Role::Value(Some(answer.ty)), &answer.value)?;
+            walk_expr(notes, scope, Role::Value(Some(answer.ty)), &answer.value);
             end(notes, None, None)
         }
     }
+}
+
+// Whether there was memory for each type.
+fn kept(notes: &Notes) -> Result<(), AllocError>
+    ensures { IfOk result (λ _. notes.now.lost ≡ false) }
+{
+    if notes.lost { Err(AllocError) } else { Ok(()) }
 }
 
 // Goes over the parts of a kernel.
@@ -213,7 +219,8 @@ fn walk_parts<'a>(
     walk_params(notes, scope, &kernel.params)?;
     walk_vars(notes, scope, &kernel.vars)?;
     walk_for_loop(notes, scope, &kernel.body)?;
-    walk_answer(notes, scope, &kernel.answer)
+    walk_answer(notes, scope, &kernel.answer);
+    kept(notes)
 }
 
 // Goes over a kernel, outside whose loop nothing is declared yet.
@@ -231,6 +238,7 @@ fn notes_in<'a>(
         next: 0,
         found: None,
         types: Vec::new(alloc),
+        lost: false,
     };
     walk_parts(&mut notes, scope, kernel)?;
     Ok(notes)

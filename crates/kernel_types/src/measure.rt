@@ -16,23 +16,22 @@ fn term_size(index: Option<&str>, expr: &Expr) -> u32
     ensures { result ≡ items.term_size (option_map lent_text index.entry) (term_of expr.now) }
 {
     match expr {
-        Expr::Lit(_) => 1,
-        Expr::Var(_) => 1,
+        Expr::Lit(_) | Expr::Var(_) => 1,
         Expr::Read { index: at, .. } => match stream_distance(index, at) {
             Some(_) => 1,
             None => term_size(index, at) + 1,
         },
-        Expr::Unary { arg, .. } => term_size(index, arg) + 1,
-        Expr::Binary { left, right, .. } => term_size(index, left) + term_size(index, right) + 1,
-        Expr::Shift { arg, .. } => term_size(index, arg) + 1,
-        Expr::Cast { arg, .. } => term_size(index, arg) + 1,
+        Expr::Unary { arg, .. }
+        | Expr::Shift { arg, .. }
+        | Expr::Cast { arg, .. }
+        | Expr::Not { arg } => term_size(index, arg) + 1,
+        Expr::Binary { left, right, .. }
+        | Expr::Compare { left, right, .. }
+        | Expr::And { left, right } => term_size(index, left) + term_size(index, right) + 1,
+        Expr::Or { left, right } => term_size(index, left) + term_size(index, right) + 2,
         Expr::Select { cond, yes, no } => {
             term_size(index, yes) + term_size(index, no) + term_size(index, cond) + 1
         }
-        Expr::Compare { left, right, .. } => term_size(index, left) + term_size(index, right) + 1,
-        Expr::And { left, right } => term_size(index, left) + term_size(index, right) + 1,
-        Expr::Or { left, right } => term_size(index, left) + 1 + term_size(index, right) + 1,
-        Expr::Not { arg } => term_size(index, arg) + 1,
     }
 }
 
@@ -42,12 +41,12 @@ fn stmt_size(index: Option<&str>, stmt: &Stmt) -> u32
     ensures { result ≡ items.action_size (option_map lent_text index.entry) (action_of stmt.now) }
 {
     match parts(stmt) {
-        Part::Let { value, .. } => term_size(index, value) + 1,
-        Part::Store { value, .. } => term_size(index, value) + 1,
-        Part::Update { value, .. } => term_size(index, value) + 1,
+        Part::Let { value, .. }
+        | Part::Store { value, .. }
+        | Part::Update { value, .. }
+        | Part::Break { cond: value } => term_size(index, value) + 1,
         Part::If { cond, block } => if_size(index, cond, block),
         Part::IfElse { cond, block, other } => if_else_size(index, cond, block, other),
-        Part::Break { cond } => term_size(index, cond) + 1,
     }
 }
 
@@ -131,20 +130,19 @@ fn term_depth(expr: &Expr) -> u32
     ensures { result ≡ limits.term_depth (term_of expr.now) }
 {
     match expr {
-        Expr::Lit(_) => 1,
-        Expr::Var(_) => 1,
-        Expr::Read { index, .. } => term_depth(index) + 1,
-        Expr::Unary { arg, .. } => term_depth(arg) + 1,
-        Expr::Binary { left, right, .. } => term_depth(left).max(term_depth(right)) + 1,
-        Expr::Shift { arg, .. } => term_depth(arg) + 1,
-        Expr::Cast { arg, .. } => term_depth(arg) + 1,
+        Expr::Lit(_) | Expr::Var(_) => 1,
+        Expr::Read { index: arg, .. }
+        | Expr::Unary { arg, .. }
+        | Expr::Shift { arg, .. }
+        | Expr::Cast { arg, .. }
+        | Expr::Not { arg } => term_depth(arg) + 1,
+        Expr::Binary { left, right, .. }
+        | Expr::Compare { left, right, .. }
+        | Expr::And { left, right }
+        | Expr::Or { left, right } => term_depth(left).max(term_depth(right)) + 1,
         Expr::Select { cond, yes, no } => {
             term_depth(cond).max(term_depth(yes).max(term_depth(no))) + 1
         }
-        Expr::Compare { left, right, .. } => term_depth(left).max(term_depth(right)) + 1,
-        Expr::And { left, right } => term_depth(left).max(term_depth(right)) + 1,
-        Expr::Or { left, right } => term_depth(left).max(term_depth(right)) + 1,
-        Expr::Not { arg } => term_depth(arg) + 1,
     }
 }
 
@@ -154,12 +152,12 @@ fn stmt_depth(stmt: &Stmt) -> u32
     ensures { result ≡ limits.action_depth (action_of stmt.now) }
 {
     match parts(stmt) {
-        Part::Let { value, .. } => term_depth(value) + 1,
+        Part::Let { value, .. } | Part::Update { value, .. } | Part::Break { cond: value } => {
+            term_depth(value) + 1
+        }
         Part::Store { index, value, .. } => term_depth(index).max(term_depth(value)) + 1,
-        Part::Update { value, .. } => term_depth(value) + 1,
         Part::If { cond, block } => if_depth(cond, block),
         Part::IfElse { cond, block, other } => if_else_depth(cond, block, other),
-        Part::Break { cond } => term_depth(cond) + 1,
     }
 }
 

@@ -11,10 +11,12 @@ pub enum Role {
     Condition,
 }
 
-/// What was found so far: the number of the next item, the first fault, and the wanted type of each item.
+/// What was found so far: the number of the next item, the first fault, the wanted type of each item, and whether
+/// one of these was lost for want of memory.
 #[derive(Drop)]
 pub struct Notes {
     pub next: u32,
     pub found: Option<Found>,
     pub types: Vec<Option<Ty>>,
+    pub lost: bool,
 }

@@ -10,10 +10,10 @@ loop-var-preserved c =
     let made = c.in_ok-walk_var.ensures in
     let x = c.var-item.result in
     let e = ap accumulators_of (next_item c.args.vars.now l.var-index x c.loop-var-test.true c.var-item.is) in
-    let step = vars_go_on (scope_of l.scope) (scope_of c.walk_var.new.scope) l.notes.next c.walk_var.new.notes.next l.notes.found c.walk_var.new.notes.found l.notes.types.items c.walk_var.new.notes.types.items (accumulator_of x) (accumulators_of (drop (l.var-index + 1) c.args.vars.now)) (accumulators_of (drop l.var-index c.args.vars.now)) e made.scope made.next made.found made.types in
+    let step = vars_go_on (scope_of l.scope) (scope_of c.walk_var.new.scope) l.notes c.walk_var.new.notes (accumulator_of x) (accumulators_of (drop (l.var-index + 1) c.args.vars.now)) (accumulators_of (drop l.var-index c.args.vars.now)) e made.scope made.next made.found made.types in
     record {
       scope = step.scope ∙ l.invariant.scope;
       next = step.next ∙ l.invariant.next;
       found = step.found ∙ l.invariant.found;
-      types = step.types ∙ l.invariant.types;
+      types = λ last k. l.invariant.types last (step.types last k);
     }

@@ -1,12 +1,11 @@
 use Rattle.std.proofs.Common.{◌++◌, ◌∙◌}
-use Rattle.std.proofs.lemmas.Result.{IfOk-equal}
 use Rattle.std.specs.Prelude.{option_and_then}
 use Rattle.kernel_tree.specs.Plain.{name_of, term_of}
 use Rattle.kernel_tree.specs.Items as items
 use Rattle.kernel_tree.specs.Typing as typing
 use Rattle.kernel_scope.specs.Scopes.{scope_of}
 use Rattle.kernel_types.proofs.LeastFault.{then_item, both_rules}
-use Rattle.kernel_types.proofs.TypeLists.{one_part}
+use Rattle.kernel_types.proofs.TypeLists.{then_types}
 use Rattle.kernel_types.proofs.statements.walk_store.Goals as goal
 
 pub returns-clause-found : goal.returns-clause-found
@@ -19,8 +18,8 @@ returns-clause-found c =
     let into = typing.target_faults at target in
     let place = typing.stream_faults at offset in
     let here = c.sooner-found.ensures ∙ both_rules c.target_fault.result c.stream_fault.result into place (rw c.lookup-target.ensures at c.target_fault.ensures) (c.stream_fault.ensures offset c.stream_distance-distance.ensures) in
-    let all = then_item c.args.notes.now.found c.walk_expr.new.notes.found c.sooner-found.result inner (into ++ place) (rw (c.stored_type.ensures, c.lookup-target.ensures) at c.in_ok-walk_expr.ensures.found) here in
-    IfOk-equal c.end.result _ _ _ c.end.ensures.found (rw c.in_ok-walk_expr.ensures.next at all)
+    let all = then_item c.args.notes.now.found c.walk_expr.new.notes.found c.sooner-found.result inner (into ++ place) (rw (c.stored_type.ensures, c.lookup-target.ensures) at c.walk_expr.ensures.found) here in
+    c.end.ensures.found ∙ (rw c.walk_expr.ensures.next at all)
 
 pub returns-clause-types : goal.returns-clause-types
-returns-clause-types c = IfOk-equal c.end.result _ _ _ c.end.ensures.types (one_part _ _ _ _ (rw (c.stored_type.ensures, c.lookup-target.ensures) at c.in_ok-walk_expr.ensures.types))
+returns-clause-types c = then_types (rw (c.stored_type.ensures, c.lookup-target.ensures) at c.walk_expr.ensures.types) c.end.ensures.types

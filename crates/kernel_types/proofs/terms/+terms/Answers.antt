@@ -2,7 +2,6 @@ use Rattle.std.proofs.Common.{ℕ, ◌++◌, Option, ap, ◌∙◌}
 use Rattle.std.specs.Prelude.{ℤ}
 use Rattle.std.specs.Int.{w128}
 use Rattle.std.proofs.lemmas.Int.{to_z-of_z}
-use Rattle.std.proofs.lemmas.Result.{IfOk-weaker, IfOk-equal}
 use Rattle.kernel_tree.specs.declared.ops.Ty.{Ty}
 use Rattle.kernel_tree.specs.Plain.{name_of, term_of}
 use Rattle.kernel_tree.specs.Items as items
@@ -10,7 +9,7 @@ use Rattle.kernel_tree.specs.Typing as typing
 use Rattle.kernel_scope.specs.Scopes.{scope_of}
 use Rattle.kernel_types.specs.Parts.{role_of}
 use Rattle.kernel_types.proofs.LeastFault.{part_and_item, sooner-none, then_item, two_then_item, three_then_item, both_rules}
-use Rattle.kernel_types.proofs.TypeLists.{one_part, two_parts, three_parts}
+use Rattle.kernel_types.proofs.TypeLists.{then_types}
 use Rattle.kernel_types.proofs.terms.+terms.Goals as goal
 
 pub walk_read-returns-clause-found : goal.walk_read-returns-clause-found
@@ -28,16 +27,16 @@ walk_read-returns-clause-found t c =
     let read_is = rw (c.wanted-ty.ensures, c.lookup.ensures) at c.read_fault-read.ensures in
     let place_is = rw c.own_type.ensures at (c.index_fault-at.ensures offset c.stream_distance-distance.ensures) in
     let here = c.sooner-2.ensures ∙ both_rules c.as_value.result c.sooner.result value (read ++ place) c.as_value.ensures (c.sooner.ensures ∙ both_rules c.read_fault-read.result c.index_fault-at.result read place read_is place_is) in
-    let all = then_item c.args.notes.now.found c.walk_index.new.notes.found c.sooner-2.result inner (value ++ (read ++ place)) c.in_ok-walk_index.ensures.found here in
-    IfOk-equal c.end.result _ _ _ c.end.ensures.found (rw c.in_ok-walk_index.ensures.next at all)
+    let all = then_item c.args.notes.now.found c.walk_index.new.notes.found c.sooner-2.result inner (value ++ (read ++ place)) c.walk_index.ensures.found here in
+    c.end.ensures.found ∙ (rw c.walk_index.ensures.next at all)
 
 pub walk_unary-returns-clause-found : goal.walk_unary-returns-clause-found
 walk_unary-returns-clause-found t c =
     let scope = scope_of c.args.scope.now in
     let role = role_of c.args.role in
     let inner = typing.faults scope c.args.notes.now.next (typing.Value (typing.wanted role)) (term_of c.args.arg.now) in
-    let all = then_item c.args.notes.now.found c.walk_expr.new.notes.found c.as_value.result inner (typing.as_value c.walk_expr.new.notes.next role) (rw c.wanted-ty.ensures at c.in_ok-walk_expr.ensures.found) c.as_value.ensures in
-    IfOk-equal c.end.result _ _ _ c.end.ensures.found (rw c.in_ok-walk_expr.ensures.next at all)
+    let all = then_item c.args.notes.now.found c.walk_expr.new.notes.found c.as_value.result inner (typing.as_value c.walk_expr.new.notes.next role) (rw c.wanted-ty.ensures at c.walk_expr.ensures.found) c.as_value.ensures in
+    c.end.ensures.found ∙ (rw c.walk_expr.ensures.next at all)
 
 pub walk_binary-returns-clause-found : goal.walk_binary-returns-clause-found
 walk_binary-returns-clause-found t c =
@@ -46,18 +45,18 @@ walk_binary-returns-clause-found t c =
     let want = typing.Value (typing.wanted role) in
     let left = typing.faults scope c.args.notes.now.next want (term_of c.args.left.now) in
     let right = typing.faults scope c.walk_expr.new.notes.next want (term_of c.args.right.now) in
-    let all = two_then_item c.args.notes.now.found c.walk_expr.new.notes.found c.walk_expr-2.new.notes.found c.as_value.result left right (typing.as_value c.walk_expr-2.new.notes.next role) (rw c.wanted-ty.ensures at c.in_ok-walk_expr.ensures.found) (rw c.wanted-ty.ensures at c.in_ok-walk_expr-2.ensures.found) c.as_value.ensures in
-    IfOk-equal c.end.result _ _ _ c.end.ensures.found (rw (c.in_ok-walk_expr-2.ensures.next, c.in_ok-walk_expr.ensures.next) at all)
+    let all = two_then_item c.args.notes.now.found c.walk_expr.new.notes.found c.walk_expr-2.new.notes.found c.as_value.result left right (typing.as_value c.walk_expr-2.new.notes.next role) (rw c.wanted-ty.ensures at c.walk_expr.ensures.found) (rw c.wanted-ty.ensures at c.walk_expr-2.ensures.found) c.as_value.ensures in
+    c.end.ensures.found ∙ (rw (c.walk_expr-2.ensures.next, c.walk_expr.ensures.next) at all)
 
 pub walk_shift-returns-clause-found : goal.walk_shift-returns-clause-found
 walk_shift-returns-clause-found t c =
     let role = role_of c.args.role in
-    IfOk-weaker c.end_shift.result _ _ (λ _ h. part_and_item _ _ _ _ _ _ _
+    part_and_item _ _ _ _ _ _ _
     (λ (item : ℕ). typing.as_value item role ++ typing.shift_faults item (typing.wanted role) c.args.count)
-    c.in_ok-walk_expr.ensures.next
-    c.in_ok-walk_expr.ensures.found
+    c.walk_expr.ensures.next
+    c.walk_expr.ensures.found
     (ap (λ (o : Option Ty). typing.faults (scope_of c.args.scope.now) c.args.notes.now.next (typing.Value o) (term_of c.args.arg.now)) c.wanted.ensures)
-    (h ∙ ap (λ (n : ℤ). typing.sooner c.walk_expr.new.notes.found (typing.least (typing.as_value c.walk_expr.new.notes.next role ++ typing.shift_faults c.walk_expr.new.notes.next (typing.wanted role) n))) (to_z-of_z w128 c.args.count c.ranges.count))) c.end_shift.ensures.found
+    (c.end_shift.ensures.found ∙ ap (λ (n : ℤ). typing.sooner c.walk_expr.new.notes.found (typing.least (typing.as_value c.walk_expr.new.notes.next role ++ typing.shift_faults c.walk_expr.new.notes.next (typing.wanted role) n))) (to_z-of_z w128 c.args.count c.ranges.count))
 
 pub walk_cast-returns-clause-found : goal.walk_cast-returns-clause-found
 walk_cast-returns-clause-found t c =
@@ -71,8 +70,8 @@ walk_cast-returns-clause-found t c =
     let none = typing.untyped at own in
     let rules = c.sooner-found.ensures ∙ both_rules c.mismatch.result c.untyped.result other none (rw c.wanted-want.ensures at c.mismatch.ensures) (rw c.own_type-own.ensures at c.untyped.ensures) in
     let here = c.sooner.ensures ∙ both_rules c.as_value.result c.sooner-found.result value (other ++ none) c.as_value.ensures rules in
-    let all = then_item c.args.notes.now.found c.walk_expr.new.notes.found c.sooner.result inner (value ++ (other ++ none)) (rw c.own_type-own.ensures at c.in_ok-walk_expr.ensures.found) here in
-    IfOk-equal c.end.result _ _ _ c.end.ensures.found (rw c.in_ok-walk_expr.ensures.next at all)
+    let all = then_item c.args.notes.now.found c.walk_expr.new.notes.found c.sooner.result inner (value ++ (other ++ none)) (rw c.own_type-own.ensures at c.walk_expr.ensures.found) here in
+    c.end.ensures.found ∙ (rw c.walk_expr.ensures.next at all)
 
 pub walk_select-returns-clause-found : goal.walk_select-returns-clause-found
 walk_select-returns-clause-found t c =
@@ -82,8 +81,8 @@ walk_select-returns-clause-found t c =
     let yes = typing.faults scope c.args.notes.now.next want (term_of c.args.yes.now) in
     let no = typing.faults scope c.walk_expr.new.notes.next want (term_of c.args.no.now) in
     let cond = typing.faults scope c.walk_expr-2.new.notes.next typing.Condition (term_of c.args.cond.now) in
-    let all = three_then_item c.args.notes.now.found c.walk_expr.new.notes.found c.walk_expr-2.new.notes.found c.walk_expr-3.new.notes.found c.as_value.result yes no cond (typing.as_value c.walk_expr-3.new.notes.next role) (rw c.wanted-ty.ensures at c.in_ok-walk_expr.ensures.found) (rw c.wanted-ty.ensures at c.in_ok-walk_expr-2.ensures.found) c.in_ok-walk_expr-3.ensures.found c.as_value.ensures in
-    IfOk-equal c.end.result _ _ _ c.end.ensures.found (rw (c.in_ok-walk_expr-3.ensures.next, c.in_ok-walk_expr-2.ensures.next, c.in_ok-walk_expr.ensures.next) at all)
+    let all = three_then_item c.args.notes.now.found c.walk_expr.new.notes.found c.walk_expr-2.new.notes.found c.walk_expr-3.new.notes.found c.as_value.result yes no cond (typing.as_value c.walk_expr-3.new.notes.next role) (rw c.wanted-ty.ensures at c.walk_expr.ensures.found) (rw c.wanted-ty.ensures at c.walk_expr-2.ensures.found) c.walk_expr-3.ensures.found c.as_value.ensures in
+    c.end.ensures.found ∙ (rw (c.walk_expr-3.ensures.next, c.walk_expr-2.ensures.next, c.walk_expr.ensures.next) at all)
 
 pub walk_compare-returns-clause-found : goal.walk_compare-returns-clause-found
 walk_compare-returns-clause-found t c =
@@ -96,8 +95,8 @@ walk_compare-returns-clause-found t c =
     let cond = typing.as_condition at role in
     let none = typing.untyped at c.first-side.result in
     let here = c.sooner-found.ensures ∙ both_rules c.as_condition.result c.untyped.result cond none c.as_condition.ensures c.untyped.ensures in
-    let all = two_then_item c.args.notes.now.found c.walk_expr.new.notes.found c.walk_expr-2.new.notes.found c.sooner-found.result left right (cond ++ none) c.in_ok-walk_expr.ensures.found c.in_ok-walk_expr-2.ensures.found here in
-    IfOk-equal c.end.result _ _ _ c.end.ensures.found (rw (c.in_ok-walk_expr-2.ensures.next, c.in_ok-walk_expr.ensures.next, c.first-side.ensures, c.own_type.ensures, c.own_type-2.ensures) at all)
+    let all = two_then_item c.args.notes.now.found c.walk_expr.new.notes.found c.walk_expr-2.new.notes.found c.sooner-found.result left right (cond ++ none) c.walk_expr.ensures.found c.walk_expr-2.ensures.found here in
+    c.end.ensures.found ∙ (rw (c.walk_expr-2.ensures.next, c.walk_expr.ensures.next, c.first-side.ensures, c.own_type.ensures, c.own_type-2.ensures) at all)
 
 pub walk_and-returns-clause-found : goal.walk_and-returns-clause-found
 walk_and-returns-clause-found t c =
@@ -105,8 +104,8 @@ walk_and-returns-clause-found t c =
     let role = role_of c.args.role in
     let left = typing.faults scope c.args.notes.now.next typing.Condition (term_of c.args.left.now) in
     let right = typing.faults scope c.walk_expr.new.notes.next typing.Condition (term_of c.args.right.now) in
-    let all = two_then_item c.args.notes.now.found c.walk_expr.new.notes.found c.walk_expr-2.new.notes.found c.as_condition.result left right (typing.as_condition c.walk_expr-2.new.notes.next role) c.in_ok-walk_expr.ensures.found c.in_ok-walk_expr-2.ensures.found c.as_condition.ensures in
-    IfOk-equal c.end.result _ _ _ c.end.ensures.found (rw (c.in_ok-walk_expr-2.ensures.next, c.in_ok-walk_expr.ensures.next) at all)
+    let all = two_then_item c.args.notes.now.found c.walk_expr.new.notes.found c.walk_expr-2.new.notes.found c.as_condition.result left right (typing.as_condition c.walk_expr-2.new.notes.next role) c.walk_expr.ensures.found c.walk_expr-2.ensures.found c.as_condition.ensures in
+    c.end.ensures.found ∙ (rw (c.walk_expr-2.ensures.next, c.walk_expr.ensures.next) at all)
 
 -- a mark stands after the left side, and no fault at it
 pub walk_or-returns-clause-found : goal.walk_or-returns-clause-found
@@ -115,42 +114,42 @@ walk_or-returns-clause-found t c =
     let role = role_of c.args.role in
     let left = typing.faults scope c.args.notes.now.next typing.Condition (term_of c.args.left.now) in
     let right = typing.faults scope c.end.new.notes.next typing.Condition (term_of c.args.right.now) in
-    let marked = c.in_ok-end.ensures.found ∙ sooner-none c.walk_expr.new.notes.found ∙ c.in_ok-walk_expr.ensures.found in
-    let all = two_then_item c.args.notes.now.found c.end.new.notes.found c.walk_expr-2.new.notes.found c.as_condition.result left right (typing.as_condition c.walk_expr-2.new.notes.next role) marked c.in_ok-walk_expr-2.ensures.found c.as_condition.ensures in
-    IfOk-equal c.end-2.result _ _ _ c.end-2.ensures.found (rw (c.in_ok-walk_expr-2.ensures.next, c.in_ok-end.ensures.next, c.in_ok-walk_expr.ensures.next) at all)
+    let marked = c.end.ensures.found ∙ sooner-none c.walk_expr.new.notes.found ∙ c.walk_expr.ensures.found in
+    let all = two_then_item c.args.notes.now.found c.end.new.notes.found c.walk_expr-2.new.notes.found c.as_condition.result left right (typing.as_condition c.walk_expr-2.new.notes.next role) marked c.walk_expr-2.ensures.found c.as_condition.ensures in
+    c.end-2.ensures.found ∙ (rw (c.walk_expr-2.ensures.next, c.end.ensures.next, c.walk_expr.ensures.next) at all)
 
 pub walk_not-returns-clause-found : goal.walk_not-returns-clause-found
 walk_not-returns-clause-found t c =
     let inner = typing.faults (scope_of c.args.scope.now) c.args.notes.now.next typing.Condition (term_of c.args.arg.now) in
-    let all = then_item c.args.notes.now.found c.walk_expr.new.notes.found c.as_condition.result inner (typing.as_condition c.walk_expr.new.notes.next (role_of c.args.role)) c.in_ok-walk_expr.ensures.found c.as_condition.ensures in
-    IfOk-equal c.end.result _ _ _ c.end.ensures.found (rw c.in_ok-walk_expr.ensures.next at all)
+    let all = then_item c.args.notes.now.found c.walk_expr.new.notes.found c.as_condition.result inner (typing.as_condition c.walk_expr.new.notes.next (role_of c.args.role)) c.walk_expr.ensures.found c.as_condition.ensures in
+    c.end.ensures.found ∙ (rw c.walk_expr.ensures.next at all)
 
 pub walk_read-returns-clause-types : goal.walk_read-returns-clause-types
-walk_read-returns-clause-types t c = IfOk-equal c.end.result _ _ _ (rw c.wanted-ty.ensures at c.end.ensures.types) (one_part _ _ _ _ c.in_ok-walk_index.ensures.types)
+walk_read-returns-clause-types t c = then_types c.walk_index.ensures.types (rw c.wanted-ty.ensures at c.end.ensures.types)
 
 pub walk_unary-returns-clause-types : goal.walk_unary-returns-clause-types
-walk_unary-returns-clause-types t c = IfOk-equal c.end.result _ _ _ (rw c.wanted-ty.ensures at c.end.ensures.types) (one_part _ _ _ _ (rw c.wanted-ty.ensures at c.in_ok-walk_expr.ensures.types))
+walk_unary-returns-clause-types t c = then_types (rw c.wanted-ty.ensures at c.walk_expr.ensures.types) (rw c.wanted-ty.ensures at c.end.ensures.types)
 
 pub walk_binary-returns-clause-types : goal.walk_binary-returns-clause-types
-walk_binary-returns-clause-types t c = IfOk-equal c.end.result _ _ _ (rw c.wanted-ty.ensures at c.end.ensures.types) (two_parts _ _ _ _ _ _ (rw c.wanted-ty.ensures at c.in_ok-walk_expr.ensures.types) (rw c.wanted-ty.ensures at c.in_ok-walk_expr-2.ensures.types))
+walk_binary-returns-clause-types t c = then_types (rw c.wanted-ty.ensures at c.walk_expr.ensures.types) (then_types (rw c.wanted-ty.ensures at c.walk_expr-2.ensures.types) (rw c.wanted-ty.ensures at c.end.ensures.types))
 
 pub walk_shift-returns-clause-types : goal.walk_shift-returns-clause-types
-walk_shift-returns-clause-types t c = IfOk-equal c.end_shift.result _ _ _ c.end_shift.ensures.types (one_part _ _ _ _ (rw c.wanted.ensures at c.in_ok-walk_expr.ensures.types))
+walk_shift-returns-clause-types t c = then_types (rw c.wanted.ensures at c.walk_expr.ensures.types) c.end_shift.ensures.types
 
 pub walk_cast-returns-clause-types : goal.walk_cast-returns-clause-types
-walk_cast-returns-clause-types t c = IfOk-equal c.end.result _ _ _ (rw c.wanted-want.ensures at c.end.ensures.types) (one_part _ _ _ _ (rw c.own_type-own.ensures at c.in_ok-walk_expr.ensures.types))
+walk_cast-returns-clause-types t c = then_types (rw c.own_type-own.ensures at c.walk_expr.ensures.types) (rw c.wanted-want.ensures at c.end.ensures.types)
 
 pub walk_select-returns-clause-types : goal.walk_select-returns-clause-types
-walk_select-returns-clause-types t c = IfOk-equal c.end.result _ _ _ (rw c.wanted-ty.ensures at c.end.ensures.types) (three_parts _ _ _ _ _ _ _ _ (rw c.wanted-ty.ensures at c.in_ok-walk_expr.ensures.types) (rw c.wanted-ty.ensures at c.in_ok-walk_expr-2.ensures.types) c.in_ok-walk_expr-3.ensures.types)
+walk_select-returns-clause-types t c = then_types (rw c.wanted-ty.ensures at c.walk_expr.ensures.types) (then_types (rw c.wanted-ty.ensures at c.walk_expr-2.ensures.types) (then_types c.walk_expr-3.ensures.types (rw c.wanted-ty.ensures at c.end.ensures.types)))
 
 pub walk_compare-returns-clause-types : goal.walk_compare-returns-clause-types
-walk_compare-returns-clause-types t c = IfOk-equal c.end.result _ _ _ c.end.ensures.types (two_parts _ _ _ _ _ _ (rw (c.first-side.ensures, c.own_type.ensures, c.own_type-2.ensures) at c.in_ok-walk_expr.ensures.types) (rw (c.first-side.ensures, c.own_type.ensures, c.own_type-2.ensures) at c.in_ok-walk_expr-2.ensures.types))
+walk_compare-returns-clause-types t c = then_types (rw (c.first-side.ensures, c.own_type.ensures, c.own_type-2.ensures) at c.walk_expr.ensures.types) (then_types (rw (c.first-side.ensures, c.own_type.ensures, c.own_type-2.ensures) at c.walk_expr-2.ensures.types) c.end.ensures.types)
 
 pub walk_and-returns-clause-types : goal.walk_and-returns-clause-types
-walk_and-returns-clause-types t c = IfOk-equal c.end.result _ _ _ c.end.ensures.types (two_parts _ _ _ _ _ _ c.in_ok-walk_expr.ensures.types c.in_ok-walk_expr-2.ensures.types)
+walk_and-returns-clause-types t c = then_types c.walk_expr.ensures.types (then_types c.walk_expr-2.ensures.types c.end.ensures.types)
 
 pub walk_or-returns-clause-types : goal.walk_or-returns-clause-types
-walk_or-returns-clause-types t c = IfOk-equal c.end-2.result _ _ _ c.end-2.ensures.types (three_parts _ _ _ _ _ _ _ _ c.in_ok-walk_expr.ensures.types c.in_ok-end.ensures.types c.in_ok-walk_expr-2.ensures.types)
+walk_or-returns-clause-types t c = then_types c.walk_expr.ensures.types (then_types c.end.ensures.types (then_types c.walk_expr-2.ensures.types c.end-2.ensures.types))
 
 pub walk_not-returns-clause-types : goal.walk_not-returns-clause-types
-walk_not-returns-clause-types t c = IfOk-equal c.end.result _ _ _ c.end.ensures.types (one_part _ _ _ _ c.in_ok-walk_expr.ensures.types)
+walk_not-returns-clause-types t c = then_types c.walk_expr.ensures.types c.end.ensures.types

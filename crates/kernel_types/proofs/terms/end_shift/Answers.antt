@@ -1,7 +1,6 @@
 use Rattle.std.proofs.Common.{ap, ◌∙◌}
 use Rattle.std.specs.Int.{w128}
 use Rattle.std.proofs.lemmas.Int.{to_z-of_z}
-use Rattle.std.proofs.lemmas.Result.{IfOk-equal}
 use Rattle.kernel_tree.specs.Typing as typing
 use Rattle.kernel_types.specs.Parts.{role_of}
 use Rattle.kernel_types.proofs.LeastFault.{both_rules}
@@ -13,4 +12,4 @@ returns-clause-found c =
     let role = role_of c.args.role in
     let shift = rw (c.wanted-ty.ensures, to_z-of_z w128 c.args.count c.ranges.count) at c.shift_fault.ensures in
     let here = both_rules c.as_value.result c.shift_fault.result (typing.as_value item role) (typing.shift_faults item (typing.wanted role) c.args.count) c.as_value.ensures shift in
-    IfOk-equal c.end.result _ _ _ c.end.ensures.found (ap (typing.sooner c.args.notes.now.found) (c.sooner-found.ensures ∙ here))
+    c.end.ensures.found ∙ ap (typing.sooner c.args.notes.now.found) (c.sooner-found.ensures ∙ here)
