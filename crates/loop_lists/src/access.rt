@@ -71,6 +71,5 @@ pub fn accesses(kernel: &Checked) -> Streams
 pub fn streams(alloc: Global, kernel: &Checked) -> Result<Vec<Stream>, AllocError>
     ensures { IfOk result (λ streams. streams.items ≡ streams_of (program_of (kernel_of kernel.now))) }
 {
-    let streams = Vec::from_slice(alloc, &accesses(kernel))?;
-    Ok(streams)
+    Vec::from_slice(alloc, &accesses(kernel))
 }

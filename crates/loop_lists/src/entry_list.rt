@@ -3,7 +3,7 @@
 ghost use Rattle.std.specs.Prelude.{◌≡◌, ◌+◌, ◌≤◌, ◌++◌, length, option_map};
 ghost use Rattle.arrayvec.specs.ArrayVec.{array_vec_len};
 ghost use Rattle.kernel_tree.specs.Plain.{parameters_of, for_loop_of, returned_of};
-ghost use Rattle.kernel_tree.specs.Items.{loop_index, size_of, for_loop_size, answer_size, index_of};
+ghost use Rattle.kernel_tree.specs.Items.{loop_index, loop_start, size_of, for_loop_size, answer_size, index_of};
 ghost use Rattle.loop_form.specs.Entries.{params_entries, for_loop_entries, answer_entries, entries_of, loop_entries};
 ghost use Rattle.loop_form.specs.Near.{AreNear};
 ghost use Rattle.loop_form.specs.View.{program, entries_view};
@@ -14,6 +14,16 @@ use loop_form::entry::Entries;
 use loop_form::laws::{few_items, near_offsets};
 use loop_form::size::statements_size;
 use loop_form::{Content, ItemKind, vars_size_of};
+
+/// The number of the loop's `for`.
+#[tactic(auto, unfolding(loop_form::specs::View::program))]
+pub fn first_item(kernel: &Checked) -> u32
+    ensures { result ≡ loop_start (program kernel.now) }
+{
+    few_items(kernel);
+    let tree = kernel.kernel();
+    tree.params.len() as u32 + vars_size_of(kernel, &tree.vars)
+}
 
 // The items of a loop.
 fn for_loop_size_of(kernel: &Checked, for_loop: &Option<Loop>) -> u32
@@ -94,7 +104,7 @@ pub fn entries(kernel: &Checked) -> Entries<'_>
     few_items(kernel);
     let tree = kernel.kernel();
     let vars = tree.params.len() as u32;
-    let start = vars + vars_size_of(kernel, &tree.vars);
+    let start = first_item(kernel);
     let end = start + for_loop_size_of(kernel, &tree.body);
     let mut entries = Entries::new();
     list_params(kernel, &mut entries, &tree.params);
@@ -113,10 +123,13 @@ pub fn loop_entries(kernel: &Checked) -> Entries<'_>
 {
     few_items(kernel);
     near_offsets(kernel);
-    let tree = kernel.kernel();
-    let start = tree.params.len() as u32 + vars_size_of(kernel, &tree.vars);
     let mut entries = Entries::new();
-    list_for_loop(kernel, &mut entries, start, &tree.body);
+    list_for_loop(
+        kernel,
+        &mut entries,
+        first_item(kernel),
+        &kernel.kernel().body,
+    );
     entries
 }
 

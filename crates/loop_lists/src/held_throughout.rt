@@ -2,14 +2,13 @@
 
 ghost use Rattle.std.specs.Prelude.{◌≡◌, [], ◌∷◌, ◌++◌, if◌then◌else◌, map, filter, length, IfOk, OnOk};
 ghost use Rattle.std.specs.List.{list_any};
-ghost use Rattle.kernel_tree.specs.Plain.{parameters_of, parameter_of, accumulators_of, accumulator_of, program_of};
-ghost use Rattle.kernel_tree.specs.Checked.{kernel_of};
+ghost use Rattle.kernel_tree.specs.Plain.{parameters_of, parameter_of, accumulators_of, accumulator_of};
 ghost use Rattle.kernel_tree.specs.Items.{loop_index};
 ghost use Rattle.reg_assign.specs.declared.interval.RegClass.TheVariants.{Z};
 ghost use Rattle.loop_form.specs.HeldView.{view_of, view};
 ghost use Rattle.loop_form.specs.Entries.{loop_entries};
 ghost use Rattle.loop_form.specs.Listing.{names};
-ghost use Rattle.loop_form.specs.Needs.{is_scalar, is_named_scalar, scalars, is_literal, is_constant, new_constant, constants, index_held, is_updated, accumulating_of, throughout};
+ghost use Rattle.loop_form.specs.Needs.{is_named_scalar, scalars, is_literal, is_constant, new_constant, constants, index_held, is_updated, accumulating_of, throughout};
 ghost use Rattle.loop_form.specs.View.{program, content_of, entry_of, entries_view};
 
 use crate::entry_list::loop_entries;
@@ -32,19 +31,13 @@ pub fn is_named(entries: &[Entry<'_>], name: &str) -> bool
     false
 }
 
-fn is_scalar_shape(shape: Shape) -> bool
-    ensures { result ≡ is_scalar shape }
-{
-    match shape {
-        Shape::Scalar(_) => true,
-        Shape::Array(_) => false,
-    }
-}
-
 fn is_scalar_named(entries: &[Entry<'_>], param: &Param) -> bool
     ensures { result ≡ is_named_scalar (entries_view entries.now) (parameter_of param.now) }
 {
-    is_scalar_shape(param.shape) && is_named(entries, param.name.text())
+    match param.shape {
+        Shape::Scalar(_) => is_named(entries, param.name.text()),
+        Shape::Array(_) => false,
+    }
 }
 
 // The scalar parameters that are named.
@@ -187,10 +180,10 @@ fn push_vars<'a>(held: &mut Vec<Held<'a>>, vars: &'a [Var]) -> Result<(), AllocE
     Ok(())
 }
 
-// By the items of the loop, the scalar parameters that are named, each literal of a type, the loop variable where it is
-// named, and the accumulators that are updated.
+/// What is held in Z registers throughout: by the items of the loop, the scalar parameters that are named, each literal
+/// of a type, the loop variable where it is named, and the accumulators that are updated.
 #[tactic(auto, unfolding(loop_form::specs::View::program))]
-fn push_of_loop<'a>(
+pub fn push_of_loop<'a>(
     kernel: &'a Checked,
     held: &mut Vec<Held<'a>>,
     entries: &[Entry<'_>],
@@ -205,21 +198,9 @@ fn push_of_loop<'a>(
     push_updated(held, entries, &tree.vars)
 }
 
-/// What is held in Z registers throughout, by the items of the loop.
-pub fn held_in_loop<'a>(
-    alloc: Global,
-    kernel: &'a Checked,
-    entries: &[Entry<'_>],
-) -> Result<Vec<Held<'a>>, AllocError>
-    requires { entries_view entries.now ≡ loop_entries (program kernel.now) }
-    ensures { IfOk result (λ held. view held.items ≡ throughout (program kernel.now) Z) }
-{
-    let mut held = Vec::new(alloc);
-    push_of_loop(kernel, &mut held, entries)?;
-    Ok(held)
-}
-
-// What is held in the registers of a class.
+// What is held in the registers of a class throughout, in the order of its intervals, of which these are the first: in
+// X registers all accumulators, and in Z registers, by the items of the loop alone, the scalar parameters that are
+// named, each literal of a type, the loop variable where it is named, and the accumulators that are updated.
 #[tactic(auto, unfolding(loop_form::specs::View::program))]
 fn push_of_class<'a>(
     kernel: &'a Checked,
@@ -235,23 +216,12 @@ fn push_of_class<'a>(
     }
 }
 
-// What is held in the registers of a class throughout, in the order of its intervals, of which these are the first: in
-// X registers all accumulators, and in Z registers, by the items of the loop alone, the scalar parameters that are
-// named, each literal of a type, the loop variable where it is named, and the accumulators that are updated.
-#[tactic(auto, unfolding(loop_form::specs::View::program))]
-fn throughout(alloc: Global, kernel: &Checked, class: RegClass) -> Result<Vec<Held<'_>>, AllocError>
-    ensures { IfOk result (λ held. view held.items ≡ throughout (program_of (kernel_of kernel.now)) class) }
-{
-    let mut held = Vec::new(alloc);
-    push_of_class(kernel, &mut held, class)?;
-    Ok(held)
-}
-
 /// How much is held throughout in the registers of a class.
 pub fn held_count(alloc: Global, kernel: &Checked, class: RegClass) -> Result<u32, AllocError>
     ensures { IfOk result (λ count. count ≡ length (throughout (program kernel.now) class)) }
 {
     few_intervals(kernel, class);
-    let held = throughout(alloc, kernel, class)?;
+    let mut held = Vec::new(alloc);
+    push_of_class(kernel, &mut held, class)?;
     Ok(held.len() as u32)
 }

@@ -142,6 +142,5 @@ pub fn items(alloc: Global, all: &[Entry<'_>]) -> Result<Vec<Item>, AllocError>
 pub fn listing(alloc: Global, kernel: &Checked) -> Result<Vec<Item>, AllocError>
     ensures { IfOk result (λ items. items.items ≡ listing_of (program_of (kernel_of kernel.now))) }
 {
-    let items = items(alloc, &entries(kernel))?;
-    Ok(items)
+    items(alloc, &entries(kernel))
 }

@@ -15,16 +15,6 @@ use loop_form::Entry;
 use reg_assign::{Interval, RegClass};
 use std::alloc::{AllocError, Global};
 
-fn span(class: RegClass, all: &[Entry<'_>], entry: &Entry<'_>) -> Option<Interval>
-    ensures { result ≡ span_of class (entries_view all.now) (entry_of entry.now) }
-{
-    let last_use = last_use_if_made(class, all, entry)?;
-    Some(Interval {
-        from: entry.item,
-        last_use,
-    })
-}
-
 // The values of a class that some items of a kernel make.
 fn push_spans(
     spans: &mut Vec<Interval>,
@@ -36,8 +26,11 @@ fn push_spans(
         ++ spans_of class (entries_view all.now) (entries_view some.now)) }
 {
     for entry in some {
-        if let Some(span) = span(class, all, entry) {
-            spans.push(span)?;
+        if let Some(last_use) = last_use_if_made(class, all, entry) {
+            spans.push(Interval {
+                from: entry.item,
+                last_use,
+            })?;
         }
     }
     Ok(())

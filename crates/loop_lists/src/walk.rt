@@ -12,15 +12,8 @@ use loop_form::entry::Entries;
 use loop_form::size::{count_items, expr_size, statements_size};
 use loop_form::{Content, Entry, ItemKind, is_stream};
 
-// The type of a value item.
-#[tactic(auto, unfolding(loop_form::specs::Entries::item_type, loop_form::specs::View::program))]
-fn type_at(kernel: &Checked, item: u32) -> Option<Ty>
-    ensures { result ≡ item_type (program kernel.now) item }
-{
-    kernel.ty(item)
-}
-
 /// Appends an item.
+#[tactic(auto, unfolding(loop_form::specs::Entries::item_type, loop_form::specs::View::program))]
 pub fn put<'a>(
     kernel: &Checked,
     entries: &mut Entries<'a>,
@@ -33,7 +26,7 @@ pub fn put<'a>(
         ++ entry (program kernel.now) item (content_of content.entry) last_use ∷ [] }
     ensures len { array_vec_len entries.new ≡ array_vec_len entries.old + 1 }
 {
-    let ty = type_at(kernel, item);
+    let ty = kernel.ty(item);
     entries.push(Entry {
         item,
         content,

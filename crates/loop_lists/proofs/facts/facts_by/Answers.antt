@@ -1,9 +1,9 @@
-use Rattle.std.proofs.Common.{◌≡◌, length, map, ap, ◌∙◌, arith}
+use Rattle.std.proofs.Common.{◌≡◌, ◌++◌, length, map, ap, ◌∙◌, arith}
 use Rattle.std.proofs.lemmas.List.{length-map}
 use Rattle.guest_types.specs.declared.length.Width.TheVariants.{B}
 use Rattle.reg_assign.specs.declared.interval.RegClass.TheVariants.{Z, P}
 use Rattle.loop_form.specs.Entries.{entries_of}
-use Rattle.loop_form.specs.HeldView.{view_of}
+use Rattle.loop_form.specs.HeldView.{view_of, view}
 use Rattle.loop_form.specs.Lanes.{widest}
 use Rattle.loop_form.specs.Listing.{item_of}
 use Rattle.loop_form.specs.Needs.{throughout}
@@ -17,15 +17,16 @@ invariant_of-result c =
     let all = entries_view c.args.all.now in
     let looped = entries_view c.args.looped.now in
     let number = c.len.ensures in
-    let held : length (map view_of c.in_ok-held.held.items) ≡ length (throughout k Z) = ap length c.in_ok-held.ensures in
-    let same = length-map c.in_ok-held.held.items view_of in
-    let count : c.len.result ≡ length (throughout k Z) = omega (arith, number, held, same) in
+    let held = c.in_ok-push_of_loop.ensures ∙ ap (λ hs. view hs ++ throughout k Z) c.new-held.ensures.items in
+    let many : length (map view_of c.push_of_loop.new.held.items) ≡ length (throughout k Z) = ap length held in
+    let same = length-map c.push_of_loop.new.held.items view_of in
+    let count : c.len.result ≡ length (throughout k Z) = omega (arith, number, many, same) in
     record {
       listed = c.in_ok-listing.ensures ∙ ap (λ es. map (item_of es) es) c.requires.all;
       looped = ∣ ap entries_view c.in_ok-entries.ensures.items ∙ c.requires.looped ∣₁;
       begins = c.first_item-first.ensures;
       sized = c.widest_of-width.ensures ∙ ap (widest k B) c.requires.looped;
-      throughout = c.in_ok-held.ensures;
+      throughout = held;
       valued = c.in_ok-values.ensures ∙ ap (λ n. places_from Z all n looped) count ∙ ap (λ es. places_from Z es (length (throughout k Z)) looped) c.requires.all ∙ ap (places_from Z (entries_of k) (length (throughout k Z))) c.requires.looped;
       tested = c.in_ok-truths.ensures ∙ ap (λ es. places_from P es 0 looped) c.requires.all ∙ ap (places_from P (entries_of k) 0) c.requires.looped;
     }
