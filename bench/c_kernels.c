@@ -1,4 +1,4 @@
-// The kernels of examples/ as a C programmer writes them, for bench/c_code.
+// The kernels of examples/ as a C programmer writes them, for bench/c_code and bench/from_c: each by the name of its file.
 #include <stdint.h>
 typedef int8_t i8;
 typedef int16_t i16;
@@ -38,7 +38,24 @@ KERNEL i64 sweep(i16 *a, u8 *b, i32 *y, u32 k, u64 n) {
 }
 KERNEL void spread(u8 *a, u64 n) { for (u64 i = 0; i < n; i++) a[i + 1] = a[i]; }
 KERNEL void prefix(u64 *a, u64 n) { u64 s = 0; for (u64 i = 0; i < n; i++) { s += a[i]; a[i] = s; } }
+KERNEL u64 add_one(u64 x) { return x + 1; }
+KERNEL void add_saturated(u8 *y, u8 *x, u64 n) { for (u64 i = 0; i < n; i++) { u16 v = y[i] + x[i]; y[i] = v < 255 ? v : 255; } }
+KERNEL u64 ascii(u8 *a, u64 n) { u64 i; for (i = 0; i < n; i++) if (a[i] >= 128) break; return i; }
+KERNEL void blend(u8 *y, u8 *a, u8 *b, u8 *w, u64 n) { for (u64 i = 0; i < n; i++) y[i] = (a[i] * w[i] + b[i] * (256 - w[i])) / 256; }
+KERNEL u64 checksum(u16 *a, u64 n) {
+  u64 s = 0;
+  for (u64 i = 0; i < n; i++) s += a[i];
+  s = (s & 0xffff) + (s >> 16);
+  return 0xffff - (((s & 0xffff) + (s >> 16)) & 0xffff);
+}
+KERNEL void clamp(i16 *a, i16 low, i16 high, u64 n) {
+  for (u64 i = 0; i < n; i++) { i16 v = a[i] > low ? a[i] : low; a[i] = v < high ? v : high; }
+}
+KERNEL u64 find_byte(u8 *a, u8 c, u64 n) { u64 i; for (i = 0; i < n; i++) if (a[i] == c) break; return i; }
+KERNEL void look(u8 *t, u8 *x, u64 *y, u64 n) { for (u64 i = 0; i < n; i++) y[i] = t[x[i]]; }
+KERNEL i64 pick(i32 *t, u64 *x, u64 n) { i64 s = 0; for (u64 i = 0; i < n; i++) s += t[x[i]]; return s; }
 
+#ifdef NAME
 static u8 pages[3][131072];
 
 // The kernel NAME with the arguments WORDS (of which A, B and C are arrays of bytes that are 1) and then COUNT.
@@ -49,3 +66,4 @@ void _start(void) {
   NAME(WORDS COUNT);
   asm volatile("mov x8, #93\n mov x0, #0\n svc #0");
 }
+#endif
