@@ -119,8 +119,7 @@ fn emit_head(draft: &mut Draft) -> Result<Label, AllocError>
 fn emit_bound(draft: &mut Draft, bound: Reg) -> Result<(), AllocError>
     ensures { OnOk result (Emits draft.old draft.new draft.old.labels (loops.bound_code bound.number)) }
 {
-    draft.put(add_sub(AddSubOp::Subs, zero(), index(), bound))?;
-    Ok(())
+    draft.put(add_sub(AddSubOp::Subs, zero(), index(), bound))
 }
 
 // How far an element of a type shifts its number.
@@ -157,14 +156,8 @@ fn emit_form(draft: &mut Draft, bound: Reg, to: Reg, form: Form) -> Result<(), A
 {
     match form {
         Form::LowBits(_) => Ok(()),
-        Form::Ahead(ty) => {
-            draft.put(ahead_word(ty, to, bound))?;
-            Ok(())
-        }
-        Form::Behind => {
-            draft.put(add_sub(AddSubOp::Sub, to, to, bound))?;
-            Ok(())
-        }
+        Form::Ahead(ty) => draft.put(ahead_word(ty, to, bound)),
+        Form::Behind => draft.put(add_sub(AddSubOp::Sub, to, to, bound)),
     }
 }
 
@@ -221,10 +214,7 @@ fn emit_settled(draft: &mut Draft, bound: Reg, to: Reg, form: Form) -> Result<()
     match form {
         Form::LowBits(ty) => emit_settle(draft, true, ty, to),
         Form::Ahead(_) => Ok(()),
-        Form::Behind => {
-            draft.put(add_sub(AddSubOp::Add, to, to, bound))?;
-            Ok(())
-        }
+        Form::Behind => draft.put(add_sub(AddSubOp::Add, to, to, bound)),
     }
 }
 
@@ -258,14 +248,10 @@ fn emit_back(
         (loops.back_code (option_map form_of form) bound.number head)) }
 {
     match form {
-        Some(Form::Behind) => {
-            draft.branch(BranchKind::NotZero(9), top)?;
-            Ok(())
-        }
+        Some(Form::Behind) => draft.branch(BranchKind::NotZero(9), top),
         _ => {
             emit_bound(draft, bound)?;
-            draft.branch(BranchKind::If(Cond::Lo), top)?;
-            Ok(())
+            draft.branch(BranchKind::If(Cond::Lo), top)
         }
     }
 }

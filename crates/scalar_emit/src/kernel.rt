@@ -49,10 +49,7 @@ fn emit_argument(draft: &mut Draft, place: u32, shape: Shape) -> Result<(), Allo
 {
     match shape {
         Shape::Array(_) => Ok(()),
-        Shape::Scalar(ty) => {
-            emit_settle(draft, true, ty, Bits { number: place })?;
-            Ok(())
-        }
+        Shape::Scalar(ty) => emit_settle(draft, true, ty, Bits { number: place }),
     }
 }
 
@@ -213,8 +210,7 @@ fn emit_exit(draft: &mut Draft) -> Result<(), AllocError>
     ensures { OnOk result (Emits draft.old draft.new draft.old.labels (loops.exit_code)) }
 {
     draft.put(small(8, 93))?;
-    draft.put(exit_call())?;
-    Ok(())
+    draft.put(exit_call())
 }
 
 // The returned value, and the end.
@@ -236,8 +232,7 @@ fn emit_answer(
     match answer {
         None => {
             draft.put(small(0, 0))?;
-            emit_exit(draft)?;
-            Ok(())
+            emit_exit(draft)
         }
         Some(answer) => {
             let mut next = item;
@@ -251,8 +246,7 @@ fn emit_answer(
                 &mut next,
             )?;
             emit_copy(draft, Bits { number: 0 }, from)?;
-            emit_exit(draft)?;
-            Ok(())
+            emit_exit(draft)
         }
     }
 }
@@ -385,12 +379,9 @@ fn emit_rest<'a>(
             let head = emit_straight(draft, places, homes, scope, &kernel.answer, item)?;
             Ok(head)
         }
-        Some(for_loop) => {
-            let head = emit_for_loop(
-                alloc, draft, places, regs, homes, scope, kernel, for_loop, item,
-            )?;
-            Ok(head)
-        }
+        Some(for_loop) => emit_for_loop(
+            alloc, draft, places, regs, homes, scope, kernel, for_loop, item,
+        ),
     }
 }
 
