@@ -1,8 +1,13 @@
 -- What emission keeps of names.
-use Rattle.std.proofs.Common.{◌≡◌, Bool, ℕ, zero, suc, ◌+◌, ◌<◌, List, [], ◌∷◌, ◌++◌, length, take, drop, get_or, drop-cons, add-one, Option, Some, None, refl, sym, ap, ◌∙◌, arith}
+use Rattle.std.proofs.Common.{◌≡◌, Bool, true, false, if◌then◌else◌, ℕ, zero, suc, ◌+◌, ◌<◌, ◌≤◌, ◌^◌, List, [], ◌∷◌, ◌++◌, length, take, drop, get_or, drop-cons, add-one, Option, Some, None, refl, sym, ap, ◌∙◌, arith}
+use Rattle.std.proofs.lemmas.List.{append-nil}
+use Rattle.std.proofs.Math.Seq.{take-append_seam}
+use Rattle.std.specs.Prelude.{option_map}
+use Rattle.kernel_tree.specs.declared.fault.Binding.{Binding}
 use Rattle.kernel_tree.specs.Plain.{Term, Block, Parameter, Accumulator, PlainLoop, Program}
-use Rattle.kernel_tree.specs.Items.{for_loop_size, loop_index, loop_start, loop_end}
-use Rattle.kernel_tree.specs.Typing.{Scope, first, param_scope, var_scope}
+use Rattle.kernel_tree.specs.Items.{block_size, answer_size, for_loop_size, index_of, loop_index, loop_start, loop_end, size_of}
+use Rattle.kernel_tree.specs.Typing.{Local, Scope, local, declared, is_taken, first, after_block, after_for_loop, param_scope, var_scope}
+use Rattle.kernel_scope.proofs.Growth.{grows_by_block}
 use Rattle.kernel_tree.proofs.Scopes.{scope_index}
 use Rattle.kernel_tree.specs.declared.ops.Ty.{Ty}
 use Rattle.kernel_tree.specs.declared.ops.BinaryOp.{BinaryOp}
@@ -18,10 +23,10 @@ use Rattle.scalar_words.specs.Layout.{Constant, Loose, Layout, Homes, with_const
 use Rattle.scalar_emit.specs.Statements.{block_homes, block_labels, update_extent, update_settles, update_code}
 use Rattle.scalar_emit.specs.Loosening.{for_loop_loose, after_loop, held_loosely}
 use Rattle.scalar_emit.specs.LoopNumbers.{held_numbers, loop_layout}
-use Rattle.scalar_emit.specs.Loop.{bare, key_code, numbers_code, enter_word, enter_code, settle_form, settle_code, iterations_code, leave_code}
+use Rattle.scalar_emit.specs.Loop.{bare, with_index, answer_code, answer_labels, key_code, numbers_code, enter_word, enter_code, settle_form, settle_code, iterations_code, leave_code}
 use Rattle.scalar_words.specs.KernelRegisters.{layout_of_kernel, param_homes, kernel_homes}
-use Rattle.scalar_emit.specs.Kernel.{arguments_code, vars_code, zero_index, begin_code, straight_code, for_loop_code, scalar_code}
-use Rattle.kernel_scope.specs.Scopes.{lent_text}
+use Rattle.scalar_emit.specs.Kernel.{arguments_code, vars_code, zero_index, begin_code, straight_code, for_loop_code, for_loop_labels, scalar_code, scalar_labels}
+use Rattle.kernel_scope.specs.Scopes.{lent_text, closed}
 use Rattle.scalar_words.specs.View.{form_of, key_of, constants_of, looses_of, home_of, homes_of}
 use Rattle.scalar_emit.proofs.StmtRuns.{homes_block}
 
@@ -46,12 +51,37 @@ homes_back L old new s n b blk e is =
     let x = homes_block L (homes_of old) s b blk in
     take_map n new ∙ ap (take n) (is ∙ x.is) ∙ take_front (homes_of old) x.more n (e ∙ sym (homes_length old))
 
+-- ---- after the statements of a loop
+
+back : {A : Type 0} (n : ℕ) (xs ys zs : List A) → n ≡ length xs → ys ≡ xs ++ zs → take n ys ≡ xs
+back n xs ys zs e q = rw (e, q) (take-append_seam xs zs)
+
+same_scope : (s : Scope) (ls : List Local) (names : List (List ℕ)) (i : Option (List ℕ)) (b : Bool) → ls ≡ s.visible → names ≡ s.taken → i ≡ s.index → b ≡ s.inside → record { visible = ls; taken = names; index = i; inside = b } ≡ s
+same_scope s ls names i b e f g h = rw (e, f, g, h) refl
+
+-- the scope t of the statements has the names of s
+pub restored : (s t : Scope) (n m : ℕ) (b : Block) → t.visible ≡ s.visible → t.taken ≡ s.taken → t.index ≡ s.index → n ≡ length s.visible → m ≡ length s.taken → record (closed n m (after_block t b)) { inside = s.inside } ≡ s
+restored s t n m b p q r e f =
+    let g = grows_by_block b t in
+    same_scope s _ _ _ _ (back n s.visible (after_block t b).visible g.more e (g.visible ∙ ap (λ (ls : List Local). ls ++ g.more) p)) (back m s.taken (after_block t b).taken g.names f (g.taken ∙ ap (λ (xs : List (List ℕ)). xs ++ g.names) q)) (g.index ∙ r) refl
+
+back_name : (m : ℕ) (b : Bool) (names : List (List ℕ)) (x : List ℕ) → m ≡ length names → take m (if b then names else names ++ x ∷ []) ≡ names
+back_name m true names x e = back m names names [] e (sym (append-nil names))
+back_name m false names x e = back m names (names ++ x ∷ []) (x ∷ []) e refl
+
+-- one name is declared no more
+pub undeclared : (s : Scope) (x : List ℕ) (b : Binding) (n m : ℕ) → n ≡ length s.visible → m ≡ length s.taken → s.inside ≡ false → closed n m (declared s x b) ≡ s
+undeclared s x b n m e f o = same_scope s _ _ _ _ (back n s.visible (s.visible ++ local x b ∷ []) (local x b ∷ []) e refl) (back_name m (is_taken s x) s.taken x f) refl (sym o)
+
 -- ---- the code before the loop
 
 pub begin_is : (R : ℕ → ℕ) (k : Program) (L : Layout) (hs : Homes) (s : Scope) (first n m : ℕ) (ps : List Parameter) (vs : List Accumulator) (rest : List DraftEntry) → L ≡ layout_of_kernel R k → hs ≡ param_homes 0 ps → s ≡ param_scope k → first ≡ length k.params → n ≡ m → ps ≡ k.params → vs ≡ k.vars → arguments_code 0 ps (vars_code L R hs s 0 first n vs (zero_index rest)) ≡ begin_code R k m rest
 begin_is R k L hs s first n m ps vs rest d e f g h i j = rw (d, e, f, g, h, i, j) refl
 
 -- ---- the loop and what follows it
+
+pub known_index : (k : Program) (s : Scope) → s ≡ var_scope k → s.index ≡ loop_index k
+known_index k s t = ap (λ (r : Scope). r.index) t ∙ scope_index k
 
 pub scalar_is : (R : ℕ → ℕ) (k : Program) (N L : Layout) (l : PlainLoop) (b n b2 n2 : ℕ) (rest : List DraftEntry) → N ≡ loop_layout R k → L ≡ bare (loop_layout R k) → k.for_loop ≡ Some l → b ≡ loop_start k → b2 ≡ loop_end k → n2 ≡ n + 4 + block_labels (loop_index k) l.body → iterations_code N (kernel_homes R k) (var_scope k) l b n (leave_code L (kernel_homes R k) (var_scope k) l b2 n2 k.answer rest) ≡ scalar_code R k n rest
 scalar_is R k N L l b n b2 n2 rest c d e f g h =
@@ -68,6 +98,56 @@ straight_is R k L b n rest d e f =
     let g : b ≡ loop_end k = omega (arith, f, z) in
     let h = d ∙ none_left R k e in
     rw (h, g) (ap (λ t. for_loop_code (loop_layout R k) (kernel_homes R k) (var_scope k) t (loop_start k) n (loop_end k) k.answer rest) (sym e))
+
+-- the same, of what is known of the names before the loop and after it
+pub for_loop_is : (R : ℕ → ℕ) (k : Program) (N L : Layout) (hs hs2 : Homes) (s s2 : Scope) (l : PlainLoop) (b n b2 n2 : ℕ) (rest : List DraftEntry) → N ≡ loop_layout R k → L ≡ bare (loop_layout R k) → hs ≡ kernel_homes R k → s ≡ var_scope k → hs2 ≡ with_index hs l → s2 ≡ after_for_loop s (Some l) → k.for_loop ≡ Some l → b ≡ loop_start k → b2 ≡ loop_end k → n2 ≡ n + 4 + block_labels s.index l.body
+    → iterations_code N hs s l b n (answer_code L hs2 s2 b2 n2 k.answer rest) ≡ scalar_code R k n rest
+for_loop_is R k N L hs hs2 s s2 l b n b2 n2 rest e1 e2 h t h2 t2 f g m c =
+    let d : n2 ≡ n + 4 + block_labels (loop_index k) l.body = c ∙ ap (λ i. n + 4 + block_labels i l.body) (known_index k s t) in
+    rw (h2, t2, h, t) (scalar_is R k N L l b n b2 n2 rest e1 e2 f g m d)
+
+pub for_loop_count : (k : Program) (l : PlainLoop) (s s2 : Scope) (n n2 n3 : ℕ) → s ≡ var_scope k → s2 ≡ after_for_loop s (Some l) → k.for_loop ≡ Some l → n2 ≡ n + 4 + block_labels s.index l.body → n3 ≡ n2 + answer_labels s2.index k.answer → n3 ≡ n + scalar_labels k
+for_loop_count k l s s2 n n2 n3 t t2 f c d =
+    let i = known_index k s t in
+    let j : s2.index ≡ loop_index k = ap (λ (r : Scope). r.index) t2 ∙ i in
+    let g : scalar_labels k ≡ 4 + block_labels (loop_index k) l.body + answer_labels (loop_index k) k.answer = ap (λ o. for_loop_labels (loop_index k) o k.answer) f in
+    let p : n2 ≡ n + 4 + block_labels (loop_index k) l.body = c ∙ ap (λ o. n + 4 + block_labels o l.body) i in
+    let q : n3 ≡ n2 + answer_labels (loop_index k) k.answer = d ∙ ap (λ o. n2 + answer_labels o k.answer) j in
+    omega (arith, g, p, q)
+
+pub bare_code : (R : ℕ → ℕ) (k : Program) (L : Layout) (hs : Homes) (s : Scope) (b n : ℕ) (rest : List DraftEntry) → L ≡ layout_of_kernel R k → hs ≡ kernel_homes R k → s ≡ var_scope k → k.for_loop ≡ None → b ≡ loop_start k → straight_code L hs s n b k.answer rest ≡ scalar_code R k n rest
+bare_code R k L hs s b n rest d h t f g = rw (h, t) (straight_is R k L b n rest d f g)
+
+pub bare_count : (k : Program) (s : Scope) (n n2 : ℕ) → s.index ≡ loop_index k → k.for_loop ≡ None → n2 ≡ n + (1 + answer_labels s.index k.answer) → n2 ≡ n + scalar_labels k
+bare_count k s n n2 i f c =
+    let g : scalar_labels k ≡ 1 + answer_labels (loop_index k) k.answer = ap (λ o. for_loop_labels (loop_index k) o k.answer) f in
+    let d : n2 ≡ n + (1 + answer_labels (loop_index k) k.answer) = c ∙ ap (λ o. n + (1 + answer_labels o k.answer)) i in
+    omega (arith, g, d)
+
+-- ---- items
+
+pub loop_ends : (k : Program) (l : PlainLoop) (s : Scope) (b b2 : ℕ) → s ≡ var_scope k → k.for_loop ≡ Some l → b ≡ loop_start k → b2 ≡ b + (1 + block_size s.index l.body) → b2 ≡ loop_end k
+loop_ends k l s b b2 t f g c =
+    let i : s.index ≡ Some l.index = known_index k s t ∙ ap (option_map index_of) f in
+    let z : for_loop_size k.for_loop ≡ 1 + block_size (Some l.index) l.body = ap for_loop_size f in
+    let d : b2 ≡ b + (1 + block_size (Some l.index) l.body) = c ∙ ap (λ o. b + (1 + block_size o l.body)) i in
+    omega (arith, g, z, d)
+
+pub loop_room : (k : Program) (l : PlainLoop) (s : Scope) (b : ℕ) → size_of k ≤ 1000 → s ≡ var_scope k → k.for_loop ≡ Some l → b ≡ loop_start k → b + (1 + block_size s.index l.body) < 2 ^ 32
+loop_room k l s b few t f g =
+    let e : b + (1 + block_size s.index l.body) ≡ loop_end k = loop_ends k l s b _ t f g refl in
+    omega (arith, few, e)
+
+pub at_start : (k : Program) (b : ℕ) → b ≡ loop_start k → b ≤ loop_end k
+at_start k b e = omega (arith, e)
+
+pub at_end : (k : Program) (b : ℕ) → b ≡ loop_end k → b ≤ loop_end k
+at_end k b e = omega (arith, e)
+
+pub answer_room : (k : Program) (s : Scope) (b : ℕ) → size_of k ≤ 1000 → s.index ≡ loop_index k → b ≤ loop_end k → b + answer_size s.index k.answer < 2 ^ 32
+answer_room k s b few i le =
+    let e : answer_size s.index k.answer ≡ answer_size (loop_index k) k.answer = ap (λ o. answer_size o k.answer) i in
+    omega (arith, few, e, le)
 
 -- ---- updates
 

@@ -58,14 +58,14 @@ fn add_term<'a>(loose: &mut Vec<Loose<'a>>, scope: &Scope, expr: &'a Expr) -> Re
 {
     match expr {
         Expr::Read { array, index } => add_element(loose, scope, array, index),
-        Expr::Unary { arg, .. } => add_term(loose, scope, arg),
-        Expr::Shift { arg, .. } => add_term(loose, scope, arg),
-        Expr::Cast { arg, .. } => add_term(loose, scope, arg),
-        Expr::Not { arg } => add_term(loose, scope, arg),
-        Expr::Binary { left, right, .. } => add_both(loose, scope, left, right),
-        Expr::Compare { left, right, .. } => add_both(loose, scope, left, right),
-        Expr::And { left, right } => add_both(loose, scope, left, right),
-        Expr::Or { left, right } => add_both(loose, scope, left, right),
+        Expr::Unary { arg, .. }
+        | Expr::Shift { arg, .. }
+        | Expr::Cast { arg, .. }
+        | Expr::Not { arg } => add_term(loose, scope, arg),
+        Expr::Binary { left, right, .. }
+        | Expr::Compare { left, right, .. }
+        | Expr::And { left, right }
+        | Expr::Or { left, right } => add_both(loose, scope, left, right),
         Expr::Select { cond, yes, no } => {
             add_both(loose, scope, yes, no)?;
             add_term(loose, scope, cond)
@@ -140,10 +140,10 @@ fn add_stmt<'a>(loose: &mut Vec<Loose<'a>>, scope: &Scope, stmt: &'a Stmt) -> Re
             add_block(loose, scope, block)?;
             add_block(loose, scope, other)
         }
-        Part::Let { value, .. } => add_term(loose, scope, value),
         Part::Store { array, value, .. } => add_store(loose, scope, array, value),
-        Part::Update { value, .. } => add_term(loose, scope, value),
-        Part::Break { cond } => add_term(loose, scope, cond),
+        Part::Let { value, .. } | Part::Update { value, .. } | Part::Break { cond: value } => {
+            add_term(loose, scope, value)
+        }
     }
 }
 

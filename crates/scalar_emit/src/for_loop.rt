@@ -1,6 +1,6 @@
 //! Emits a loop.
 
-ghost use Rattle.std.specs.Prelude.{◌≡◌, ◌+◌, ◌<◌, ◌^◌, [], ◌∷◌, OnOk, IfOk, option_map};
+ghost use Rattle.std.specs.Prelude.{◌≡◌, ◌+◌, ◌<◌, ◌^◌, [], ◌∷◌, Some, OnOk, IfOk, option_map};
 ghost use Rattle.label_fix.specs.Draft.{word_view};
 ghost use Rattle.a64_code.specs.Table as table;
 ghost use Rattle.kernel_tree.specs.Plain.{name_of, for_loop_of, block_of};
@@ -12,6 +12,7 @@ ghost use Rattle.scalar_words.specs.View.{form_of, homes_of, looses_of};
 ghost use Rattle.scalar_words.specs.Words.{word_code};
 ghost use Rattle.scalar_words.specs.Layout.{loose_in};
 ghost use Rattle.kernel_tree.specs.Items as items;
+ghost use Rattle.kernel_tree.specs.Typing as typing;
 ghost use Rattle.label_fix.specs.DraftRun as plain;
 ghost use Rattle.scalar_emit.specs.Loop as loops;
 
@@ -20,7 +21,7 @@ use crate::numbers::emit_numbers;
 use crate::statements::emit_block;
 use crate::variable::declare_index;
 use a64_code::{A64, AddSubOp, AddSubShift, Cond, Reg, zero};
-use kernel_scope::Scope;
+use kernel_scope::{Scope, close, declared_count, visible_count};
 use kernel_tree::{Loop, Ty};
 use label_fix::{BranchKind, Draft, Label, Word};
 use scalar_values::instructions::{index, next_iteration};
@@ -44,6 +45,8 @@ fn emit_body<'a>(
     requires last { last < draft.old.labels }
     requires kinds { BlockKinds (block_of for_loop.now.body.items) }
     requires fits { item.old + items.block_size (scope_of scope.old).index (block_of for_loop.now.body.items) < 2 ^ 32 }
+    ensures scope { OnOk result (scope_of scope.new
+        ≡ typing.after_block (loops.inside_of (scope_of scope.old)) (block_of for_loop.now.body.items)) }
     ensures homes { OnOk result (homes_of homes.new.items
         ≡ block_homes places.now (homes_of homes.old.items) (loops.inside_of (scope_of scope.old)) item.old
         (block_of for_loop.now.body.items)) }
@@ -59,7 +62,7 @@ fn emit_body<'a>(
     Ok(())
 }
 
-// The same, after which the names before them are visible.
+// The same, after which the scope and the names are those before them.
 fn emit_inside<'a>(
     draft: &mut Draft,
     places: &Places,
@@ -72,6 +75,7 @@ fn emit_inside<'a>(
     requires last { last < draft.old.labels }
     requires kinds { BlockKinds (block_of for_loop.now.body.items) }
     requires fits { item.old + items.block_size (scope_of scope.old).index (block_of for_loop.now.body.items) < 2 ^ 32 }
+    ensures scope { OnOk result (scope_of scope.new ≡ scope_of scope.old) }
     ensures homes { OnOk result (homes_of homes.new.items ≡ homes_of homes.old.items) }
     ensures item { OnOk result (item.new ≡ item.old + items.block_size (scope_of scope.old).index
         (block_of for_loop.now.body.items)) }
@@ -81,8 +85,13 @@ fn emit_inside<'a>(
         draft.old.labels (block_of for_loop.now.body.items))) }
 {
     let known = homes.len();
+    let visible = visible_count(scope);
+    let taken = declared_count(scope);
+    let inside = scope.inside;
     emit_body(draft, places, homes, scope, last, for_loop, item)?;
     homes.truncate(known);
+    close(scope, visible, taken);
+    scope.inside = inside;
     Ok(())
 }
 
@@ -110,8 +119,7 @@ fn emit_head(draft: &mut Draft) -> Result<Label, AllocError>
 fn emit_bound(draft: &mut Draft, bound: Reg) -> Result<(), AllocError>
     ensures { OnOk result (Emits draft.old draft.new draft.old.labels (loops.bound_code bound.number)) }
 {
-    draft.put(add_sub(AddSubOp::Subs, zero(), index(), bound))?;
-    Ok(())
+    draft.put(add_sub(AddSubOp::Subs, zero(), index(), bound))
 }
 
 // How far an element of a type shifts its number.
@@ -148,14 +156,8 @@ fn emit_form(draft: &mut Draft, bound: Reg, to: Reg, form: Form) -> Result<(), A
 {
     match form {
         Form::LowBits(_) => Ok(()),
-        Form::Ahead(ty) => {
-            draft.put(ahead_word(ty, to, bound))?;
-            Ok(())
-        }
-        Form::Behind => {
-            draft.put(add_sub(AddSubOp::Sub, to, to, bound))?;
-            Ok(())
-        }
+        Form::Ahead(ty) => draft.put(ahead_word(ty, to, bound)),
+        Form::Behind => draft.put(add_sub(AddSubOp::Sub, to, to, bound)),
     }
 }
 
@@ -212,10 +214,7 @@ fn emit_settled(draft: &mut Draft, bound: Reg, to: Reg, form: Form) -> Result<()
     match form {
         Form::LowBits(ty) => emit_settle(draft, true, ty, to),
         Form::Ahead(_) => Ok(()),
-        Form::Behind => {
-            draft.put(add_sub(AddSubOp::Add, to, to, bound))?;
-            Ok(())
-        }
+        Form::Behind => draft.put(add_sub(AddSubOp::Add, to, to, bound)),
     }
 }
 
@@ -249,14 +248,10 @@ fn emit_back(
         (loops.back_code (option_map form_of form) bound.number head)) }
 {
     match form {
-        Some(Form::Behind) => {
-            draft.branch(BranchKind::NotZero(9), top)?;
-            Ok(())
-        }
+        Some(Form::Behind) => draft.branch(BranchKind::NotZero(9), top),
         _ => {
             emit_bound(draft, bound)?;
-            draft.branch(BranchKind::If(Cond::Lo), top)?;
-            Ok(())
+            draft.branch(BranchKind::If(Cond::Lo), top)
         }
     }
 }
@@ -268,25 +263,22 @@ fn emit_again(
     homes: &[Home],
     for_loop: &Loop,
     bound: Reg,
-    head: Label,
-    exit: Label,
-    top: Label,
-    last: Label,
+    labels: LoopLabels,
 ) -> Result<(), AllocError>
-    requires exit { exit ≡ head + 1 }
-    requires top { top ≡ head + 2 }
-    requires last { last ≡ head + 3 }
-    requires given { last < draft.old.labels }
+    requires exit { labels.exit ≡ labels.head + 1 }
+    requires top { labels.top ≡ labels.head + 2 }
+    requires last { labels.last ≡ labels.head + 3 }
+    requires given { labels.last < draft.old.labels }
     ensures { OnOk result (Emits draft.old draft.new draft.old.labels
-        (loops.again_code (loose_in places.now.loose (name_of for_loop.now.index)) bound.number head (homes_of homes.now)
-        places.now.loose)) }
+        (loops.again_code (loose_in places.now.loose (name_of for_loop.now.index)) bound.number labels.head
+        (homes_of homes.now) places.now.loose)) }
 {
     draft.put(next_iteration())?;
     let form = places.loose_form(&for_loop.index);
-    emit_back(draft, form, bound, head, top)?;
-    draft.place(last)?;
+    emit_back(draft, form, bound, labels.head, labels.top)?;
+    draft.place(labels.last)?;
     emit_extended(draft, bound, homes, places.loose())?;
-    draft.place(exit)?;
+    draft.place(labels.exit)?;
     Ok(())
 }
 
@@ -303,6 +295,10 @@ pub fn emit_loop<'a>(
     requires fits { item.old + (1 + items.block_size (scope_of scope.old).index (block_of for_loop.now.body.items)) < 2 ^
         32 }
     ensures head { IfOk result (λ l. l ≡ draft.old.labels) }
+    ensures scope { OnOk result (scope_of scope.new
+        ≡ typing.after_for_loop (scope_of scope.old) (Some (for_loop_of for_loop.now))) }
+    ensures homes { OnOk result (homes_of homes.new.items
+        ≡ loops.with_index (homes_of homes.old.items) (for_loop_of for_loop.now)) }
     ensures item { OnOk result (item.new ≡ item.old +
         (1 + items.block_size (scope_of scope.old).index (block_of for_loop.now.body.items))) }
     ensures emits { OnOk result (Emits draft.old draft.new
@@ -313,14 +309,9 @@ pub fn emit_loop<'a>(
     let bound = register_at(homes, &for_loop.bound);
     declare_index(scope, homes, for_loop)?;
     let labels = emit_entry(draft, places, homes, bound)?;
-    let LoopLabels {
-        head,
-        exit,
-        top,
-        last,
-    } = labels;
+    let LoopLabels { head, last, .. } = labels;
     *item += 1;
     emit_inside(draft, places, homes, scope, last, for_loop, item)?;
-    emit_again(draft, places, homes, for_loop, bound, head, exit, top, last)?;
+    emit_again(draft, places, homes, for_loop, bound, labels)?;
     Ok(head)
 }

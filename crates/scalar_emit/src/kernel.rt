@@ -1,15 +1,14 @@
 //! Emits the code of a kernel: what stands before its loop, the loop, and the end.
 
-ghost use Rattle.std.specs.Prelude.{◌≡◌, ◌+◌, ◌*◌, ◌<◌, ◌≤◌, ◌^◌, None, Some, [], ◌∷◌, ◌++◌, OnOk, IfOk, length, option_map};
-ghost use Rattle.kernel_tree.specs.Plain.{term_of, parameters_of, accumulator_of, accumulators_of, for_loop_of, returned_of, block_of, program_of};
-ghost use Rattle.kernel_tree.specs.Kinds.{IsValue, VarsKinds, BlockKinds, AnswerKinds, KernelKinds};
+ghost use Rattle.std.specs.Prelude.{◌≡◌, ◌+◌, ◌*◌, ◌<◌, ◌≤◌, ◌^◌, Some, [], ◌∷◌, ◌++◌, OnOk, IfOk, length, option_map};
+ghost use Rattle.kernel_tree.specs.Plain.{term_of, parameters_of, accumulator_of, accumulators_of, for_loop_of, returned_of, program_of};
+ghost use Rattle.kernel_tree.specs.Kinds.{IsValue, VarsKinds, AnswerKinds, KernelKinds};
 ghost use Rattle.kernel_scope.specs.Scopes.{scope_of, after_var};
 ghost use Rattle.reg_assign.specs.declared.interval.RegClass.TheVariants.{X};
 ghost use Rattle.reg_assign.specs.Registers.{IsAssignment};
 ghost use Rattle.loop_form.specs.Registers.{FitsKernel};
 ghost use Rattle.loop_form.specs.Listing.{listing_of};
 ghost use Rattle.loop_form.specs.View.{program};
-ghost use Rattle.scalar_emit.specs.Statements.{block_labels};
 ghost use Rattle.scalar_words.specs.KernelRegisters.{register_in};
 ghost use Rattle.label_fix.specs.Emits.{Emits};
 ghost use Rattle.scalar_words.specs.Drafts.{AppendsWords};
@@ -25,7 +24,6 @@ ghost use Rattle.scalar_words.specs.KernelRegisters as registers;
 use crate::for_loop::emit_loop;
 use crate::loosening::{after_loop, loosen_names};
 use crate::numbers::hold_block;
-use crate::variable::declare_index;
 use kernel_scope::{Scope, empty, loop_index};
 use kernel_tree::laws::{few_params, right_kinds};
 use kernel_tree::{Answer, Checked, Kernel, Loop, Param, Shape, Var};
@@ -51,10 +49,7 @@ fn emit_argument(draft: &mut Draft, place: u32, shape: Shape) -> Result<(), Allo
 {
     match shape {
         Shape::Array(_) => Ok(()),
-        Shape::Scalar(ty) => {
-            emit_settle(draft, true, ty, Bits { number: place })?;
-            Ok(())
-        }
+        Shape::Scalar(ty) => emit_settle(draft, true, ty, Bits { number: place }),
     }
 }
 
@@ -215,8 +210,7 @@ fn emit_exit(draft: &mut Draft) -> Result<(), AllocError>
     ensures { OnOk result (Emits draft.old draft.new draft.old.labels (loops.exit_code)) }
 {
     draft.put(small(8, 93))?;
-    draft.put(exit_call())?;
-    Ok(())
+    draft.put(exit_call())
 }
 
 // The returned value, and the end.
@@ -238,8 +232,7 @@ fn emit_answer(
     match answer {
         None => {
             draft.put(small(0, 0))?;
-            emit_exit(draft)?;
-            Ok(())
+            emit_exit(draft)
         }
         Some(answer) => {
             let mut next = item;
@@ -253,218 +246,28 @@ fn emit_answer(
                 &mut next,
             )?;
             emit_copy(draft, Bits { number: 0 }, from)?;
-            emit_exit(draft)?;
-            Ok(())
+            emit_exit(draft)
         }
     }
 }
 
-// The loop of a kernel, with no name declared yet.
-fn for_loop_named<'a>(
-    draft: &mut Draft,
-    places: &Places,
-    regs: &Assigned,
-    homes: &mut Vec<Home<'a>>,
-    scope: &mut Scope<'a>,
-    kernel: &'a Kernel,
-    for_loop: &'a Loop,
-    item: &mut usize,
-) -> Result<Label, AllocError>
-    requires assigned { IsAssignment 15 regs.now }
-    requires vars { length (program_of kernel.now).vars ≤ length regs.now.registers }
-    requires params { length (program_of kernel.now).params ≤ 8 }
-    requires for_loop { (program_of kernel.now).for_loop ≡ Some (for_loop_of for_loop.now) }
-    requires kinds { BlockKinds (block_of for_loop.now.body.items) }
-    requires fits { item.old + items.for_loop_size (Some (for_loop_of for_loop.now)) < 2 ^ 32 }
-    requires scope { scope_of scope.old ≡ typing.empty (items.loop_index (program_of kernel.now)) }
-    requires homes { homes.old.items ≡ [] }
-    ensures head { IfOk result (λ l. l ≡ draft.old.labels) }
-    ensures item { OnOk result (item.new ≡ item.old + items.for_loop_size (Some (for_loop_of for_loop.now))) }
-    ensures emits { OnOk result (Emits draft.old draft.new
-        (draft.old.labels + 4 + block_labels (items.loop_index (program_of kernel.now))
-        (block_of for_loop.now.body.items))
-        (loops.iterations_code places.now (registers.kernel_homes (register_in regs.now) (program_of kernel.now))
-        (typing.var_scope (program_of kernel.now)) (for_loop_of for_loop.now) item.old draft.old.labels)) }
-{
-    declare_names(scope, homes, regs, kernel)?;
-    let head = emit_loop(draft, places, homes, scope, for_loop, item)?;
-    Ok(head)
-}
-
-// The loop of a kernel.
-fn emit_for_loop(
-    alloc: Global,
-    draft: &mut Draft,
-    places: &Places,
-    regs: &Assigned,
-    kernel: &Kernel,
-    for_loop: &Loop,
-    item: &mut usize,
-) -> Result<Label, AllocError>
-    requires assigned { IsAssignment 15 regs.now }
-    requires vars { length (program_of kernel.now).vars ≤ length regs.now.registers }
-    requires params { length (program_of kernel.now).params ≤ 8 }
-    requires for_loop { (program_of kernel.now).for_loop ≡ Some (for_loop_of for_loop.now) }
-    requires kinds { BlockKinds (block_of for_loop.now.body.items) }
-    requires fits { item.old + items.for_loop_size (Some (for_loop_of for_loop.now)) < 2 ^ 32 }
-    ensures head { IfOk result (λ l. l ≡ draft.old.labels) }
-    ensures item { OnOk result (item.new ≡ item.old + items.for_loop_size (Some (for_loop_of for_loop.now))) }
-    ensures emits { OnOk result (Emits draft.old draft.new
-        (draft.old.labels + 4 + block_labels (items.loop_index (program_of kernel.now))
-        (block_of for_loop.now.body.items))
-        (loops.iterations_code places.now (registers.kernel_homes (register_in regs.now) (program_of kernel.now))
-        (typing.var_scope (program_of kernel.now)) (for_loop_of for_loop.now) item.old draft.old.labels)) }
-{
-    let mut scope = empty(alloc, Some(for_loop.index.text()));
-    let mut homes = Vec::new(alloc);
-    for_loop_named(
-        draft, places, regs, &mut homes, &mut scope, kernel, for_loop, item,
-    )
-}
-
-// The returned value of a kernel after its loop, with no name declared yet.
-fn following_named<'a>(
-    draft: &mut Draft,
-    places: &Places,
-    regs: &Assigned,
-    homes: &mut Vec<Home<'a>>,
-    scope: &mut Scope<'a>,
-    kernel: &'a Kernel,
-    for_loop: &'a Loop,
-    item: usize,
-) -> Result<(), AllocError>
-    requires assigned { IsAssignment 15 regs.now }
-    requires vars { length (program_of kernel.now).vars ≤ length regs.now.registers }
-    requires params { length (program_of kernel.now).params ≤ 8 }
-    requires for_loop { (program_of kernel.now).for_loop ≡ Some (for_loop_of for_loop.now) }
-    requires kind { AnswerKinds (program_of kernel.now).answer }
-    requires fits { item + items.answer_size (items.loop_index (program_of kernel.now))
-        (program_of kernel.now).answer < 2 ^ 32 }
-    requires scope { scope_of scope.old ≡ typing.empty (items.loop_index (program_of kernel.now)) }
-    requires homes { homes.old.items ≡ [] }
-    ensures { OnOk result (Emits draft.old draft.new
-        (draft.old.labels + loops.answer_labels (items.loop_index (program_of kernel.now))
-        (program_of kernel.now).answer)
-        (loops.leave_code places.now (registers.kernel_homes (register_in regs.now) (program_of kernel.now))
-        (typing.var_scope (program_of kernel.now)) (for_loop_of for_loop.now) item draft.old.labels
-        (program_of kernel.now).answer)) }
-{
-    declare_names(scope, homes, regs, kernel)?;
-    declare_index(scope, homes, for_loop)?;
-    emit_answer(draft, places, homes, scope, &kernel.answer, item)?;
-    Ok(())
-}
-
-// The returned value of a kernel after its loop.
-fn emit_following(
-    alloc: Global,
-    draft: &mut Draft,
-    places: &Places,
-    regs: &Assigned,
-    kernel: &Kernel,
-    for_loop: &Loop,
-    item: usize,
-) -> Result<(), AllocError>
-    requires assigned { IsAssignment 15 regs.now }
-    requires vars { length (program_of kernel.now).vars ≤ length regs.now.registers }
-    requires params { length (program_of kernel.now).params ≤ 8 }
-    requires for_loop { (program_of kernel.now).for_loop ≡ Some (for_loop_of for_loop.now) }
-    requires kind { AnswerKinds (program_of kernel.now).answer }
-    requires fits { item + items.answer_size (items.loop_index (program_of kernel.now))
-        (program_of kernel.now).answer < 2 ^ 32 }
-    ensures { OnOk result (Emits draft.old draft.new
-        (draft.old.labels + loops.answer_labels (items.loop_index (program_of kernel.now))
-        (program_of kernel.now).answer)
-        (loops.leave_code places.now (registers.kernel_homes (register_in regs.now) (program_of kernel.now))
-        (typing.var_scope (program_of kernel.now)) (for_loop_of for_loop.now) item draft.old.labels
-        (program_of kernel.now).answer)) }
-{
-    let mut scope = empty(alloc, Some(for_loop.index.text()));
-    let mut homes = Vec::new(alloc);
-    following_named(
-        draft, places, regs, &mut homes, &mut scope, kernel, for_loop, item,
-    )
-}
-
-// A kernel without a loop, with no name declared yet; answers the label before its returned value.
-fn straight_named<'a>(
-    draft: &mut Draft,
-    places: &Places,
-    regs: &Assigned,
-    homes: &mut Vec<Home<'a>>,
-    scope: &mut Scope<'a>,
-    kernel: &'a Kernel,
-    item: usize,
-) -> Result<Label, AllocError>
-    requires assigned { IsAssignment 15 regs.now }
-    requires vars { length (program_of kernel.now).vars ≤ length regs.now.registers }
-    requires params { length (program_of kernel.now).params ≤ 8 }
-    requires for_loop { (program_of kernel.now).for_loop ≡ None }
-    requires kind { AnswerKinds (program_of kernel.now).answer }
-    requires fits { item + items.answer_size (items.loop_index (program_of kernel.now))
-        (program_of kernel.now).answer < 2 ^ 32 }
-    requires scope { scope_of scope.old ≡ typing.empty (items.loop_index (program_of kernel.now)) }
-    requires homes { homes.old.items ≡ [] }
-    ensures head { IfOk result (λ l. l ≡ draft.old.labels) }
-    ensures emits { OnOk result (Emits draft.old draft.new
-        (draft.old.labels + kernels.scalar_labels (program_of kernel.now))
-        (kernels.straight_code places.now (registers.kernel_homes (register_in regs.now) (program_of kernel.now))
-        (typing.var_scope (program_of kernel.now)) draft.old.labels item (program_of kernel.now).answer)) }
-{
-    declare_names(scope, homes, regs, kernel)?;
-    let head = draft.label()?;
-    draft.place(head)?;
-    emit_answer(draft, places, homes, scope, &kernel.answer, item)?;
-    Ok(head)
-}
-
-// A kernel without a loop; answers the label before its returned value.
-fn emit_straight(
-    alloc: Global,
-    draft: &mut Draft,
-    places: &Places,
-    regs: &Assigned,
-    kernel: &Kernel,
-    item: usize,
-) -> Result<Label, AllocError>
-    requires assigned { IsAssignment 15 regs.now }
-    requires vars { length (program_of kernel.now).vars ≤ length regs.now.registers }
-    requires params { length (program_of kernel.now).params ≤ 8 }
-    requires for_loop { (program_of kernel.now).for_loop ≡ None }
-    requires kind { AnswerKinds (program_of kernel.now).answer }
-    requires fits { item + items.answer_size (items.loop_index (program_of kernel.now))
-        (program_of kernel.now).answer < 2 ^ 32 }
-    ensures head { IfOk result (λ l. l ≡ draft.old.labels) }
-    ensures emits { OnOk result (Emits draft.old draft.new
-        (draft.old.labels + kernels.scalar_labels (program_of kernel.now))
-        (kernels.straight_code places.now (registers.kernel_homes (register_in regs.now) (program_of kernel.now))
-        (typing.var_scope (program_of kernel.now)) draft.old.labels item (program_of kernel.now).answer)) }
-{
-    let mut scope = empty(alloc, None);
-    let mut homes = Vec::new(alloc);
-    straight_named(draft, places, regs, &mut homes, &mut scope, kernel, item)
-}
-
-// What a loop holds, with no name declared yet.
-fn hold_named<'a>(
+// What a loop holds, with the names before it.
+fn hold_numbers(
     alloc: Global,
     places: &mut Places,
     regs: &Assigned,
-    homes: &mut Vec<Home<'a>>,
-    scope: &mut Scope<'a>,
-    kernel: &'a Kernel,
-    for_loop: &'a Loop,
+    homes: &[Home],
+    scope: &Scope,
+    kernel: &Kernel,
+    for_loop: &Loop,
 ) -> Result<(), AllocError>
-    requires assigned { IsAssignment 15 regs.now }
-    requires vars { length (program_of kernel.now).vars ≤ length regs.now.registers }
     requires params { length (program_of kernel.now).params ≤ 8 }
     requires for_loop { (program_of kernel.now).for_loop ≡ Some (for_loop_of for_loop.now) }
-    requires scope { scope_of scope.old ≡ typing.empty (items.loop_index (program_of kernel.now)) }
-    requires homes { homes.old.items ≡ [] }
+    requires scope { scope_of scope.now ≡ typing.var_scope (program_of kernel.now) }
+    requires homes { homes_of homes.now ≡ registers.kernel_homes (register_in regs.now) (program_of kernel.now) }
     ensures { OnOk result (places.new
         ≡ with_constants places.old (numbers.held_numbers (register_in regs.now) (program_of kernel.now))) }
 {
-    declare_names(scope, homes, regs, kernel)?;
     let mut constants = Vec::new(alloc);
     hold_block(
         &mut constants,
@@ -477,30 +280,113 @@ fn hold_named<'a>(
     Ok(())
 }
 
-// What a loop holds.
-fn hold_numbers(
+// What is held after a loop: the arrays that stand ahead.
+fn leave_loop(alloc: Global, places: &mut Places) -> Result<(), AllocError>
+    ensures { OnOk result (places.new ≡ loops.bare places.old) }
+{
+    let ahead = after_loop(alloc, places.loose())?;
+    places.hold(Vec::new(alloc));
+    places.loosen(ahead);
+    Ok(())
+}
+
+// The loop of a kernel and what follows it, with the names before it; answers the label of its head.
+fn emit_for_loop<'a>(
     alloc: Global,
-    places: &mut Places,
+    draft: &mut Draft,
+    places: &mut Places<'a>,
     regs: &Assigned,
+    homes: &mut Vec<Home<'a>>,
+    scope: &mut Scope<'a>,
     kernel: &Kernel,
-    for_loop: &Loop,
-) -> Result<(), AllocError>
+    for_loop: &'a Loop,
+    item: usize,
+) -> Result<Label, AllocError>
+    requires params { length (program_of kernel.now).params ≤ 8 }
+    requires for_loop { (program_of kernel.now).for_loop ≡ Some (for_loop_of for_loop.now) }
+    requires kinds { KernelKinds (program_of kernel.now) }
+    requires few { items.size_of (program_of kernel.now) ≤ 1000 }
+    requires places { places.old ≡ registers.layout_of_kernel (register_in regs.now) (program_of kernel.now) }
+    requires start { item ≡ items.loop_start (program_of kernel.now) }
+    requires scope { scope_of scope.old ≡ typing.var_scope (program_of kernel.now) }
+    requires homes { homes_of homes.old.items ≡ registers.kernel_homes (register_in regs.now) (program_of kernel.now) }
+    ensures head { IfOk result (λ l. l ≡ draft.old.labels) }
+    ensures emits { OnOk result (Emits draft.old draft.new
+        (draft.old.labels + kernels.scalar_labels (program_of kernel.now))
+        (kernels.scalar_code (register_in regs.now) (program_of kernel.now) draft.old.labels)) }
+{
+    let mut next = item;
+    hold_numbers(alloc, places, regs, homes, scope, kernel, for_loop)?;
+    loosen_names(alloc, places, scope, kernel, for_loop)?;
+    let head = emit_loop(draft, places, homes, scope, for_loop, &mut next)?;
+    leave_loop(alloc, places)?;
+    emit_answer(draft, places, homes, scope, &kernel.answer, next)?;
+    Ok(head)
+}
+
+// A kernel without a loop, with its names; answers the label before its returned value.
+fn emit_straight(
+    draft: &mut Draft,
+    places: &Places,
+    homes: &[Home],
+    scope: &Scope,
+    answer: &Option<Answer>,
+    item: usize,
+) -> Result<Label, AllocError>
+    requires kind { AnswerKinds (option_map returned_of answer.now) }
+    requires fits { item + items.answer_size (scope_of scope.now).index (option_map returned_of answer.now) < 2 ^ 32 }
+    ensures head { IfOk result (λ l. l ≡ draft.old.labels) }
+    ensures emits { OnOk result (Emits draft.old draft.new
+        (draft.old.labels + (1 + loops.answer_labels (scope_of scope.now).index (option_map returned_of answer.now)))
+        (kernels.straight_code places.now (homes_of homes.now) (scope_of scope.now) draft.old.labels item
+        (option_map returned_of answer.now))) }
+{
+    let head = draft.label()?;
+    draft.place(head)?;
+    emit_answer(draft, places, homes, scope, answer, item)?;
+    Ok(head)
+}
+
+// The code of a kernel's loop and of what follows it, with no name declared yet; answers the label of its head, or before
+// the returned value.
+fn emit_rest<'a>(
+    alloc: Global,
+    draft: &mut Draft,
+    places: &mut Places<'a>,
+    regs: &Assigned,
+    homes: &mut Vec<Home<'a>>,
+    scope: &mut Scope<'a>,
+    kernel: &'a Kernel,
+    item: usize,
+) -> Result<Label, AllocError>
     requires assigned { IsAssignment 15 regs.now }
     requires vars { length (program_of kernel.now).vars ≤ length regs.now.registers }
     requires params { length (program_of kernel.now).params ≤ 8 }
-    requires for_loop { (program_of kernel.now).for_loop ≡ Some (for_loop_of for_loop.now) }
-    ensures { OnOk result (places.new
-        ≡ with_constants places.old (numbers.held_numbers (register_in regs.now) (program_of kernel.now))) }
+    requires kinds { KernelKinds (program_of kernel.now) }
+    requires few { items.size_of (program_of kernel.now) ≤ 1000 }
+    requires places { places.old ≡ registers.layout_of_kernel (register_in regs.now) (program_of kernel.now) }
+    requires start { item ≡ items.loop_start (program_of kernel.now) }
+    requires scope { scope_of scope.old ≡ typing.empty (items.loop_index (program_of kernel.now)) }
+    requires homes { homes.old.items ≡ [] }
+    ensures head { IfOk result (λ l. l ≡ draft.old.labels) }
+    ensures emits { OnOk result (Emits draft.old draft.new
+        (draft.old.labels + kernels.scalar_labels (program_of kernel.now))
+        (kernels.scalar_code (register_in regs.now) (program_of kernel.now) draft.old.labels)) }
 {
-    let mut scope = empty(alloc, Some(for_loop.index.text()));
-    let mut homes = Vec::new(alloc);
-    hold_named(
-        alloc, places, regs, &mut homes, &mut scope, kernel, for_loop,
-    )
+    declare_names(scope, homes, regs, kernel)?;
+    match &kernel.body {
+        None => {
+            let head = emit_straight(draft, places, homes, scope, &kernel.answer, item)?;
+            Ok(head)
+        }
+        Some(for_loop) => emit_for_loop(
+            alloc, draft, places, regs, homes, scope, kernel, for_loop, item,
+        ),
+    }
 }
 
-// The code of a kernel's loop and of what follows it; answers the label of its head, or before the returned value.
-fn emit_rest<'a>(
+// The same, where no name is held yet.
+fn emit_after<'a>(
     alloc: Global,
     draft: &mut Draft,
     places: &mut Places<'a>,
@@ -520,23 +406,11 @@ fn emit_rest<'a>(
         (draft.old.labels + kernels.scalar_labels (program_of kernel.now))
         (kernels.scalar_code (register_in regs.now) (program_of kernel.now) draft.old.labels)) }
 {
-    match &kernel.body {
-        None => {
-            let head = emit_straight(alloc, draft, places, regs, kernel, item)?;
-            Ok(head)
-        }
-        Some(for_loop) => {
-            let mut next = item;
-            hold_numbers(alloc, places, regs, kernel, for_loop)?;
-            loosen_names(alloc, places, regs, kernel, for_loop)?;
-            let head = emit_for_loop(alloc, draft, places, regs, kernel, for_loop, &mut next)?;
-            places.hold(Vec::new(alloc));
-            let ahead = after_loop(alloc, places.loose())?;
-            places.loosen(ahead);
-            emit_following(alloc, draft, places, regs, kernel, for_loop, next)?;
-            Ok(head)
-        }
-    }
+    let mut scope = empty(alloc, loop_index(&kernel.body));
+    let mut homes = Vec::new(alloc);
+    emit_rest(
+        alloc, draft, places, regs, &mut homes, &mut scope, kernel, item,
+    )
 }
 
 /// Where scalar code is entered.
@@ -571,6 +445,6 @@ pub fn emit_scalar(
     let mut places = places_of(alloc, kernel, listing, regs)?;
     let tree = kernel.kernel();
     let item = tree.params.len() + vars_size_of(kernel, &tree.vars) as usize;
-    let at_iteration = emit_rest(alloc, draft, &mut places, regs, tree, item)?;
+    let at_iteration = emit_after(alloc, draft, &mut places, regs, tree, item)?;
     Ok(ScalarEntry { at_iteration })
 }

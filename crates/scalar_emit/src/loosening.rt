@@ -1,38 +1,33 @@
 //! Which names a loop holds loosely: its variable and its arrays where it counts to zero, and accumulators.
 
-ghost use Rattle.std.specs.Prelude.{◌≡◌, ◌≤◌, List, true, [], ◌∷◌, ◌++◌, Some, None, IfOk, OnOk, length, option_map, option_and_then};
+ghost use Rattle.std.specs.Prelude.{◌≡◌, List, true, ◌++◌, Some, IfOk, OnOk, option_map, option_and_then};
 ghost use Rattle.kernel_tree.specs.Plain.{Define, Put, Update, Choose, Nothing, Else, name_of, term_of, action_of, block_of, for_loop_of, returned_of, program_of};
 ghost use Rattle.kernel_tree.specs.Parts.{part_action};
-ghost use Rattle.kernel_scope.specs.Scopes.{scope_of};
-ghost use Rattle.reg_assign.specs.Registers.{IsAssignment};
+ghost use Rattle.kernel_scope.specs.Scopes.{scope_of, in_body};
 ghost use Rattle.scalar_words.specs.View.{form_of, loose_of, looses_of};
 ghost use Rattle.scalar_words.specs.Layout.{loose_in, with_loose};
 ghost use Rattle.scalar_values.specs.Covers as asked;
 ghost use Rattle.scalar_words.specs.Layout as layout;
 ghost use Rattle.scalar_emit.specs.Statements.{is_effect};
 ghost use Rattle.kernel_meaning.specs.Operators as operators;
-ghost use Rattle.kernel_tree.specs.Items as items;
 ghost use Rattle.kernel_tree.specs.Typing as typing;
-ghost use Rattle.scalar_emit.specs.Loop as loops;
 ghost use Rattle.scalar_emit.specs.Loosening as loosening;
 ghost use Rattle.scalar_emit.specs.Statements as statements;
 
 use crate::arrays::add_block;
-use crate::variable::declare_index;
 use kernel_meaning::binary_leaves;
 use kernel_scope::{
-    Scope, accumulator_type, define, element_type, empty, first, leave, lookup, own_type,
-    visible_count,
+    Scope, accumulator_type, close, declare, declared_count, define, element_type, first, leave,
+    lookup, own_type, visible_count,
 };
+use kernel_tree::fault::Binding;
 use kernel_tree::{Answer, BinaryOp, Expr, Kernel, Loop, Name, Part, Stmt, Ty, UpdateOp, parts};
-use reg_assign::Assigned;
 use scalar_values::covers::{covers, covers_index, covers_truth, held_extent, is_enough, is_whole};
 use scalar_values::extent::{Extent, binary_extent, extent_at};
 use scalar_words::instructions::is_narrow;
-use scalar_words::names::declare_names;
 use scalar_words::operations::update_operator;
 use scalar_words::places::Places;
-use scalar_words::{Form, Home, Loose, loose_form};
+use scalar_words::{Form, Loose, loose_form};
 use std::alloc::{AllocError, Global};
 
 // ---- whether statements ask no more of a name than stands in its register
@@ -196,50 +191,24 @@ fn covers_block<'a>(
     Ok(covered)
 }
 
-// The statements of a loop, with no name declared yet.
-fn body_named<'a>(
+// The statements of a loop, after which the scope is what it was before it.
+fn covers_body<'a>(
+    loose: &[Loose],
     scope: &mut Scope<'a>,
-    homes: &mut Vec<Home<'a>>,
-    regs: &Assigned,
-    kernel: &'a Kernel,
-    for_loop: &'a Loop,
-    loose: &[Loose],
+    body: &'a [Stmt],
 ) -> Result<bool, AllocError>
-    requires assigned { IsAssignment 15 regs.now }
-    requires vars { length (program_of kernel.now).vars ≤ length regs.now.registers }
-    requires params { length (program_of kernel.now).params ≤ 8 }
-    requires scope { scope_of scope.old ≡ typing.empty (items.loop_index (program_of kernel.now)) }
-    requires homes { homes.old.items ≡ [] }
-    ensures { IfOk result (λ t. t ≡ loosening.covers_block (looses_of loose.now)
-        (typing.in_loop (typing.var_scope (program_of kernel.now)) (for_loop_of for_loop.now))
-        (block_of for_loop.now.body.items)) }
+    ensures scope { OnOk result (scope_of scope.new ≡ scope_of scope.old) }
+    ensures covers { IfOk result (λ t. t ≡ loosening.covers_block (looses_of loose.now) (in_body (scope_of scope.old))
+        (block_of body.now)) }
 {
-    declare_names(scope, homes, regs, kernel)?;
-    declare_index(scope, homes, for_loop)?;
+    let visible = visible_count(scope);
+    let taken = declared_count(scope);
+    let inside = scope.inside;
     scope.inside = true;
-    let covered = covers_block(loose, scope, &for_loop.body)?;
+    let covered = covers_block(loose, scope, body)?;
+    close(scope, visible, taken);
+    scope.inside = inside;
     Ok(covered)
-}
-
-// The statements of a loop.
-fn covers_body(
-    alloc: Global,
-    regs: &Assigned,
-    kernel: &Kernel,
-    for_loop: &Loop,
-    loose: &[Loose],
-) -> Result<bool, AllocError>
-    requires assigned { IsAssignment 15 regs.now }
-    requires vars { length (program_of kernel.now).vars ≤ length regs.now.registers }
-    requires params { length (program_of kernel.now).params ≤ 8 }
-    requires for_loop { (program_of kernel.now).for_loop ≡ Some (for_loop_of for_loop.now) }
-    ensures { IfOk result (λ t. t ≡ loosening.covers_block (looses_of loose.now)
-        (typing.in_loop (typing.var_scope (program_of kernel.now)) (for_loop_of for_loop.now))
-        (block_of for_loop.now.body.items)) }
-{
-    let mut scope = empty(alloc, Some(for_loop.index.text()));
-    let mut homes = Vec::new(alloc);
-    body_named(&mut scope, &mut homes, regs, kernel, for_loop, loose)
 }
 
 // ---- the accumulators
@@ -257,27 +226,22 @@ fn gained(loose: &[Loose], name: &Name, op: BinaryOp, want: Option<Ty>) -> Optio
 
 // One more, where the statements of the loop ask for no more of it.
 fn loosen_name<'a>(
-    alloc: Global,
-    regs: &Assigned,
-    kernel: &'a Kernel,
-    for_loop: &'a Loop,
+    scope: &mut Scope<'a>,
+    body: &'a [Stmt],
     loose: &mut Vec<Loose<'a>>,
     name: &'a Name,
     ty: Ty,
 ) -> Result<(), AllocError>
-    requires assigned { IsAssignment 15 regs.now }
-    requires vars { length (program_of kernel.now).vars ≤ length regs.now.registers }
-    requires params { length (program_of kernel.now).params ≤ 8 }
-    requires for_loop { (program_of kernel.now).for_loop ≡ Some (for_loop_of for_loop.now) }
-    ensures { OnOk result (looses_of loose.new.items
-        ≡ loosening.loosened (typing.in_loop (typing.var_scope (program_of kernel.now)) (for_loop_of for_loop.now))
-        (block_of for_loop.now.body.items) (name_of name.now) (Some ty) (looses_of loose.old.items)) }
+    ensures scope { OnOk result (scope_of scope.new ≡ scope_of scope.old) }
+    ensures loose { OnOk result (looses_of loose.new.items
+        ≡ loosening.loosened (in_body (scope_of scope.old)) (block_of body.now) (name_of name.now) (Some ty)
+        (looses_of loose.old.items)) }
 {
     let count = loose.len();
     let name = name.text();
     let form = Form::LowBits(ty);
     loose.push(Loose { name, form })?;
-    if !covers_body(alloc, regs, kernel, for_loop, loose)? {
+    if !covers_body(loose, scope, body)? {
         loose.truncate(count);
     }
     Ok(())
@@ -285,63 +249,45 @@ fn loosen_name<'a>(
 
 // The accumulator of an update.
 fn loosen_update<'a>(
-    alloc: Global,
-    regs: &Assigned,
-    kernel: &'a Kernel,
-    for_loop: &'a Loop,
-    scope: &Scope,
+    scope: &mut Scope<'a>,
+    body: &'a [Stmt],
     loose: &mut Vec<Loose<'a>>,
     name: &'a Name,
     op: UpdateOp,
 ) -> Result<(), AllocError>
-    requires assigned { IsAssignment 15 regs.now }
-    requires vars { length (program_of kernel.now).vars ≤ length regs.now.registers }
-    requires params { length (program_of kernel.now).params ≤ 8 }
-    requires for_loop { (program_of kernel.now).for_loop ≡ Some (for_loop_of for_loop.now) }
-    requires scope { scope_of scope.now
-        ≡ typing.in_loop (typing.var_scope (program_of kernel.now)) (for_loop_of for_loop.now) }
-    ensures { OnOk result (looses_of loose.new.items
-        ≡ loosening.loosened (scope_of scope.now) (block_of for_loop.now.body.items) (name_of name.now)
+    ensures scope { OnOk result (scope_of scope.new ≡ scope_of scope.old) }
+    ensures loose { OnOk result (looses_of loose.new.items
+        ≡ loosening.loosened (in_body (scope_of scope.old)) (block_of body.now) (name_of name.now)
         (loosening.gained (looses_of loose.old.items) (name_of name.now) (operators.operator_of op)
-        (option_and_then typing.accumulator_type (typing.lookup (scope_of scope.now) (name_of name.now))))
+        (option_and_then typing.accumulator_type (typing.lookup (scope_of scope.old) (name_of name.now))))
         (looses_of loose.old.items)) }
 {
     let want = lookup(scope, name).and_then(accumulator_type);
     match gained(loose, name, update_operator(op), want) {
         None => Ok(()),
-        Some(ty) => loosen_name(alloc, regs, kernel, for_loop, loose, name, ty),
+        Some(ty) => loosen_name(scope, body, loose, name, ty),
     }
 }
 
 #[cycle(walk)]
 fn loosen_stmt<'a>(
-    alloc: Global,
-    regs: &Assigned,
-    kernel: &'a Kernel,
-    for_loop: &'a Loop,
-    scope: &Scope,
+    scope: &mut Scope<'a>,
+    body: &'a [Stmt],
     loose: &mut Vec<Loose<'a>>,
     stmt: &'a Stmt,
 ) -> Result<(), AllocError>
-    requires assigned { IsAssignment 15 regs.now }
-    requires vars { length (program_of kernel.now).vars ≤ length regs.now.registers }
-    requires params { length (program_of kernel.now).params ≤ 8 }
-    requires for_loop { (program_of kernel.now).for_loop ≡ Some (for_loop_of for_loop.now) }
-    requires scope { scope_of scope.now
-        ≡ typing.in_loop (typing.var_scope (program_of kernel.now)) (for_loop_of for_loop.now) }
-    ensures { OnOk result (looses_of loose.new.items
-        ≡ loosening.loosen_action (scope_of scope.now) (block_of for_loop.now.body.items) (action_of stmt.now)
+    ensures scope { OnOk result (scope_of scope.new ≡ scope_of scope.old) }
+    ensures loose { OnOk result (looses_of loose.new.items
+        ≡ loosening.loosen_action (in_body (scope_of scope.old)) (block_of body.now) (action_of stmt.now)
         (looses_of loose.old.items)) }
 {
     match parts(stmt) {
-        Part::If { block, .. } => loosen_block(alloc, regs, kernel, for_loop, scope, loose, block),
+        Part::If { block, .. } => loosen_block(scope, body, loose, block),
         Part::IfElse { block, other, .. } => {
-            loosen_block(alloc, regs, kernel, for_loop, scope, loose, block)?;
-            loosen_block(alloc, regs, kernel, for_loop, scope, loose, other)
+            loosen_block(scope, body, loose, block)?;
+            loosen_block(scope, body, loose, other)
         }
-        Part::Update { name, op, .. } => {
-            loosen_update(alloc, regs, kernel, for_loop, scope, loose, name, op)
-        }
+        Part::Update { name, op, .. } => loosen_update(scope, body, loose, name, op),
         _ => Ok(()),
     }
 }
@@ -349,26 +295,18 @@ fn loosen_stmt<'a>(
 // Those of statements, after those that are held loosely before them.
 #[cycle(walk)]
 fn loosen_block<'a>(
-    alloc: Global,
-    regs: &Assigned,
-    kernel: &'a Kernel,
-    for_loop: &'a Loop,
-    scope: &Scope,
+    scope: &mut Scope<'a>,
+    body: &'a [Stmt],
     loose: &mut Vec<Loose<'a>>,
     block: &'a [Stmt],
 ) -> Result<(), AllocError>
-    requires assigned { IsAssignment 15 regs.now }
-    requires vars { length (program_of kernel.now).vars ≤ length regs.now.registers }
-    requires params { length (program_of kernel.now).params ≤ 8 }
-    requires for_loop { (program_of kernel.now).for_loop ≡ Some (for_loop_of for_loop.now) }
-    requires scope { scope_of scope.now
-        ≡ typing.in_loop (typing.var_scope (program_of kernel.now)) (for_loop_of for_loop.now) }
-    ensures { OnOk result (looses_of loose.new.items
-        ≡ loosening.loosen_block (scope_of scope.now) (block_of for_loop.now.body.items) (block_of block.now)
+    ensures scope { OnOk result (scope_of scope.new ≡ scope_of scope.old) }
+    ensures loose { OnOk result (looses_of loose.new.items
+        ≡ loosening.loosen_block (in_body (scope_of scope.old)) (block_of body.now) (block_of block.now)
         (looses_of loose.old.items)) }
 {
     for stmt in block {
-        loosen_stmt(alloc, regs, kernel, for_loop, scope, loose, stmt)?;
+        loosen_stmt(scope, body, loose, stmt)?;
     }
     Ok(())
 }
@@ -378,17 +316,21 @@ fn loosen_block<'a>(
 // The loop variable behind, and the arrays of the loop ahead.
 fn moved_names<'a>(
     alloc: Global,
-    scope: &Scope,
+    scope: &mut Scope<'a>,
     for_loop: &'a Loop,
 ) -> Result<Vec<Loose<'a>>, AllocError>
-    ensures { IfOk result (λ v. looses_of v.items
-        ≡ loosening.moved_names (scope_of scope.now) (for_loop_of for_loop.now)) }
+    ensures scope { OnOk result (scope_of scope.new ≡ scope_of scope.old) }
+    ensures loose { IfOk result (λ v. looses_of v.items
+        ≡ loosening.moved_names (in_body (scope_of scope.old)) (for_loop_of for_loop.now)) }
 {
     let mut loose = Vec::new(alloc);
     let name = for_loop.index.text();
     let form = Form::Behind;
     loose.push(Loose { name, form })?;
+    let inside = scope.inside;
+    scope.inside = true;
     add_block(&mut loose, scope, &for_loop.body)?;
+    scope.inside = inside;
     Ok(loose)
 }
 
@@ -429,74 +371,55 @@ fn covers_answer(loose: &[Loose], scope: &Scope, answer: &Option<Answer>) -> boo
     }
 }
 
-// Whether a loop counts to zero, with no name declared yet.
-fn moves_named<'a>(
-    scope: &mut Scope<'a>,
-    homes: &mut Vec<Home<'a>>,
-    regs: &Assigned,
-    kernel: &'a Kernel,
-    for_loop: &'a Loop,
+// Whether the returned value, after the loop, asks no more of the names that stay held so.
+fn may_leave(
+    alloc: Global,
     loose: &[Loose],
-    kept: &[Loose],
+    scope: &Scope,
+    answer: &Option<Answer>,
 ) -> Result<bool, AllocError>
-    requires assigned { IsAssignment 15 regs.now }
-    requires vars { length (program_of kernel.now).vars ≤ length regs.now.registers }
-    requires params { length (program_of kernel.now).params ≤ 8 }
-    requires scope { scope_of scope.old ≡ typing.empty (items.loop_index (program_of kernel.now)) }
-    requires homes { homes.old.items ≡ [] }
-    requires kept { looses_of kept.now ≡ loosening.after_loop (looses_of loose.now) }
-    ensures { IfOk result (λ t. t ≡ loosening.may_move (looses_of loose.now)
-        (typing.var_scope (program_of kernel.now)) (for_loop_of for_loop.now) (program_of kernel.now).answer) }
+    ensures { IfOk result (λ t. t ≡ loosening.covers_answer (loosening.after_loop (looses_of loose.now))
+        (scope_of scope.now) (option_map returned_of answer.now)) }
 {
-    declare_names(scope, homes, regs, kernel)?;
-    declare_index(scope, homes, for_loop)?;
-    let answered = covers_answer(kept, scope, &kernel.answer);
-    scope.inside = true;
-    let covered = covers_block(loose, scope, &for_loop.body)?;
-    Ok(covered && answered)
+    let kept = after_loop(alloc, loose)?;
+    Ok(covers_answer(&kept, scope, answer))
 }
 
 // Whether a loop counts to zero, with these names held so.
-fn may_move(
+fn may_move<'a>(
     alloc: Global,
-    regs: &Assigned,
+    scope: &mut Scope<'a>,
     kernel: &Kernel,
-    for_loop: &Loop,
+    for_loop: &'a Loop,
     loose: &[Loose],
 ) -> Result<bool, AllocError>
-    requires assigned { IsAssignment 15 regs.now }
-    requires vars { length (program_of kernel.now).vars ≤ length regs.now.registers }
-    requires params { length (program_of kernel.now).params ≤ 8 }
-    requires for_loop { (program_of kernel.now).for_loop ≡ Some (for_loop_of for_loop.now) }
-    ensures { IfOk result (λ t. t ≡ loosening.may_move (looses_of loose.now)
+    requires scope { scope_of scope.old
+        ≡ typing.after_for_loop (typing.var_scope (program_of kernel.now)) (Some (for_loop_of for_loop.now)) }
+    ensures scope { OnOk result (scope_of scope.new ≡ scope_of scope.old) }
+    ensures covers { IfOk result (λ t. t ≡ loosening.may_move (looses_of loose.now)
         (typing.var_scope (program_of kernel.now)) (for_loop_of for_loop.now) (program_of kernel.now).answer) }
 {
-    let kept = after_loop(alloc, loose)?;
-    let mut scope = empty(alloc, Some(for_loop.index.text()));
-    let mut homes = Vec::new(alloc);
-    moves_named(&mut scope, &mut homes, regs, kernel, for_loop, loose, &kept)
+    let answered = may_leave(alloc, loose, scope, &kernel.answer)?;
+    let covered = covers_body(loose, scope, &for_loop.body)?;
+    Ok(covered && answered)
 }
 
 // The loop variable and the arrays, where the loop counts to zero.
 fn counted_down<'a>(
     alloc: Global,
-    regs: &Assigned,
-    kernel: &'a Kernel,
+    scope: &mut Scope<'a>,
+    kernel: &Kernel,
     for_loop: &'a Loop,
-    scope: &Scope,
 ) -> Result<Vec<Loose<'a>>, AllocError>
-    requires assigned { IsAssignment 15 regs.now }
-    requires vars { length (program_of kernel.now).vars ≤ length regs.now.registers }
-    requires params { length (program_of kernel.now).params ≤ 8 }
-    requires for_loop { (program_of kernel.now).for_loop ≡ Some (for_loop_of for_loop.now) }
-    requires scope { scope_of scope.now
-        ≡ typing.in_loop (typing.var_scope (program_of kernel.now)) (for_loop_of for_loop.now) }
-    ensures { IfOk result (λ v. looses_of v.items
+    requires scope { scope_of scope.old
+        ≡ typing.after_for_loop (typing.var_scope (program_of kernel.now)) (Some (for_loop_of for_loop.now)) }
+    ensures scope { OnOk result (scope_of scope.new ≡ scope_of scope.old) }
+    ensures loose { IfOk result (λ v. looses_of v.items
         ≡ loosening.counted_down (typing.var_scope (program_of kernel.now)) (for_loop_of for_loop.now)
         (program_of kernel.now).answer) }
 {
     let moved = moved_names(alloc, scope, for_loop)?;
-    if may_move(alloc, regs, kernel, for_loop, &moved)? {
+    if may_move(alloc, scope, kernel, for_loop, &moved)? {
         Ok(moved)
     } else {
         Ok(Vec::new(alloc))
@@ -505,58 +428,45 @@ fn counted_down<'a>(
 
 // ---- the whole
 
-// The names of a loop, with no name declared yet.
-fn loosen_named<'a>(
+// The names of a loop, whose variable is declared.
+fn loosen_declared<'a>(
     alloc: Global,
     places: &mut Places<'a>,
-    regs: &Assigned,
-    homes: &mut Vec<Home<'a>>,
     scope: &mut Scope<'a>,
-    kernel: &'a Kernel,
+    kernel: &Kernel,
     for_loop: &'a Loop,
 ) -> Result<(), AllocError>
-    requires assigned { IsAssignment 15 regs.now }
-    requires vars { length (program_of kernel.now).vars ≤ length regs.now.registers }
-    requires params { length (program_of kernel.now).params ≤ 8 }
     requires for_loop { (program_of kernel.now).for_loop ≡ Some (for_loop_of for_loop.now) }
-    requires scope { scope_of scope.old ≡ typing.empty (items.loop_index (program_of kernel.now)) }
-    requires homes { homes.old.items ≡ [] }
-    ensures { OnOk result (places.new ≡ with_loose places.old (loosening.held_loosely (program_of kernel.now))) }
+    requires scope { scope_of scope.old
+        ≡ typing.after_for_loop (typing.var_scope (program_of kernel.now)) (Some (for_loop_of for_loop.now)) }
+    ensures scope { OnOk result (scope_of scope.new ≡ scope_of scope.old) }
+    ensures places { OnOk result (places.new
+        ≡ with_loose places.old (loosening.held_loosely (program_of kernel.now))) }
 {
-    declare_names(scope, homes, regs, kernel)?;
-    declare_index(scope, homes, for_loop)?;
-    scope.inside = true;
-    let mut loose = counted_down(alloc, regs, kernel, for_loop, scope)?;
-    loosen_block(
-        alloc,
-        regs,
-        kernel,
-        for_loop,
-        scope,
-        &mut loose,
-        &for_loop.body,
-    )?;
+    let mut loose = counted_down(alloc, scope, kernel, for_loop)?;
+    loosen_block(scope, &for_loop.body, &mut loose, &for_loop.body)?;
     places.loosen(loose);
     Ok(())
 }
 
-/// The names that a loop holds loosely.
+/// The names that a loop holds loosely. The scope is left as it was, before the loop variable is declared.
 pub fn loosen_names<'a>(
     alloc: Global,
     places: &mut Places<'a>,
-    regs: &Assigned,
-    kernel: &'a Kernel,
+    scope: &mut Scope<'a>,
+    kernel: &Kernel,
     for_loop: &'a Loop,
 ) -> Result<(), AllocError>
-    requires assigned { IsAssignment 15 regs.now }
-    requires vars { length (program_of kernel.now).vars ≤ length regs.now.registers }
-    requires params { length (program_of kernel.now).params ≤ 8 }
     requires for_loop { (program_of kernel.now).for_loop ≡ Some (for_loop_of for_loop.now) }
-    ensures { OnOk result (places.new ≡ with_loose places.old (loosening.held_loosely (program_of kernel.now))) }
+    requires scope { scope_of scope.old ≡ typing.var_scope (program_of kernel.now) }
+    ensures scope { OnOk result (scope_of scope.new ≡ scope_of scope.old) }
+    ensures places { OnOk result (places.new
+        ≡ with_loose places.old (loosening.held_loosely (program_of kernel.now))) }
 {
-    let mut scope = empty(alloc, Some(for_loop.index.text()));
-    let mut homes = Vec::new(alloc);
-    loosen_named(
-        alloc, places, regs, &mut homes, &mut scope, kernel, for_loop,
-    )
+    let visible = visible_count(scope);
+    let taken = declared_count(scope);
+    declare(scope, &for_loop.index, Binding::Index)?;
+    loosen_declared(alloc, places, scope, kernel, for_loop)?;
+    close(scope, visible, taken);
+    Ok(())
 }

@@ -136,10 +136,7 @@ fn emit_into(draft: &mut Draft, ty: Option<Ty>, from: Reg, p: Reg, r: Reg) -> Re
 {
     match ty {
         None => Ok(()),
-        Some(ty) => {
-            draft.put(store(ty, from, p, r))?;
-            Ok(())
-        }
+        Some(ty) => draft.put(store(ty, from, p, r)),
     }
 }
 
@@ -160,8 +157,7 @@ fn emit_put(
         None => Ok(()),
         Some(moved) => {
             let r = emit_offset(draft, moved)?;
-            emit_into(draft, ty, from, p, r)?;
-            Ok(())
+            emit_into(draft, ty, from, p, r)
         }
     }
 }
@@ -255,8 +251,7 @@ fn emit_update(
 {
     let want = lookup(scope, name).and_then(accumulator_type);
     let op = update_operator(op);
-    emit_joined(draft, places, homes, scope, name, op, want, value, item)?;
-    Ok(())
+    emit_joined(draft, places, homes, scope, name, op, want, value, item)
 }
 
 // An operator of an accumulator and a value.

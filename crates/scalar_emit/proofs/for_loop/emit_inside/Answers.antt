@@ -1,10 +1,19 @@
-use Rattle.std.proofs.Common.{ap, ◌∙◌}
+use Rattle.std.proofs.Common.{refl, ap, ◌∙◌}
 use Rattle.kernel_tree.specs.Plain.{block_of}
-use Rattle.kernel_scope.specs.Scopes.{scope_of}
+use Rattle.kernel_tree.specs.Typing.{Scope}
+use Rattle.kernel_scope.specs.Scopes.{scope_of, closed}
 use Rattle.scalar_words.specs.View.{homes_of}
 use Rattle.scalar_emit.specs.Loop.{inside_of}
-use Rattle.scalar_emit.proofs.Emission.{homes_back}
+use Rattle.scalar_emit.proofs.Emission.{homes_back, restored}
 use Rattle.scalar_emit.proofs.for_loop.emit_inside.Goals as goal
+
+pub returns-clause-scope : goal.returns-clause-scope
+returns-clause-scope c =
+    let s = scope_of c.args.scope.now in
+    let n = c.visible_count-visible.result in
+    let m = c.declared_count-taken.result in
+    ap (λ (t : Scope). record t { inside = s.inside }) (c.close.ensures ∙ ap (closed n m) c.in_ok-emit_body.ensures.scope)
+    ∙ restored s (inside_of s) n m (block_of c.args.for_loop.now.body.items) refl refl refl c.visible_count-visible.ensures c.declared_count-taken.ensures
 
 pub returns-clause-homes : goal.returns-clause-homes
 returns-clause-homes c =

@@ -11,9 +11,9 @@ use Rattle.scalar_words.proofs.Layouts.{count_params}
 use Rattle.scalar_emit.proofs.kernel.emit_scalar.Goals as goal
 
 -- the items of the loop begin after those of the parameters and of the accumulators
-pub emit_rest-requires-clause-start : goal.emit_rest-requires-clause-start
+pub emit_after-requires-clause-start : goal.emit_after-requires-clause-start
 unfolding program
-emit_rest-requires-clause-start c =
+emit_after-requires-clause-start c =
     let tree = c.kernel-tree.result.now in
     let params = c.len.ensures ∙ tree.params.ok.0 ∙ sym (count_params tree.params.items) in
     let vars = c.vars_size_of.ensures ∙ ap₂ (λ (t : Kernel) (vs : List Var). vars_size (loop_index (program_of t)) (accumulators_of vs)) (sym c.kernel-tree.ensures) c.deref.ensures.value in
@@ -34,4 +34,4 @@ returns-clause-words c =
     let k = program c.args.kernel.now in
     let R = register_in c.args.regs.now in
     let n = c.args.draft.now.labels in
-    words_added c.args.draft.now.entries c.emit_rest.new.draft.entries (scalar_code R k n []) (64 + 16 * size_of k) ((returns-clause-emits c).code []) (scalar_words R k n [])
+    words_added c.args.draft.now.entries c.emit_after.new.draft.entries (scalar_code R k n []) (64 + 16 * size_of k) ((returns-clause-emits c).code []) (scalar_words R k n [])

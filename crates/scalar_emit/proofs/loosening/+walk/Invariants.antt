@@ -1,7 +1,7 @@
 use Rattle.std.proofs.Common.{◌≡◌, ◌+◌, ◌*◌, ◌≤◌, drop}
 use Rattle.kernel_tree.specs.Plain.{action_of, block_of}
 use Rattle.kernel_tree.specs.Limits.{action_depth, block_depth}
-use Rattle.kernel_scope.specs.Scopes.{scope_of}
+use Rattle.kernel_scope.specs.Scopes.{scope_of, in_body}
 use Rattle.scalar_words.specs.View.{looses_of}
 use Rattle.scalar_emit.specs.Loosening as loosening
 use Rattle.scalar_emit.proofs.loosening.+walk.Given as goal
@@ -10,7 +10,8 @@ use Rattle.scalar_emit.proofs.loosening.+walk.Given as goal
 abbrev pub invariant-loosen_block-loop-stmt : goal.invariant-loosen_block-loop-stmt
 invariant-loosen_block-loop-stmt l = record {
   depth : block_depth (block_of (drop l.stmt-index l.block)) ≤ block_depth (block_of l.block);
-  loose : loosening.loosen_block (scope_of l.scope) (block_of l.for_loop.body.items) (block_of (drop l.stmt-index l.block)) (looses_of l.loose.items) ≡ loosening.loosen_block (scope_of l.scope) (block_of l.for_loop.body.items) (block_of l.block) (looses_of l.fn.loose.items);
+  scope : scope_of l.scope ≡ scope_of l.fn.scope;
+  loose : loosening.loosen_block (in_body (scope_of l.scope)) (block_of l.body) (block_of (drop l.stmt-index l.block)) (looses_of l.loose.items) ≡ loosening.loosen_block (in_body (scope_of l.fn.scope)) (block_of l.body) (block_of l.block) (looses_of l.fn.loose.items);
 }
 
 -- a block stands above its statements

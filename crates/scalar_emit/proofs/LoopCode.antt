@@ -1,0 +1,37 @@
+-- The code of a loop and of what stands before it, put together from that of its parts.
+use Rattle.std.proofs.Common.{◌≡◌, ℕ, ◌+◌, List, [], ◌∷◌, Option, Some, refl, arith}
+use Rattle.machine_model.specs.InstructionTable.{Listed}
+use Rattle.a64_code.specs.Table.{add_imm}
+use Rattle.kernel_tree.specs.Plain.{Accumulator, PlainLoop}
+use Rattle.kernel_tree.specs.Typing.{Scope, after_for_loop}
+use Rattle.label_fix.specs.DraftRun.{DraftEntry, Put, Branch, Place, If, word_of}
+use Rattle.scalar_words.specs.Layout.{Constant, Form, Loose, loose_in, Layout, Homes, register_at}
+use Rattle.scalar_words.specs.Words.{copy_word, word_code}
+use Rattle.scalar_words.specs.KernelRegisters.{counted_x}
+use Rattle.scalar_values.specs.ValueRegisters.{home}
+use Rattle.scalar_values.specs.Code.{value_code}
+use Rattle.scalar_emit.specs.Statements.{block_code}
+use Rattle.scalar_emit.specs.Loop.{with_index, inside_of, bound_code, enter_code, settle_code, back_code, again_code, numbers_code, entry_code, iterations_code}
+use Rattle.scalar_emit.specs.Kernel.{var_code}
+
+pub var_is : (L : Layout) (R : ℕ → ℕ) (hs hs1 : Homes) (s : Scope) (j b n d from : ℕ) (v : Accumulator) (rest : List DraftEntry) → hs1 ≡ hs → d ≡ counted_x (R j) → from ≡ home L hs1 s.index b v.init
+    → value_code L hs1 s (Some v.type) b n v.init (word_code (copy_word d from) rest) ≡ var_code L R hs s j b n v rest
+var_is L R hs hs1 s j b n d from v rest h e1 e2 = rw (e1, e2, h) refl
+
+pub entry_is : (r n x top : ℕ) (hs : Homes) (L : Layout) (ls : List Loose) (cs : List Constant) (rest : List DraftEntry) → x ≡ n + 1 → ls ≡ L.loose → cs ≡ L.constants → top ≡ n + 2
+    → Place n ∷ bound_code r (Branch (If 2) x ∷ enter_code r hs ls (numbers_code cs (Place top ∷ rest))) ≡ entry_code r n hs L rest
+entry_is r n x top hs L ls cs rest e1 e2 e3 e4 = rw (e1, e2, e3, e4) refl
+
+pub entry_top : (n a b c d e : ℕ) → a ≡ n + 1 → b ≡ a → c ≡ b + 1 → d ≡ c → e ≡ d → e ≡ n + 2
+entry_top n a b c d e p q r s t = omega arith
+
+pub entry_count : (n e f g : ℕ) → e ≡ n + 2 → f ≡ e + 1 → g ≡ f + 1 → g ≡ n + 4
+entry_count n e f g p q r = omega arith
+
+pub again_is : (f f2 : Option Form) (r n last exit : ℕ) (hs : Homes) (ls ls2 : List Loose) (w : Listed) (rest : List DraftEntry) → w ≡ word_of add_imm (9 ∷ 9 ∷ 1 ∷ 0 ∷ []) → f ≡ f2 → last ≡ n + 3 → exit ≡ n + 1 → ls ≡ ls2
+    → Put w ∷ back_code f r n (Place last ∷ settle_code r hs ls (Place exit ∷ rest)) ≡ again_code f2 r n hs ls2 rest
+again_is f f2 r n last exit hs ls ls2 w rest e1 e2 e3 e4 e5 = rw (e1, e2, e3, e4, e5) refl
+
+pub loop_is : (L : Layout) (hs hs1 hs2 hs3 hs4 : Homes) (s s2 : Scope) (l : PlainLoop) (b n r last given head : ℕ) (rest : List DraftEntry) → r ≡ register_at hs1 l.bound → hs1 ≡ hs → hs2 ≡ with_index hs l → hs3 ≡ with_index hs l → hs4 ≡ with_index hs l → s2 ≡ after_for_loop s (Some l) → last ≡ n + 3 → given ≡ n + 4 → head ≡ n
+    → entry_code r n hs2 L (block_code L hs3 (inside_of s2) last (b + 1) given l.body (again_code (loose_in L.loose l.index) r head hs4 L.loose rest)) ≡ iterations_code L hs s l b n rest
+loop_is L hs hs1 hs2 hs3 hs4 s s2 l b n r last given head rest e1 h1 h2 h3 h4 t e2 e3 e4 = rw (e1, h1, h2, h3, h4, t, e2, e3, e4) refl
