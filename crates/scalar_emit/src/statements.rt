@@ -48,7 +48,7 @@ fn emit_kept(draft: &mut Draft, places: &Places, item: usize, from: Reg) -> Resu
 }
 
 // The home of what a `let` defines, where it has a type.
-fn settle<'a>(
+fn declare_let<'a>(
     homes: &mut Vec<Home<'a>>,
     places: &Places,
     item: usize,
@@ -91,7 +91,7 @@ fn emit_defined<'a>(
         (statements.let_code places.now item.old from.number)) }
 {
     emit_kept(draft, places, *item, from)?;
-    settle(homes, places, *item, name, ty)?;
+    declare_let(homes, places, *item, name, ty)?;
     define(scope, name, ty)?;
     *item += 1;
     Ok(())
