@@ -9,6 +9,7 @@ ghost use Rattle.label_fix.specs.DraftRun as plain;
 ghost use Rattle.loop_form.specs.LoopView.{view};
 ghost use Rattle.loop_form.specs.Registers.{FitsKernel};
 ghost use Rattle.loop_form.specs.View.{program};
+ghost use Rattle.dependence.specs.Apart as apart;
 ghost use Rattle.dependence.specs.Classes.{class_of};
 ghost use Rattle.dependence.specs.declared.reason.Class.TheVariants.{Vector};
 ghost use Rattle.label_fix.specs.Emits.{Emits};
@@ -138,7 +139,7 @@ fn emit_breaking(
     items: &[LoopItem<'_>],
     draft: &mut Draft,
 ) -> Result<(), AllocError>
-    requires bound { bound.number ≡ bound_place (kernel_in layout.now.registers) }
+    requires bound { bound.number ≡ apart.bound_place (kernel_in layout.now.registers) }
     requires region { AreWritable (width_in layout.now) (region_of (view items.now)) }
     requires rest { AreWritable (width_in layout.now) (rest_of (view items.now)) }
     ensures { let r = layout.now.registers in
@@ -160,7 +161,7 @@ fn emit_straight(
     items: &[LoopItem<'_>],
     draft: &mut Draft,
 ) -> Result<(), AllocError>
-    requires bound { bound.number ≡ bound_place (kernel_in layout.now.registers) }
+    requires bound { bound.number ≡ apart.bound_place (kernel_in layout.now.registers) }
     requires writable { AreWritable (width_in layout.now) (view items.now) }
     ensures { let r = layout.now.registers in
         let passes = code.straight_code (kernel_in r) (vectors_in r) (predicates_in r) (view items.now) in
@@ -182,7 +183,7 @@ fn emit_by(
     items: &[LoopItem<'_>],
     draft: &mut Draft,
 ) -> Result<(), AllocError>
-    requires bound { bound.number ≡ bound_place (kernel_in layout.now.registers) }
+    requires bound { bound.number ≡ apart.bound_place (kernel_in layout.now.registers) }
     requires region { AreWritable (width_in layout.now) (region_of (view items.now)) }
     requires rest { AreWritable (width_in layout.now) (rest_of (view items.now)) }
     ensures { let r = layout.now.registers in
