@@ -39,8 +39,7 @@ fn push_kernel(text: &mut Vec<u8>, alloc: Global, kernel: &Kernel) -> Result<(),
 {
     let canonical = print_kernel(alloc, kernel)?;
     text.extend_from_slice(canonical.as_bytes())?;
-    text.extend_from_slice(b"\n")?;
-    Ok(())
+    text.extend_from_slice(b"\n")
 }
 
 // The line of the size.
@@ -49,8 +48,7 @@ fn push_size(text: &mut Vec<u8>, needs: &Needs) -> Result<(), AllocError>
 {
     text.extend_from_slice(b"size ")?;
     push_number(text, needs.size)?;
-    text.extend_from_slice(b"\n")?;
-    Ok(())
+    text.extend_from_slice(b"\n")
 }
 
 // The line of the class.
@@ -59,8 +57,7 @@ fn push_class(text: &mut Vec<u8>, class: Class, width: Width) -> Result<(), Allo
 {
     text.extend_from_slice(b"class ")?;
     push_kind(text, class, width)?;
-    text.extend_from_slice(b"\n")?;
-    Ok(())
+    text.extend_from_slice(b"\n")
 }
 
 // Vector with the width of the lanes, or scalar with the reason.
@@ -91,8 +88,7 @@ fn push_need(text: &mut Vec<u8>, class: Class, needs: &Needs) -> Result<(), Allo
             push_number(text, needs.x)?;
         }
     }
-    text.extend_from_slice(b"\n")?;
-    Ok(())
+    text.extend_from_slice(b"\n")
 }
 
 // The registers of every class.
@@ -104,16 +100,14 @@ fn push_vector_need(text: &mut Vec<u8>, needs: &Needs) -> Result<(), AllocError>
     text.extend_from_slice(b" p ")?;
     push_number(text, needs.p)?;
     text.extend_from_slice(b" x ")?;
-    push_number(text, needs.x)?;
-    Ok(())
+    push_number(text, needs.x)
 }
 
 fn push_number(text: &mut Vec<u8>, number: u32) -> Result<(), AllocError>
     ensures { OnOk result (text.new.items ≡ text.old.items ++ decimal number) }
 {
     let mut buffer = Buffer::new();
-    text.extend_from_slice(buffer.format(number).as_bytes())?;
-    Ok(())
+    text.extend_from_slice(buffer.format(number).as_bytes())
 }
 
 // The word for why a loop is scalar.

@@ -44,9 +44,10 @@ pub fn emit_index(offset: i32, draft: &mut Draft) -> Result<(), AllocError>
     ensures { OnOk result (EmitsBefore draft.old draft.new draft.old.labels (code.with_index offset)) }
 {
     if offset != 0 {
-        draft.put(index_word(offset))?;
+        draft.put(index_word(offset))
+    } else {
+        Ok(())
     }
-    Ok(())
 }
 
 /// The predicate register of a mask: P0 where an item has none.
@@ -84,8 +85,7 @@ fn emit_load(
         index_register(offset),
     );
     emit_index(offset, draft)?;
-    draft.put(word)?;
-    Ok(())
+    draft.put(word)
 }
 
 // A read of the elements that a register has the indexes of, in lanes of 64 bits.
@@ -164,8 +164,7 @@ fn emit_store(
         index_register(offset),
     );
     emit_index(offset, draft)?;
-    draft.put(word)?;
-    Ok(())
+    draft.put(word)
 }
 
 // An update of an accumulator.
@@ -184,8 +183,7 @@ fn emit_update(
 {
     let sum = layout.registers.sum(name);
     let v = layout.registers.source(value);
-    draft.put(Word::V(update_word(layout.width(), op, ty, sum, mask, v)))?;
-    Ok(())
+    draft.put(Word::V(update_word(layout.width(), op, ty, sum, mask, v)))
 }
 
 /// Whether an operation makes a condition.
@@ -292,6 +290,5 @@ pub fn emit_one(
         OnOk result (Emits draft.old draft.new draft.old.labels (puts words)) }
 {
     let mask = mask_of(layout, item.mask);
-    emit_op(alloc, layout, item.item, mask, &item.op, draft)?;
-    Ok(())
+    emit_op(alloc, layout, item.item, mask, &item.op, draft)
 }

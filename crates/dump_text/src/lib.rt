@@ -40,8 +40,7 @@ fn push_line(text: &mut Vec<u8>, pages: &Pages, address: u64, count: u64) -> Res
     push_address(text, address)?;
     text.extend_from_slice(b":")?;
     push_bytes(text, pages, address, count)?;
-    text.extend_from_slice(b"\n")?;
-    Ok(())
+    text.extend_from_slice(b"\n")
 }
 
 // So many bytes from an address on.
@@ -71,16 +70,14 @@ fn push_byte(text: &mut Vec<u8>, byte: u8) -> Result<(), AllocError>
     ensures { OnOk result (text.new.items ≡ text.old.items ++ shown (Some byte)) }
 {
     text.extend_from_slice(b" ")?;
-    text.extend_from_slice(&byte_digits(byte))?;
-    Ok(())
+    text.extend_from_slice(&byte_digits(byte))
 }
 
 /// Appends a number of 64 bits in sixteen hexadecimal digits.
 pub fn push_address(text: &mut Vec<u8>, address: u64) -> Result<(), AllocError>
     ensures { OnOk result (text.new.items ≡ text.old.items ++ hex_digits 16 address) }
 {
-    text.extend_from_slice(&address_digits(address))?;
-    Ok(())
+    text.extend_from_slice(&address_digits(address))
 }
 
 /// The two hexadecimal digits of a byte.

@@ -40,8 +40,7 @@ pub fn put_u16(file: &mut Vec<u8>, value: u16) -> Result<(), AllocError>
 {
     let mut field = [0; 2];
     LittleEndian::write_u16(&mut field, value);
-    file.extend_from_slice(&field)?;
-    Ok(())
+    file.extend_from_slice(&field)
 }
 
 // Appends a field of four bytes.
@@ -50,8 +49,7 @@ pub fn put_u32(file: &mut Vec<u8>, value: u32) -> Result<(), AllocError>
 {
     let mut field = [0; 4];
     LittleEndian::write_u32(&mut field, value);
-    file.extend_from_slice(&field)?;
-    Ok(())
+    file.extend_from_slice(&field)
 }
 
 // Appends a field of eight bytes.
@@ -60,6 +58,5 @@ pub fn put_u64(file: &mut Vec<u8>, value: u64) -> Result<(), AllocError>
 {
     let mut field = [0; 8];
     LittleEndian::write_u64(&mut field, value);
-    file.extend_from_slice(&field)?;
-    Ok(())
+    file.extend_from_slice(&field)
 }

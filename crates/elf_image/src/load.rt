@@ -75,6 +75,5 @@ pub fn load_elf(alloc: Global, bytes: &[u8]) -> Result<Image, ElfFault>
 {
     let header = FileHeader::read(bytes)?;
     let loaded = loaded_segments(alloc, bytes, header)?;
-    let image = image(alloc, bytes, header.entry, &loaded)?;
-    Ok(image)
+    image(alloc, bytes, header.entry, &loaded)
 }

@@ -17,8 +17,7 @@ fn put_zeros(page: &mut Vec<u8>, size: usize) -> Result<(), AllocError>
     requires { length page.old.items ≤ size }
     ensures { IfOk result (λ _. page.new.items ≡ page.old.items ++ replicate (size - length page.old.items) 0) }
 {
-    page.resize(size, 0)?;
-    Ok(())
+    page.resize(size, 0)
 }
 
 // Appends the file bytes of a segment that stand from one address until another.
@@ -38,8 +37,7 @@ fn put_file_bytes(
     if end <= from {
         return Ok(());
     }
-    page.extend_from_slice(segment.file_bytes(bytes, from, end))?;
-    Ok(())
+    page.extend_from_slice(segment.file_bytes(bytes, from, end))
 }
 
 // The bytes of a page of a segment, by its number: zeros, those of the file, and zeros.

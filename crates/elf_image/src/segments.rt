@@ -45,8 +45,7 @@ fn program_headers(
     if header.phnum == 0 {
         return Ok(Vec::new(alloc));
     }
-    let segments = read_all(alloc, bytes, header.phoff as usize, header.phnum as usize)?;
-    Ok(segments)
+    read_all(alloc, bytes, header.phoff as usize, header.phnum as usize)
 }
 
 // A program header asks for dynamic linking.

@@ -44,8 +44,7 @@ fn put_kind(file: &mut Vec<u8>) -> Result<(), AllocError>
     put_u16(file, ET_EXEC)?;
     put_u16(file, EM_AARCH64)?;
     put_u32(file, EV_CURRENT)?;
-    put_u64(file, ENTRY)?;
-    Ok(())
+    put_u64(file, ENTRY)
 }
 
 // Appends the rest of the file header: where the headers stand, and their sizes and numbers.
@@ -59,8 +58,7 @@ fn put_layout(file: &mut Vec<u8>) -> Result<(), AllocError>
     put_u16(file, HEADER_SIZE)?;
     put_u16(file, PROGRAM_HEADER_SIZE)?;
     put_u16(file, 1)?;
-    file.extend_from_slice(&[0; 6])?;
-    Ok(())
+    file.extend_from_slice(&[0; 6])
 }
 
 // The file header of a program with one segment, in a vector with this much room.
@@ -81,8 +79,7 @@ fn put_place(file: &mut Vec<u8>) -> Result<(), AllocError>
     put_u32(file, PT_LOAD)?;
     put_u32(file, READ_EXECUTE)?;
     put_u64(file, 0)?;
-    put_u64(file, BASE)?;
-    Ok(())
+    put_u64(file, BASE)
 }
 
 // Appends the program header of a segment that is the whole file, of this size in bytes.
@@ -95,8 +92,7 @@ fn put_program_header(file: &mut Vec<u8>, size: u64) -> Result<(), AllocError>
     put_u64(file, BASE)?;
     put_u64(file, size)?;
     put_u64(file, size)?;
-    put_u64(file, 4096)?;
-    Ok(())
+    put_u64(file, 4096)
 }
 
 /// The file of these words, the first of which stands at 0x400078 in memory.

@@ -85,8 +85,7 @@ fn emit_plain(
 {
     let d = layout.registers.z(item);
     let m = mask_of(layout, mask);
-    draft.put(load(layout.width(), ty, d, m, base, index))?;
-    Ok(())
+    draft.put(load(layout.width(), ty, d, m, base, index))
 }
 
 fn emit_read(
@@ -133,8 +132,7 @@ fn emit_load(
     let index = index_register(offset);
     emit_narrow(layout, mask, draft)?;
     emit_index(offset, draft)?;
-    emit_read(mode, layout, item, mask, ty, array, index, draft)?;
-    Ok(())
+    emit_read(mode, layout, item, mask, ty, array, index, draft)
 }
 
 // An operation on values or conditions, where what it makes is used.
@@ -226,8 +224,7 @@ pub fn emit_exits(
         OnOk result (Emits draft.old draft.new draft.old.labels (puts words)) }
 {
     draft.put(set_faults())?;
-    emit_region(alloc, Mode::Early, layout, items, draft)?;
-    Ok(())
+    emit_region(alloc, Mode::Early, layout, items, draft)
 }
 
 /// The break region over one lane, by plain loads.
@@ -241,6 +238,5 @@ pub fn emit_single(
     ensures { let words = region.single_words (width_in layout.now) (layout_in layout.now) (view items.now) in
         OnOk result (Emits draft.old draft.new draft.old.labels (puts words)) }
 {
-    emit_region(alloc, Mode::Single, layout, items, draft)?;
-    Ok(())
+    emit_region(alloc, Mode::Single, layout, items, draft)
 }

@@ -28,8 +28,7 @@ pub fn z_copy(words: &mut Vec<Sve>, d: VectorReg, a: VectorReg) -> Result<(), Al
     if d.number == a.number {
         return Ok(());
     }
-    words.push(bitwise(BitwiseOp::Orr, d, a, a))?;
-    Ok(())
+    words.push(bitwise(BitwiseOp::Orr, d, a, a))
 }
 
 // The low bits of each lane, extended by a type that is narrower than the lane.
@@ -66,11 +65,9 @@ pub fn z_extend(
     ensures { OnOk result (Adds (code.z_extend width ty d.number a.number) words.old.items words.new.items) }
 {
     if width.bits() <= bits_of(ty) {
-        z_copy(words, d, a)?;
-        Ok(())
+        z_copy(words, d, a)
     } else {
-        extension(words, width, ty, d, a)?;
-        Ok(())
+        extension(words, width, ty, d, a)
     }
 }
 
@@ -85,9 +82,10 @@ fn z_settle(
     ensures { OnOk result (Adds (code.z_settle leaves width ty d.number) words.old.items words.new.items) }
 {
     if leaves {
-        z_extend(words, width, ty, d, d)?;
+        z_extend(words, width, ty, d, d)
+    } else {
+        Ok(())
     }
-    Ok(())
 }
 
 // One word, and what settles it.
@@ -103,8 +101,7 @@ fn settled(
         words.old.items words.new.items) }
 {
     words.push(word)?;
-    z_settle(words, leaves, width, ty, d)?;
-    Ok(())
+    z_settle(words, leaves, width, ty, d)
 }
 
 // The absolute value: that of an unsigned type is a copy.
@@ -121,11 +118,9 @@ fn absolute(
     if is_signed(ty) {
         let leaves = unary_leaves(UnaryOp::Abs, ty);
         let word = unary(UnaryPredicatedOp::Abs, width, d, a);
-        settled(words, word, leaves, width, ty, d)?;
-        Ok(())
+        settled(words, word, leaves, width, ty, d)
     } else {
-        z_copy(words, d, a)?;
-        Ok(())
+        z_copy(words, d, a)
     }
 }
 
@@ -179,12 +174,10 @@ fn merged(
         words.old.items words.new.items) }
 {
     if d.number == b.number {
-        settled(words, merging(op, width, d, a), leaves, width, ty, d)?;
-        Ok(())
+        settled(words, merging(op, width, d, a), leaves, width, ty, d)
     } else {
         z_copy(words, d, a)?;
-        settled(words, merging(op, width, d, b), leaves, width, ty, d)?;
-        Ok(())
+        settled(words, merging(op, width, d, b), leaves, width, ty, d)
     }
 }
 
@@ -222,8 +215,7 @@ fn settled_sum(
     ensures { let sum = stretch.word (sve.add_sub_name op) (d.number ∷ a.number ∷ b.number ∷ code.size_of width ∷ []) in
         OnOk result (Adds (sum ∷ code.z_settle leaves width ty d.number) words.old.items words.new.items) }
 {
-    settled(words, add_sub(op, width, d, a, b), leaves, width, ty, d)?;
-    Ok(())
+    settled(words, add_sub(op, width, d, a, b), leaves, width, ty, d)
 }
 
 // AND, ORR or EOR, and what settles it.
@@ -240,8 +232,7 @@ fn settled_bits(
     ensures { let bits = stretch.word (sve.logic_name op) (d.number ∷ a.number ∷ b.number ∷ []) in
         OnOk result (Adds (bits ∷ code.z_settle leaves width ty d.number) words.old.items words.new.items) }
 {
-    settled(words, bitwise(op, d, a, b), leaves, width, ty, d)?;
-    Ok(())
+    settled(words, bitwise(op, d, a, b), leaves, width, ty, d)
 }
 
 /// An operator with two operands.
@@ -294,11 +285,9 @@ fn shifted_right(
         words.old.items words.new.items) }
 {
     if count == 0 {
-        z_copy(words, d, a)?;
-        Ok(())
+        z_copy(words, d, a)
     } else {
-        words.push(shift_right(is_signed(ty), width, d, a, count))?;
-        Ok(())
+        words.push(shift_right(is_signed(ty), width, d, a, count))
     }
 }
 
@@ -317,11 +306,9 @@ pub fn shift(
 {
     let by = lane_count(width, shift_count(count));
     if left {
-        settled(words, shift_left(width, d, a, by), true, width, ty, d)?;
-        Ok(())
+        settled(words, shift_left(width, d, a, by), true, width, ty, d)
     } else {
-        shifted_right(words, width, by, ty, d, a)?;
-        Ok(())
+        shifted_right(words, width, by, ty, d, a)
     }
 }
 
@@ -337,10 +324,8 @@ pub fn cast(
     ensures { OnOk result (Adds (code.cast_code width from to d.number a.number) words.old.items words.new.items) }
 {
     if fits(from, to) {
-        z_copy(words, d, a)?;
-        Ok(())
+        z_copy(words, d, a)
     } else {
-        z_extend(words, width, to, d, a)?;
-        Ok(())
+        z_extend(words, width, to, d, a)
     }
 }

@@ -51,8 +51,7 @@ fn push_steps(text: &mut Vec<u8>, steps: u64) -> Result<(), AllocError>
     let mut buffer = Buffer::new();
     text.extend_from_slice(b"steps ")?;
     text.extend_from_slice(buffer.format(steps).as_bytes())?;
-    text.extend_from_slice(b"\n")?;
-    Ok(())
+    text.extend_from_slice(b"\n")
 }
 
 // A number of 64 bits in hexadecimal.
@@ -60,8 +59,7 @@ fn push_address(text: &mut Vec<u8>, value: u64) -> Result<(), AllocError>
     ensures { OnOk result (text.new.items ≡ text.old.items ++ hex_text value) }
 {
     text.extend_from_slice(b"0x")?;
-    push_hex(text, 16, value)?;
-    Ok(())
+    push_hex(text, 16, value)
 }
 
 // The last digits of a number in hexadecimal, so many of them.
@@ -72,8 +70,7 @@ fn push_hex(text: &mut Vec<u8>, digits: u32, value: u64) -> Result<(), AllocErro
         return Ok(());
     }
     push_hex(text, digits - 1, value / 16)?;
-    text.push(hex_digit((value % 16) as u8))?;
-    Ok(())
+    text.push(hex_digit((value % 16) as u8))
 }
 
 fn hex_digit(digit: u8) -> u8

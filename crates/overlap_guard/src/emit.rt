@@ -39,9 +39,10 @@ fn emit_step(draft: &mut Draft, op: AddSubOp, by: u32, sh: bool) -> Result<(), A
         (guard.step_code (add_sub_imm_name op) by (flag_number sh))) }
 {
     if by != 0 {
-        draft.put(step(op, tested(), tested(), by, sh))?;
+        draft.put(step(op, tested(), tested(), by, sh))
+    } else {
+        Ok(())
     }
-    Ok(())
 }
 
 fn emit_steps(draft: &mut Draft, op: AddSubOp, by: u32) -> Result<(), AllocError>
@@ -49,8 +50,7 @@ fn emit_steps(draft: &mut Draft, op: AddSubOp, by: u32) -> Result<(), AllocError
         (guard.steps_code (add_sub_imm_name op) by)) }
 {
     emit_step(draft, op, by % 4096, false)?;
-    emit_step(draft, op, by / 4096 % 4096, true)?;
-    Ok(())
+    emit_step(draft, op, by / 4096 % 4096, true)
 }
 
 // X26 and a number.
@@ -111,8 +111,7 @@ fn emit_both(
     emit_shift(draft, bytes_of(width, greatest))?;
     draft.put(bytes_at(part(), register(place), reach_bytes(width, reach)))?;
     draft.put(compare(tested(), part()))?;
-    draft.put(greater())?;
-    Ok(())
+    draft.put(greater())
 }
 
 // The end of a parameter's elements, but for what is left over.
@@ -163,8 +162,7 @@ fn emit_below(draft: &mut Draft, bound: Reg, u: Used, v: Used) -> Result<(), All
 {
     emit_end(draft, bound, u)?;
     emit_shift(draft, gap(u, v))?;
-    draft.put(compare(register(v.place), tested()))?;
-    Ok(())
+    draft.put(compare(register(v.place), tested()))
 }
 
 // Whether a parameter has one element for each iteration.
@@ -195,9 +193,10 @@ fn emit_none(draft: &mut Draft, bound: Reg, ok: Label, u: Used, v: Used) -> Resu
         (guard.none_if (guard.is_mixed u v) bound.number ok)) }
 {
     if is_mixed(u, v) {
-        draft.branch(BranchKind::Zero(bound.number), ok)?;
+        draft.branch(BranchKind::Zero(bound.number), ok)
+    } else {
+        Ok(())
     }
-    Ok(())
 }
 
 // The tests of two parameters.
@@ -222,8 +221,7 @@ fn emit_tests(
     emit_none(draft, bound, ok, u, v)?;
     emit_below(draft, bound, v, u)?;
     draft.branch(BranchKind::If(Cond::Lo), fail)?;
-    draft.place(ok)?;
-    Ok(())
+    draft.place(ok)
 }
 
 // The same with a label of their own.
@@ -242,8 +240,7 @@ fn emit_labelled(
         (guard.pair_code bound.number fail draft.old.labels u v)) }
 {
     let ok = draft.label()?;
-    emit_tests(draft, bound, fail, ok, u, v)?;
-    Ok(())
+    emit_tests(draft, bound, fail, ok, u, v)
 }
 
 // The tests of two parameters, where the loop stores to one of them.
@@ -256,9 +253,10 @@ fn emit_pair(draft: &mut Draft, bound: Reg, fail: Label, u: Used, v: Used) -> Re
         (guard.pair_if (u.stored || v.stored) bound.number fail draft.old.labels u v)) }
 {
     if u.stored || v.stored {
-        emit_labelled(draft, bound, fail, u, v)?;
+        emit_labelled(draft, bound, fail, u, v)
+    } else {
+        Ok(())
     }
-    Ok(())
 }
 
 fn emit_with(
@@ -290,8 +288,7 @@ fn emit_base(draft: &mut Draft, place: u32) -> Result<(), AllocError>
 {
     draft.put(step(AddSubOp::Sub, part(), register(place), 16, true))?;
     draft.put(with_top(tested(), part(), 48))?;
-    draft.put(with_top(tested(), register(place), 48))?;
-    Ok(())
+    draft.put(with_top(tested(), register(place), 48))
 }
 
 fn emit_bases(draft: &mut Draft, fail: Label, used: &[Used]) -> Result<(), AllocError>
@@ -303,8 +300,7 @@ fn emit_bases(draft: &mut Draft, fail: Label, used: &[Used]) -> Result<(), Alloc
     for u in used {
         emit_base(draft, u.place)?;
     }
-    draft.branch(BranchKind::NotZero(26), fail)?;
-    Ok(())
+    draft.branch(BranchKind::NotZero(26), fail)
 }
 
 fn emit_pairs(draft: &mut Draft, bound: Reg, fail: Label, used: &[Used]) -> Result<(), AllocError>
@@ -331,8 +327,7 @@ fn emit_checks(draft: &mut Draft, bound: Reg, fail: Label, used: &[Used]) -> Res
 {
     draft.put(with_top(zero(), bound, 40))?;
     emit_bases(draft, fail, used)?;
-    emit_pairs(draft, bound, fail, used)?;
-    Ok(())
+    emit_pairs(draft, bound, fail, used)
 }
 
 fn stores(used: &[Used]) -> bool
@@ -362,9 +357,10 @@ pub fn emit_used(
         (guard.code_by (guard.is_free used.now) bound.number fail draft.old.labels used.now)) }
 {
     if !is_free(used) {
-        emit_checks(draft, bound, fail, used)?;
+        emit_checks(draft, bound, fail, used)
+    } else {
+        Ok(())
     }
-    Ok(())
 }
 
 /// The guard: code that goes on exactly where Apart holds, and else to a label.
@@ -376,6 +372,5 @@ pub fn guard(kernel: &Checked, fail: Label, draft: &mut Draft) -> Result<(), All
 {
     fit_arrays(kernel);
     let used = arrays(kernel);
-    emit_used(draft, register(bound_place(kernel)), fail, &used)?;
-    Ok(())
+    emit_used(draft, register(bound_place(kernel)), fail, &used)
 }

@@ -59,8 +59,7 @@ impl Plan {
         ensures { OnOk result (self.new ≡ self.old ++ mask.now ∷ []) }
     {
         let parts = mask.to_vec(alloc)?;
-        self.masks.push(Mask { parts })?;
-        Ok(())
+        self.masks.push(Mask { parts })
     }
 
     /// The conditions under which an item is evaluated, each with the truth value that it must have.

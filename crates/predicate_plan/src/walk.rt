@@ -78,8 +78,7 @@ fn plan_read(
     if !is_stream(kernel, index) {
         plan_expr(alloc, kernel, plan, mask, index)?;
     }
-    plan.put(alloc, mask)?;
-    Ok(())
+    plan.put(alloc, mask)
 }
 
 // An operand and what is made of it.
@@ -96,8 +95,7 @@ fn plan_one(
     ensures len { OnOk result (GrowsTerm (program kernel.now) (Not (term_of arg.now)) plan.old plan.new) }
 {
     plan_expr(alloc, kernel, plan, mask, arg)?;
-    plan.put(alloc, mask)?;
-    Ok(())
+    plan.put(alloc, mask)
 }
 
 // Two operands and what is made of them.
@@ -118,8 +116,7 @@ fn plan_two(
 {
     plan_expr(alloc, kernel, plan, mask, left)?;
     plan_expr(alloc, kernel, plan, mask, right)?;
-    plan.put(alloc, mask)?;
-    Ok(())
+    plan.put(alloc, mask)
 }
 
 // `select`: both values, the condition, and the choice.
@@ -143,8 +140,7 @@ fn plan_select(
     plan_expr(alloc, kernel, plan, mask, yes)?;
     plan_expr(alloc, kernel, plan, mask, no)?;
     plan_expr(alloc, kernel, plan, mask, cond)?;
-    plan.put(alloc, mask)?;
-    Ok(())
+    plan.put(alloc, mask)
 }
 
 // `&&`, whose second side is evaluated where the first one is true.
@@ -166,8 +162,7 @@ fn plan_and(
     plan_expr(alloc, kernel, plan, mask, left)?;
     let inner = and_part(alloc, mask, plan.last(), true)?;
     plan_expr(alloc, kernel, plan, &inner, right)?;
-    plan.put(alloc, mask)?;
-    Ok(())
+    plan.put(alloc, mask)
 }
 
 // `||`, whose second side is evaluated where the first one is false, with the mark between them.
@@ -190,8 +185,7 @@ fn plan_or(
     let inner = and_part(alloc, mask, plan.last(), false)?;
     plan.put(alloc, mask)?;
     plan_expr(alloc, kernel, plan, &inner, right)?;
-    plan.put(alloc, mask)?;
-    Ok(())
+    plan.put(alloc, mask)
 }
 
 // Masks of the items of a statement.
@@ -240,8 +234,7 @@ fn plan_if(
     let inner = and_part(alloc, mask, plan.last(), true)?;
     plan.put(alloc, mask)?;
     plan_block(alloc, kernel, plan, &inner, block)?;
-    plan.put(alloc, mask)?;
-    Ok(())
+    plan.put(alloc, mask)
 }
 
 // An `if` with two blocks.
@@ -270,8 +263,7 @@ fn plan_if_else(
     plan_block(alloc, kernel, plan, &inner, block)?;
     plan.put(alloc, mask)?;
     plan_block(alloc, kernel, plan, &contrary, other)?;
-    plan.put(alloc, mask)?;
-    Ok(())
+    plan.put(alloc, mask)
 }
 
 // Masks of the items of a block.
@@ -343,10 +335,7 @@ fn loop_plan(alloc: Global, kernel: &Checked) -> Result<Plan, AllocError>
     few_items(kernel);
     match &kernel.kernel().body {
         None => Ok(Plan::new(alloc)),
-        Some(for_loop) => {
-            let plan = plan_for_loop(alloc, kernel, loop_start_of(kernel), for_loop)?;
-            Ok(plan)
-        }
+        Some(for_loop) => plan_for_loop(alloc, kernel, loop_start_of(kernel), for_loop),
     }
 }
 
@@ -355,6 +344,5 @@ pub fn plan(alloc: Global, kernel: &Checked) -> Result<Plan, AllocError>
     ensures masks { IfOk result (λ plan. plan ≡ masks_of (program kernel.now)) }
     ensures meets { IfOk result (λ plan. MeetsMasks (program kernel.now) plan) }
 {
-    let plan = loop_plan(alloc, kernel)?;
-    Ok(plan)
+    loop_plan(alloc, kernel)
 }

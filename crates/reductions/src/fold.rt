@@ -45,8 +45,7 @@ fn emit_join(
         vn: reduced,
     }))?;
     emit_settle(draft, true, ty, value)?;
-    emit_binary(draft, update_operator(op), ty, x, x, value)?;
-    Ok(())
+    emit_binary(draft, update_operator(op), ty, x, x, value)
 }
 
 // A value that is held throughout, in its vector register: an accumulator is joined.
@@ -68,8 +67,7 @@ fn emit_one(
         Held::Accumulating(name) => {
             let op = first_operator(facts, name);
             let ty = type_of(&facts.kernel.kernel().vars, name);
-            emit_join(draft, facts.width, op, ty, z, register_named(homes, name))?;
-            Ok(())
+            emit_join(draft, facts.width, op, ty, z, register_named(homes, name))
         }
     }
 }
@@ -113,6 +111,5 @@ pub fn emit_fold(
 {
     held_registers(facts.kernel, RegClass::Z, &regs.z);
     let homes = kernel_homes(alloc, facts.kernel, &regs.x)?;
-    emit_values(draft, facts, &homes, regs, &facts.held)?;
-    Ok(())
+    emit_values(draft, facts, &homes, regs, &facts.held)
 }

@@ -73,8 +73,7 @@ fn emit_number(draft: &mut Draft, width: Width, z: VectorReg, value: u64) -> Res
 {
     let scratch = Bits { number: 26 };
     emit_const(draft, scratch, value)?;
-    draft.put(broadcast(width, z, scratch))?;
-    Ok(())
+    draft.put(broadcast(width, z, scratch))
 }
 
 // A value that is held throughout, in its vector register.
@@ -146,6 +145,5 @@ pub fn emit_start(
         pd: Bits { number: 1 },
         size: Size::B,
     }))?;
-    emit_values(draft, facts, &regs.z, &facts.held)?;
-    Ok(())
+    emit_values(draft, facts, &regs.z, &facts.held)
 }

@@ -28,8 +28,7 @@ fn put_ahead<'a>(
         Some(ty) => {
             let name = array.text();
             let form = Form::Ahead(ty);
-            loose.push(Loose { name, form })?;
-            Ok(())
+            loose.push(Loose { name, form })
         }
     }
 }

@@ -58,8 +58,7 @@ fn emit_body<'a>(
         draft.old.labels (block_of for_loop.now.body.items))) }
 {
     scope.inside = true;
-    emit_block(draft, places, homes, scope, last, &for_loop.body, item)?;
-    Ok(())
+    emit_block(draft, places, homes, scope, last, &for_loop.body, item)
 }
 
 // The same, after which the scope and the names are those before them.
@@ -278,8 +277,7 @@ fn emit_again(
     emit_back(draft, form, bound, labels.head, labels.top)?;
     draft.place(labels.last)?;
     emit_extended(draft, bound, homes, places.loose())?;
-    draft.place(labels.exit)?;
-    Ok(())
+    draft.place(labels.exit)
 }
 
 /// The loop from its head to its end; answers the label of the head.

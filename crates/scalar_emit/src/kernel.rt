@@ -150,8 +150,7 @@ fn emit_first<'a>(
     emit_arguments(draft, &kernel.params)?;
     let first = kernel.params.len();
     emit_vars(draft, places, regs, homes, scope, &kernel.vars, first)?;
-    draft.put(small(9, 0))?;
-    Ok(())
+    draft.put(small(9, 0))
 }
 
 // The same, where no name is held yet.
@@ -199,8 +198,7 @@ pub fn emit_begin(
     each_has_a_register(kernel, regs);
     let places = places_of(alloc, kernel, listing, regs)?;
     let tree = kernel.kernel();
-    emit_before(alloc, draft, &places, regs, tree)?;
-    Ok(())
+    emit_before(alloc, draft, &places, regs, tree)
 }
 
 // ---- the loop and the end
@@ -375,10 +373,7 @@ fn emit_rest<'a>(
 {
     declare_names(scope, homes, regs, kernel)?;
     match &kernel.body {
-        None => {
-            let head = emit_straight(draft, places, homes, scope, &kernel.answer, item)?;
-            Ok(head)
-        }
+        None => emit_straight(draft, places, homes, scope, &kernel.answer, item),
         Some(for_loop) => emit_for_loop(
             alloc, draft, places, regs, homes, scope, kernel, for_loop, item,
         ),

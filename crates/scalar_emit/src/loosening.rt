@@ -343,8 +343,7 @@ fn keep_ahead<'a>(kept: &mut Vec<Loose<'a>>, held: &Loose<'a>) -> Result<(), All
     match held.form {
         Form::Ahead(ty) => {
             let form = Form::Ahead(ty);
-            kept.push(Loose { name, form })?;
-            Ok(())
+            kept.push(Loose { name, form })
         }
         _ => Ok(()),
     }

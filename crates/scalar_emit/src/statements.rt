@@ -42,9 +42,10 @@ fn emit_kept(draft: &mut Draft, places: &Places, item: usize, from: Reg) -> Resu
         (statements.let_code places.now item from.number)) }
 {
     if item < places.last_use(item) {
-        emit_copy(draft, places.reg(item), from)?;
+        emit_copy(draft, places.reg(item), from)
+    } else {
+        Ok(())
     }
-    Ok(())
 }
 
 // The home of what a `let` defines, where it has a type.
@@ -65,8 +66,7 @@ fn declare_let<'a>(
                 name: name.text(),
                 register: places.reg(item),
                 last_use: Some(places.last_use(item)),
-            })?;
-            Ok(())
+            })
         }
     }
 }
@@ -125,8 +125,7 @@ fn emit_let<'a>(
 {
     let want = first(ty, own_type(scope, value));
     let from = emit_value(draft, places, homes, scope, want, value, item)?;
-    emit_defined(draft, places, homes, scope, name, want, from, item)?;
-    Ok(())
+    emit_defined(draft, places, homes, scope, name, want, from, item)
 }
 
 // The word of a store, where the elements have a type.
@@ -373,10 +372,7 @@ fn emit_stmt<'a>(
         Part::Let { name, ty, value } => emit_let(
             draft, places, homes, scope, name, ty, value, item,
         ),
-        part => {
-            emit_effect(draft, places, homes, scope, exit, part, item)?;
-            Ok(())
-        }
+        part => emit_effect(draft, places, homes, scope, exit, part, item),
     }
 }
 
@@ -411,8 +407,7 @@ fn emit_if<'a>(
     emit_jump(draft, places, homes, scope, false, other, cond, item)?;
     *item += 1;
     emit_inner(draft, places, homes, scope, exit, block, item)?;
-    land(draft, other, item)?;
-    Ok(())
+    land(draft, other, item)
 }
 
 #[cycle(statements)]
@@ -449,8 +444,7 @@ fn emit_if_else<'a>(
     emit_jump(draft, places, homes, scope, false, other, cond, item)?;
     *item += 1;
     emit_inner(draft, places, homes, scope, exit, block, item)?;
-    emit_else(draft, places, homes, scope, exit, other, second, item)?;
-    Ok(())
+    emit_else(draft, places, homes, scope, exit, other, second, item)
 }
 
 // The second block of an `if`, after the label to which the first condition branches.
@@ -481,8 +475,7 @@ fn emit_else<'a>(
 {
     let end = switch_over(draft, other, item)?;
     emit_inner(draft, places, homes, scope, exit, second, item)?;
-    land(draft, end, item)?;
-    Ok(())
+    land(draft, end, item)
 }
 
 // A block, after which its names are visible no more.

@@ -31,6 +31,5 @@ pub fn declare_index<'a>(
         register: index(),
         last_use: None,
     })?;
-    declare(scope, &for_loop.index, Binding::Index)?;
-    Ok(())
+    declare(scope, &for_loop.index, Binding::Index)
 }

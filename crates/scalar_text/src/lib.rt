@@ -34,8 +34,7 @@ fn push_end(text: &mut Vec<u8>, value: u64, begun: u64) -> Result<(), AllocError
     text.extend_from_slice(b"0x")?;
     push_address(text, value)?;
     text.extend_from_slice(b"\n")?;
-    push_iterations(text, begun)?;
-    Ok(())
+    push_iterations(text, begun)
 }
 
 // The lines of an access that faulted.
@@ -44,8 +43,7 @@ fn push_fault(text: &mut Vec<u8>, begun: u64) -> Result<(), AllocError>
 {
     text.extend_from_slice(b"fault")?;
     text.extend_from_slice(b"\n")?;
-    push_iterations(text, begun)?;
-    Ok(())
+    push_iterations(text, begun)
 }
 
 // The line of a run whose iterations were not enough.
@@ -53,8 +51,7 @@ fn push_spent(text: &mut Vec<u8>) -> Result<(), AllocError>
     ensures { OnOk result (text.new.items ≡ text.old.items ++ (codes "spent" ++ line_feed)) }
 {
     text.extend_from_slice(b"spent")?;
-    text.extend_from_slice(b"\n")?;
-    Ok(())
+    text.extend_from_slice(b"\n")
 }
 
 // The line that counts the iterations.
@@ -64,6 +61,5 @@ fn push_iterations(text: &mut Vec<u8>, begun: u64) -> Result<(), AllocError>
     let mut buffer = Buffer::new();
     text.extend_from_slice(b"iterations ")?;
     text.extend_from_slice(buffer.format(begun).as_bytes())?;
-    text.extend_from_slice(b"\n")?;
-    Ok(())
+    text.extend_from_slice(b"\n")
 }

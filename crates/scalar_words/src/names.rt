@@ -42,8 +42,7 @@ fn declare_param<'a>(
         register: Bits { number: place },
         last_use: None,
     })?;
-    declare(scope, &param.name, param.shape.binding())?;
-    Ok(())
+    declare(scope, &param.name, param.shape.binding())
 }
 
 /// The parameters, the first of which stands in X0.
@@ -86,8 +85,7 @@ pub fn declare_var<'a>(
         register: counted_register(regs, place),
         last_use: None,
     })?;
-    declare(scope, &var.name, Binding::Accumulator(var.ty))?;
-    Ok(())
+    declare(scope, &var.name, Binding::Accumulator(var.ty))
 }
 
 // The accumulators, which have the first intervals.
@@ -129,8 +127,7 @@ pub fn declare_names<'a>(
         ≡ kernels.kernel_homes (register_in regs.now) (program_of kernel.now)) }
 {
     declare_params(scope, homes, &kernel.params)?;
-    declare_vars(scope, homes, regs, &kernel.vars)?;
-    Ok(())
+    declare_vars(scope, homes, regs, &kernel.vars)
 }
 
 /// The names at the loop of a kernel, each with the register that holds its value throughout.

@@ -23,8 +23,7 @@ pub fn emit_copy(draft: &mut Draft, d: Reg, a: Reg) -> Result<(), AllocError>
     if d.number == a.number {
         Ok(())
     } else {
-        draft.put(copy(d, a))?;
-        Ok(())
+        draft.put(copy(d, a))
     }
 }
 
@@ -34,9 +33,10 @@ pub fn emit_settle(draft: &mut Draft, leaves: bool, ty: Ty, d: Reg) -> Result<()
         (words.word_code (words.settle_word leaves ty d.number))) }
 {
     if leaves && is_narrow(ty) {
-        draft.put(extending(ty, d, d))?;
+        draft.put(extending(ty, d, d))
+    } else {
+        Ok(())
     }
-    Ok(())
 }
 
 // The first half of a constant.
@@ -52,11 +52,9 @@ fn emit_start(
     ensures { OnOk result (Emits draft.old draft.new draft.old.labels (words.start_code ones d.number half place)) }
 {
     if ones {
-        draft.put(wide(MoveWideOp::Movn, d, 65535 - half, place))?;
-        Ok(())
+        draft.put(wide(MoveWideOp::Movn, d, 65535 - half, place))
     } else {
-        draft.put(wide(MoveWideOp::Movz, d, half, place))?;
-        Ok(())
+        draft.put(wide(MoveWideOp::Movz, d, half, place))
     }
 }
 
@@ -70,8 +68,7 @@ fn emit_half(draft: &mut Draft, ones: bool, d: Reg, half: u32, place: u32) -> Re
     if half == filler(ones) {
         Ok(())
     } else {
-        draft.put(wide(MoveWideOp::Movk, d, half, place))?;
-        Ok(())
+        draft.put(wide(MoveWideOp::Movk, d, half, place))
     }
 }
 
@@ -84,8 +81,7 @@ fn emit_last_two(draft: &mut Draft, ones: bool, d: Reg, h2: u32, h3: u32) -> Res
         (words.word_code (words.half_word d.number (words.filler ones) h3 3) rest))) }
 {
     emit_half(draft, ones, d, h2, 2)?;
-    emit_half(draft, ones, d, h3, 3)?;
-    Ok(())
+    emit_half(draft, ones, d, h3, 3)
 }
 
 // A constant by its halves.
@@ -108,22 +104,17 @@ fn emit_halves(
     if h0 != filler {
         emit_start(draft, ones, d, h0, 0)?;
         emit_half(draft, ones, d, h1, 1)?;
-        emit_last_two(draft, ones, d, h2, h3)?;
-        Ok(())
+        emit_last_two(draft, ones, d, h2, h3)
     } else if h1 != filler {
         emit_start(draft, ones, d, h1, 1)?;
-        emit_last_two(draft, ones, d, h2, h3)?;
-        Ok(())
+        emit_last_two(draft, ones, d, h2, h3)
     } else if h2 != filler {
         emit_start(draft, ones, d, h2, 2)?;
-        emit_half(draft, ones, d, h3, 3)?;
-        Ok(())
+        emit_half(draft, ones, d, h3, 3)
     } else if h3 != filler {
-        emit_start(draft, ones, d, h3, 3)?;
-        Ok(())
+        emit_start(draft, ones, d, h3, 3)
     } else {
-        emit_start(draft, ones, d, h0, 0)?;
-        Ok(())
+        emit_start(draft, ones, d, h0, 0)
     }
 }
 
@@ -135,8 +126,7 @@ pub fn emit_const(draft: &mut Draft, d: Reg, value: u64) -> Result<(), AllocErro
     let h1 = (value / 65536 % 65536) as u32;
     let h2 = (value / 4294967296 % 65536) as u32;
     let h3 = (value / 281474976710656 % 65536) as u32;
-    emit_halves(draft, has_ones(h0, h1, h2, h3), d, h0, h1, h2, h3)?;
-    Ok(())
+    emit_halves(draft, has_ones(h0, h1, h2, h3), d, h0, h1, h2, h3)
 }
 
 // The comparison that comes before the word of a minimum or a maximum.
@@ -144,9 +134,10 @@ fn emit_ordering(draft: &mut Draft, op: BinaryOp, a: Reg, b: Reg) -> Result<(), 
     ensures { OnOk result (Emits draft.old draft.new draft.old.labels (operands.test_code op a.number b.number)) }
 {
     if matches!(op, BinaryOp::Min | BinaryOp::Max) {
-        draft.put(add_sub(AddSubOp::Subs, zero(), a, b))?;
+        draft.put(add_sub(AddSubOp::Subs, zero(), a, b))
+    } else {
+        Ok(())
     }
-    Ok(())
 }
 
 /// The words of an operator with two operands, before its result is settled.
@@ -162,8 +153,7 @@ pub fn emit_operation(
         (words.operation_code op signed d.number a.number b.number)) }
 {
     emit_ordering(draft, op, a, b)?;
-    draft.put(operation_word(op, signed, d, a, b))?;
-    Ok(())
+    draft.put(operation_word(op, signed, d, a, b))
 }
 
 /// The code of an operator with two operands.
@@ -179,8 +169,7 @@ pub fn emit_binary(
         (words.binary_code op ty d.number a.number b.number)) }
 {
     emit_operation(draft, op, is_signed(ty), d, a, b)?;
-    emit_settle(draft, binary_leaves(op), ty, d)?;
-    Ok(())
+    emit_settle(draft, binary_leaves(op), ty, d)
 }
 
 /// The operator that an update applies.

@@ -145,8 +145,7 @@ fn add_item(
     match last_use {
         None => {
             places.regs.push(Bits { number: 0 })?;
-            places.untils.push(0)?;
-            Ok(())
+            places.untils.push(0)
         }
         Some(last_use) => {
             places.regs.push(counted_register(regs, *interval))?;
@@ -200,6 +199,5 @@ pub fn places_of<'a>(
     few_items(kernel);
     each_has_a_register(kernel, regs);
     let vars = kernel.kernel().vars.len();
-    let places = place_items(alloc, regs, vars, items)?;
-    Ok(places)
+    place_items(alloc, regs, vars, items)
 }

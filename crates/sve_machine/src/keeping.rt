@@ -22,8 +22,7 @@ impl Keepable for Machine {
     }
 
     fn begin(&mut self, alloc: Global) -> Result<(), AllocError> {
-        self.begin(alloc)?;
-        Ok(())
+        self.begin(alloc)
     }
 
     fn keep(&mut self) {

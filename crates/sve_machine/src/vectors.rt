@@ -257,8 +257,7 @@ impl Vectors {
             &mut self.ffr,
             &mut self.stops,
             &mut self.z[zt as usize],
-        )?;
-        Ok(())
+        )
     }
 
     // What a gather reads, before a register holds it.

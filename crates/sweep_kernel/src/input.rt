@@ -26,8 +26,7 @@ fn push_text(text: &mut Vec<u8>, initial: u64, offset: u64, level: u64) -> Resul
     push_numbered(text, b"] as i32; if t > ", level)?;
     text.extend_from_slice(
         b" || b[i] == 7 { y[i] = t; s += t as i64; } else { m max= t; } } return s + m as i64; }",
-    )?;
-    Ok(())
+    )
 }
 
 /// The text of the kernel that a seed makes.

@@ -34,6 +34,5 @@ pub fn push_line(
     push_address(text, value)?;
     push_numbered(text, b" steps ", steps)?;
     push_numbered(text, b" sum ", sum)?;
-    text.extend_from_slice(b"\n")?;
-    Ok(())
+    text.extend_from_slice(b"\n")
 }

@@ -11,6 +11,5 @@ pub fn push_numbered(text: &mut Vec<u8>, before: &[u8], number: u64) -> Result<(
 {
     let mut buffer = Buffer::new();
     text.extend_from_slice(before)?;
-    text.extend_from_slice(buffer.format(number).as_bytes())?;
-    Ok(())
+    text.extend_from_slice(buffer.format(number).as_bytes())
 }

@@ -87,8 +87,7 @@ fn push_outcome(
     match outcome {
         Outcome::End { result } => {
             let sum = byte_sum(machine.pages());
-            push_line(text, vl, *result, machine.steps_done(), sum)?;
-            Ok(())
+            push_line(text, vl, *result, machine.steps_done(), sum)
         }
         Outcome::Stop(_) => Ok(()),
         Outcome::Spent => Ok(()),
@@ -102,8 +101,7 @@ fn push_run(text: &mut Vec<u8>, vl: Vl, machine: &mut Machine) -> Result<(), All
     ensures { OnOk result (text.new.items ≡ text.old.items ++ run_line vl machine.old.state) }
 {
     let outcome = machine.run(MOST_STEPS);
-    push_outcome(text, vl, &outcome, machine)?;
-    Ok(())
+    push_outcome(text, vl, &outcome, machine)
 }
 
 /// What a sweep prints: a line for each vector length. Each run begins with pages of its own.

@@ -80,8 +80,7 @@ fn emit_chunk_part(
     draft.put(any_lane())?;
     draft.branch(BranchKind::If(Cond::Ne), head)?;
     draft.put(compare(bound))?;
-    draft.branch(BranchKind::If(Cond::Hs), end)?;
-    Ok(())
+    draft.branch(BranchKind::If(Cond::Hs), end)
 }
 
 // One iteration of such a loop.
@@ -103,8 +102,7 @@ fn emit_iteration_part(
     emit_iteration(alloc, layout, items, draft)?;
     draft.put(any_lane())?;
     draft.branch(BranchKind::If(Cond::Ne), head)?;
-    draft.place(end)?;
-    Ok(())
+    draft.place(end)
 }
 
 // A chunk of a loop without a break.
@@ -127,8 +125,7 @@ fn emit_plain_part(
     emit_plain(alloc, layout, items, draft)?;
     draft.put(lanes(layout.width(), bound))?;
     draft.branch(BranchKind::If(Cond::Ne), head)?;
-    draft.place(end)?;
-    Ok(())
+    draft.place(end)
 }
 
 // The passes of a loop with a break.
@@ -149,8 +146,7 @@ fn emit_breaking(
     let head = draft.label()?;
     let end = draft.label()?;
     emit_chunk_part(alloc, layout, bound, items, head, end, draft)?;
-    emit_iteration_part(alloc, layout, items, head, end, draft)?;
-    Ok(())
+    emit_iteration_part(alloc, layout, items, head, end, draft)
 }
 
 // The passes of a loop without a break.
@@ -171,8 +167,7 @@ fn emit_straight(
     let end = draft.label()?;
     draft.put(lanes(layout.width(), bound))?;
     draft.branch(BranchKind::If(Cond::Eq), end)?;
-    emit_plain_part(alloc, layout, bound, items, head, end, draft)?;
-    Ok(())
+    emit_plain_part(alloc, layout, bound, items, head, end, draft)
 }
 
 // The passes, by whether the loop has a break.
@@ -192,11 +187,9 @@ fn emit_by(
         OnOk result (Emits draft.old draft.new (draft.old.labels + 2) (passes draft.old.labels)) }
 {
     if has_break(items) {
-        emit_breaking(alloc, layout, bound, items, draft)?;
-        Ok(())
+        emit_breaking(alloc, layout, bound, items, draft)
     } else {
-        emit_straight(alloc, layout, bound, items, draft)?;
-        Ok(())
+        emit_straight(alloc, layout, bound, items, draft)
     }
 }
 
@@ -219,6 +212,5 @@ pub fn emit_passes(
     let bound = Bits {
         number: bound_place(facts.kernel),
     };
-    emit_by(alloc, &layout, bound, &items, draft)?;
-    Ok(())
+    emit_by(alloc, &layout, bound, &items, draft)
 }
