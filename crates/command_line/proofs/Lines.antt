@@ -7,9 +7,9 @@ use Rattle.std.proofs.lemmas.Option.{none-some}
 use Rattle.std.proofs.lemmas.List.{append-nil, append_assoc}
 use mathlib.Core.Bool.{or-true}
 use Rattle.number_text.specs.Numbers.{given, number_of}
-use Rattle.command_line.specs.Line.{Words, Options, Extent, Line, is_end, is_plain, is_filled, positional, positional_from, value_named, value_in, value_following, value_at, once, extent_of, period_of, with_vl, with_steps, with_map, with_dump, with_suppress, option_at, options_of, no_options, run_with, run_of, eval_with, eval_of, debug_with, debug_of, pipe_with, pipe_of}
+use Rattle.command_line.specs.Line.{Words, Options, Extent, Line, is_end, is_plain, is_filled, positional, positional_from, value_named, value_in, value_following, value_at, once, extent_of, period_of, with_vl, with_steps, with_map, with_dump, with_suppress, option_at, options_of, no_options, run_with, run_of, eval_with, eval_of, debug_with, debug_of, pipe_with, pipe_of, CompileLine, AsmLine, compile_of, asm_of, two_files, words_and_file, two_of}
 use Rattle.command_line.specs.Numbers.{parted}
-use Rattle.command_line.specs.Given.{Given, name_of, joined_of, name_before, allows, without, next, gives, given_from, given_of, nothing, with_value, with_word, spelt_value, options_in}
+use Rattle.command_line.specs.Given.{Given, name_of, joined_of, name_before, allows, without, next, gives, given_from, given_of, nothing, with_value, with_word, spelt_value, options_in, options_and_words}
 use Rattle.command_line.specs.declared.place.Allowed.{Allowed}
 use Rattle.command_line.specs.declared.place.OptionName.{OptionName}
 use Rattle.command_line.specs.declared.place.OptionName.TheVariants.{Vl, Steps, Map, Dump, Suppress}
@@ -658,11 +658,19 @@ no_allows = record { vl = false; steps = false; map = false; dump = false; suppr
 
 -- the line of a command with options, by what its words give
 abbrev pub line_by : (Options → Words → Option Line) → Option Given → Option Line
-line_by F x = option_and_then (λ g. option_and_then (λ p. F p g.words) (options_in g)) x
+line_by F x = option_and_then (λ (p : Options × Words). F p.0 p.1) (options_and_words x)
+
+by_both : (F : Options → Words → Option Line) (words : Words) (o : Option Options) → option_and_then (λ p. F p words) o ≡ option_and_then (λ (p : Options × Words). F p.0 p.1) (option_map (λ (o : Options). (o, words)) o)
+by_both F words None = refl
+by_both F words (Some o) = refl
+
+by_given : (F : Options → Words → Option Line) (x : Option Given) → option_and_then (λ g. option_and_then (λ p. F p g.words) (options_in g)) x ≡ line_by F x
+by_given F None = refl
+by_given F (Some g) = by_both F g.words (options_in g)
 
 pub run_is : (words : Words) → run_of words ≡ line_by run_with (given_of run_allows words)
 unfolding run_of
-run_is words = lines run_with run_allows words closed
+run_is words = lines run_with run_allows words closed ∙ by_given run_with (given_of run_allows words)
   where
     closed : (n : OptionName) → allows run_allows n ≡ false → (o : Options) (ws : Words) → has n o ≡ true → run_with o ws ≡ None
     closed Vl e = absurd (true≢false e)
@@ -674,7 +682,7 @@ no_choice false = refl
 
 pub eval_is : (words : Words) → eval_of words ≡ line_by eval_with (given_of eval_allows words)
 unfolding eval_of eval_with
-eval_is words = lines eval_with eval_allows words closed
+eval_is words = lines eval_with eval_allows words closed ∙ by_given eval_with (given_of eval_allows words)
   where
     closed : (n : OptionName) → allows eval_allows n ≡ false → (o : Options) (ws : Words) → has n o ≡ true → eval_with o ws ≡ None
     closed Vl e = λ o ws h. rw h refl
@@ -683,7 +691,7 @@ eval_is words = lines eval_with eval_allows words closed
 
 pub debug_is : (words : Words) → debug_of words ≡ line_by debug_with (given_of debug_allows words)
 unfolding debug_of debug_with
-debug_is words = lines debug_with debug_allows words closed
+debug_is words = lines debug_with debug_allows words closed ∙ by_given debug_with (given_of debug_allows words)
   where
     no_choices : (b c : Bool) → ◌≡◌ {A = Option Line} (if b then None else if c then None else None) None
     no_choices true c = refl
@@ -698,7 +706,7 @@ debug_is words = lines debug_with debug_allows words closed
 
 pub pipe_is : (words : Words) → pipe_of words ≡ line_by pipe_with (given_of pipe_allows words)
 unfolding pipe_of pipe_with
-pipe_is words = lines pipe_with pipe_allows words closed
+pipe_is words = lines pipe_with pipe_allows words closed ∙ by_given pipe_with (given_of pipe_allows words)
   where
     closed : (n : OptionName) → allows pipe_allows n ≡ false → (o : Options) (ws : Words) → has n o ≡ true → pipe_with o ws ≡ None
     closed Suppress e = λ o ws h. rw h refl
@@ -725,3 +733,19 @@ words_alone (word ∷ words) = by_sort (sorted word)
     by_sort (joined t p m n v j) = nothing_here t p (from_joined no_allows word words n v t p m j
         ∙ ap (λ (b : Bool). if b then option_map (with_value n v) (given_from (place.Options (without no_allows n)) words) else None) (no_allowed n))
     by_sort (other t p m j) = nothing_here t p (from_other no_allows word words t p m j)
+
+two_lines : (F : List ℕ → List ℕ → Line) (f : Words → Option Line) (words : Option Words) → ((from to : List ℕ) → f (from ∷ to ∷ []) ≡ Some (F from to)) → f [] ≡ None → ((a : List ℕ) → f (a ∷ []) ≡ None) → ((a b c : List ℕ) (rest : Words) → f (a ∷ b ∷ c ∷ rest) ≡ None)
+    → option_and_then f words ≡ option_map (λ (p : List ℕ × List ℕ). F p.0 p.1) (option_and_then two_of words)
+two_lines F f None two none one more = refl
+two_lines F f (Some []) two none one more = none
+two_lines F f (Some (a ∷ [])) two none one more = one a
+two_lines F f (Some (a ∷ b ∷ [])) two none one more = two a b
+two_lines F f (Some (a ∷ b ∷ c ∷ rest)) two none one more = more a b c rest
+
+pub compile_is : (words : Words) → compile_of words ≡ option_map (λ (p : List ℕ × List ℕ). CompileLine p.0 p.1) (option_and_then two_of (positional words))
+unfolding compile_of
+compile_is words = two_lines CompileLine two_files (positional words) (λ a b. refl) refl (λ a. refl) (λ a b c rest. refl)
+
+pub asm_is : (words : Words) → asm_of words ≡ option_map (λ (p : List ℕ × List ℕ). AsmLine p.0 p.1) (option_and_then two_of (positional words))
+unfolding asm_of
+asm_is words = two_lines AsmLine words_and_file (positional words) (λ a b. refl) refl (λ a. refl) (λ a b c rest. refl)

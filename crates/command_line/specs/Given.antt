@@ -140,3 +140,7 @@ options_in g =
     (spelt_value extent_of g.dump))
     (spelt_value number_of g.steps))
     (spelt_value number_of g.vl)
+
+-- the options that the words of a command give, and its positional words
+abbrev pub options_and_words : Option Given → Option (Options × Words)
+options_and_words given = option_and_then (λ g. option_map (λ o. (o, g.words)) (options_in g)) given

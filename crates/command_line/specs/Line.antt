@@ -191,6 +191,11 @@ run_with o words =
 unfoldable pub run_of : Words → Option Line
 run_of words = option_and_then (λ p. option_and_then (run_with p.0) (positional p.1)) (options_of words)
 
+-- the two positional words, where there are no others
+abbrev pub two_of : Words → Option (List ℕ × List ℕ)
+two_of (from ∷ to ∷ []) = Some (from, to)
+two_of _ = None
+
 abbrev pub two_files : Words → Option Line
 two_files (from ∷ to ∷ []) = Some (CompileLine from to)
 two_files _ = None

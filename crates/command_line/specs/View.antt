@@ -30,6 +30,12 @@ extent_view e = record { address = e.address; len = e.len }
 abbrev pub options_view : Settings → Options
 options_view s = record { vl = s.vl; steps = s.steps; map = option_map bytes_left s.map; dump = option_map extent_view s.dump; suppress = s.suppress }
 
+abbrev pub settings_and_words : {B : Type 0} → Settings × Vec (Bor (List ℕ)) B → Options × Words
+settings_and_words x = (options_view x.0, all_in x.1)
+
+abbrev pub both_bytes : {B : Type 0} → String B × String B → List ℕ × List ℕ
+both_bytes x = (string_bytes x.0, string_bytes x.1)
+
 -- an option, and its value
 abbrev pub name_and_value : OptionName × Bor (List ℕ) → OptionName × List ℕ
 name_and_value x = (x.0, x.1.now)

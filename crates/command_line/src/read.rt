@@ -1,8 +1,9 @@
 //! Reading the words of a command.
 
-ghost use Rattle.std.specs.Prelude.{◌≡◌, ◌≤◌, IfOk, IfSome, option_map, is_some, length, [], string_bytes};
-ghost use Rattle.command_line.specs.Line.{is_length, positional, arguments_from, arguments_of, task_of, run_with, run_of, debug_with, debug_of, compile_of, sweep_of, asm_of, pipe_with, pipe_of, file_of, eval_with, eval_of, line_of, CheckLine, ListLine};
-ghost use Rattle.command_line.specs.View.{texts, all_left, all_in, options_view, task_view, command_view};
+ghost use Rattle.std.specs.Prelude.{◌≡◌, ◌≤◌, IfOk, IfSome, option_map, option_and_then, is_some, length, [], string_bytes};
+ghost use Rattle.command_line.specs.Line.{is_length, positional, arguments_from, arguments_of, task_of, run_with, run_of, debug_with, debug_of, compile_of, two_of, sweep_of, asm_of, pipe_with, pipe_of, file_of, eval_with, eval_of, line_of, CheckLine, ListLine};
+ghost use Rattle.command_line.specs.View.{texts, all_left, all_in, options_view, settings_and_words, both_bytes, task_view, command_view};
+ghost use Rattle.command_line.specs.Given.{given_of, options_and_words};
 ghost use Rattle.number_text.specs.View.{items_in, bytes_left};
 
 use crate::command::{Command, Task};
@@ -53,6 +54,26 @@ const DEBUG_OPTIONS: Allowed = Allowed {
     dump: false,
     suppress: false,
 };
+
+// The options and the positional words of a command that has options.
+fn options_and_words<'a>(
+    alloc: Global,
+    name: &'a str,
+    allowed: Allowed,
+    words: &'a [String],
+) -> Result<Option<(Settings<'a>, Vec<&'a str>)>, AllocError>
+    ensures { IfOk result (λ o. option_map settings_and_words o
+        ≡ options_and_words (given_of allowed (texts words.entry.now))) }
+{
+    let Some(found) = taken(alloc, name, allowed, words)? else {
+        return Ok(None);
+    };
+    let Some(settings) = read_settings(&found) else {
+        return Ok(None);
+    };
+    let words = positional(alloc, &found)?;
+    Ok(Some((settings, words)))
+}
 
 // The positional words of a command that has no options.
 #[tactic(auto, using(crate::proofs::Lines::words_alone))]
@@ -167,14 +188,10 @@ fn run_with(
 fn run(alloc: Global, words: &[String]) -> Result<Option<Command>, AllocError>
     ensures { IfOk result (λ o. option_map command_view o ≡ run_of (texts words.now)) }
 {
-    let Some(found) = taken(alloc, "run", RUN_OPTIONS, words)? else {
-        return Ok(None);
-    };
-    let Some(settings) = read_settings(&found) else {
-        return Ok(None);
-    };
-    let words = positional(alloc, &found)?;
-    run_with(alloc, settings, &words)
+    match options_and_words(alloc, "run", RUN_OPTIONS, words)? {
+        Some((settings, words)) => run_with(alloc, settings, &words),
+        None => Ok(None),
+    }
 }
 
 // A debugging session with these options and positional words.
@@ -204,14 +221,10 @@ fn debug_with(
 fn debug(alloc: Global, words: &[String]) -> Result<Option<Command>, AllocError>
     ensures { IfOk result (λ o. option_map command_view o ≡ debug_of (texts words.now)) }
 {
-    let Some(found) = taken(alloc, "debug", DEBUG_OPTIONS, words)? else {
-        return Ok(None);
-    };
-    let Some(settings) = read_settings(&found) else {
-        return Ok(None);
-    };
-    let words = positional(alloc, &found)?;
-    debug_with(alloc, settings, &words)
+    match options_and_words(alloc, "debug", DEBUG_OPTIONS, words)? {
+        Some((settings, words)) => debug_with(alloc, settings, &words),
+        None => Ok(None),
+    }
 }
 
 // A script with these options and positional words.
@@ -241,14 +254,10 @@ fn pipe_with(
 fn pipe(alloc: Global, words: &[String]) -> Result<Option<Command>, AllocError>
     ensures { IfOk result (λ o. option_map command_view o ≡ pipe_of (texts words.now)) }
 {
-    let Some(found) = taken(alloc, "pipe", PIPE_OPTIONS, words)? else {
-        return Ok(None);
-    };
-    let Some(settings) = read_settings(&found) else {
-        return Ok(None);
-    };
-    let words = positional(alloc, &found)?;
-    pipe_with(alloc, settings, &words)
+    match options_and_words(alloc, "pipe", PIPE_OPTIONS, words)? {
+        Some((settings, words)) => pipe_with(alloc, settings, &words),
+        None => Ok(None),
+    }
 }
 
 // The command of the words after `sweep`.
@@ -271,38 +280,43 @@ fn sweep(alloc: Global, words: &[String]) -> Result<Option<Command>, AllocError>
     }))
 }
 
-// The command of the words after `compile`.
-#[tactic(auto, unfolding(crate::specs::Line::compile_of))]
-fn compile(alloc: Global, words: &[String]) -> Result<Option<Command>, AllocError>
-    ensures { IfOk result (λ o. option_map command_view o ≡ compile_of (texts words.now)) }
+// The two positional words, where there are no others.
+fn two_words(
+    alloc: Global,
+    name: &'static str,
+    words: &[String],
+) -> Result<Option<(String, String)>, AllocError>
+    ensures { IfOk result (λ o. option_map both_bytes o ≡ option_and_then two_of (positional (texts words.now))) }
 {
-    let Some(found) = words_alone(alloc, "compile", words)? else {
+    let Some(found) = words_alone(alloc, name, words)? else {
         return Ok(None);
     };
     let [from, to] = found.as_slice() else {
         return Ok(None);
     };
-    Ok(Some(Command::Compile {
-        from: String::from_str(alloc, from)?,
-        to: String::from_str(alloc, to)?,
-    }))
+    Ok(Some((String::from_str(alloc, from)?, String::from_str(alloc, to)?)))
+}
+
+// The command of the words after `compile`.
+#[tactic(auto, using(crate::proofs::Lines::compile_is))]
+fn compile(alloc: Global, words: &[String]) -> Result<Option<Command>, AllocError>
+    ensures { IfOk result (λ o. option_map command_view o ≡ compile_of (texts words.now)) }
+{
+    match two_words(alloc, "compile", words)? {
+        Some((from, to)) => Ok(Some(Command::Compile { from, to })),
+        None => Ok(None),
+    }
 }
 
 // The command of the words after `asm`.
-#[tactic(auto, unfolding(crate::specs::Line::asm_of))]
+#[tactic(auto, using(crate::proofs::Lines::asm_is))]
 fn asm(alloc: Global, words: &[String]) -> Result<Option<Command>, AllocError>
     ensures { IfOk result (λ o. option_map command_view o ≡ asm_of (texts words.now)) }
 {
-    let Some(found) = words_alone(alloc, "asm", words)? else {
-        return Ok(None);
-    };
-    let [listing, to] = found.as_slice() else {
-        return Ok(None);
-    };
-    Ok(Some(Command::Asm {
-        from: String::from_str(alloc, listing)?,
-        to: String::from_str(alloc, to)?,
-    }))
+    match two_words(alloc, "asm", words)? {
+        Some((from, to)) => Ok(Some(Command::Asm { from, to })),
+        None => Ok(None),
+    }
 }
 
 // The one positional word, where there are no others.
@@ -363,14 +377,10 @@ fn eval_with(
 fn eval(alloc: Global, words: &[String]) -> Result<Option<Command>, AllocError>
     ensures { IfOk result (λ o. option_map command_view o ≡ eval_of (texts words.now)) }
 {
-    let Some(found) = taken(alloc, "eval", EVAL_OPTIONS, words)? else {
-        return Ok(None);
-    };
-    let Some(settings) = read_settings(&found) else {
-        return Ok(None);
-    };
-    let words = positional(alloc, &found)?;
-    eval_with(alloc, settings, &words)
+    match options_and_words(alloc, "eval", EVAL_OPTIONS, words)? {
+        Some((settings, words)) => eval_with(alloc, settings, &words),
+        None => Ok(None),
+    }
 }
 
 /// The command that the words spell, where they are one. The words are those after the program's name.
