@@ -64,7 +64,8 @@ pub fn declared_count(scope: &Scope) -> usize
 pub fn reserve<'a>(scope: &mut Scope<'a>, name: &'a Name) -> Result<(), AllocError>
     ensures { IfOk result (λ _. scope_of scope.new ≡ reserved (scope_of scope.old) (name_of name.now)) }
 {
-    scope.declared.insert(name.text())
+    scope.declared.insert(name.text())?;
+    Ok(())
 }
 
 /// Declares a name that is visible from here on.
@@ -77,7 +78,8 @@ pub fn declare<'a>(
 {
     let name = name.text();
     scope.visible.push(Local { name, binding })?;
-    scope.declared.insert(name)
+    scope.declared.insert(name)?;
+    Ok(())
 }
 
 /// Declares what a `let` defines. Without a type it is visible nowhere.
@@ -85,8 +87,14 @@ pub fn define<'a>(scope: &mut Scope<'a>, name: &'a Name, ty: Option<Ty>) -> Resu
     ensures { IfOk result (λ _. scope_of scope.new ≡ typing.defined (scope_of scope.old) (name_of name.now) ty) }
 {
     match ty {
-        None => reserve(scope, name),
-        Some(ty) => declare(scope, name, Binding::Value(ty)),
+        None => {
+            reserve(scope, name)?;
+            Ok(())
+        }
+        Some(ty) => {
+            declare(scope, name, Binding::Value(ty))?;
+            Ok(())
+        }
     }
 }
 

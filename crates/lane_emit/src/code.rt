@@ -28,7 +28,8 @@ pub fn z_copy(words: &mut Vec<Sve>, d: VectorReg, a: VectorReg) -> Result<(), Al
     if d.number == a.number {
         return Ok(());
     }
-    words.push(bitwise(BitwiseOp::Orr, d, a, a))
+    words.push(bitwise(BitwiseOp::Orr, d, a, a))?;
+    Ok(())
 }
 
 // The low bits of each lane, extended by a type that is narrower than the lane.
@@ -287,7 +288,8 @@ fn shifted_right(
     if count == 0 {
         z_copy(words, d, a)
     } else {
-        words.push(shift_right(is_signed(ty), width, d, a, count))
+        words.push(shift_right(is_signed(ty), width, d, a, count))?;
+        Ok(())
     }
 }
 

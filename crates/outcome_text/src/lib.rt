@@ -70,7 +70,8 @@ fn push_hex(text: &mut Vec<u8>, digits: u32, value: u64) -> Result<(), AllocErro
         return Ok(());
     }
     push_hex(text, digits - 1, value / 16)?;
-    text.push(hex_digit((value % 16) as u8))
+    text.push(hex_digit((value % 16) as u8))?;
+    Ok(())
 }
 
 fn hex_digit(digit: u8) -> u8

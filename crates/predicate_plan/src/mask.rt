@@ -59,7 +59,8 @@ impl Plan {
         ensures { OnOk result (self.new ≡ self.old ++ mask.now ∷ []) }
     {
         let parts = mask.to_vec(alloc)?;
-        self.masks.push(Mask { parts })
+        self.masks.push(Mask { parts })?;
+        Ok(())
     }
 
     /// The conditions under which an item is evaluated, each with the truth value that it must have.

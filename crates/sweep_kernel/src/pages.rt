@@ -46,7 +46,8 @@ fn push_page(pages: &mut Vec<PageSpec>, number: u64, bytes: Vec<u8>) -> Result<(
         page,
         perm: Perm::ReadWrite,
         bytes: PageBytes::new(bytes),
-    })
+    })?;
+    Ok(())
 }
 
 // Appends so many pages of drawn bytes.
