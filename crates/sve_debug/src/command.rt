@@ -1,7 +1,7 @@
 //! What a line asks for.
 
 /// What of a machine is shown.
-#[derive(Clone, Copy, Debug, PartialEq, Eq)]
+#[derive(Clone, Copy)]
 pub enum Part {
     /// A general register, up to number 30.
     General(u64),
@@ -24,7 +24,7 @@ pub enum Part {
 }
 
 /// What a line asks for.
-#[derive(Clone, Copy, Debug, PartialEq, Eq)]
+#[derive(Clone, Copy)]
 pub enum Command {
     /// Up to so many steps.
     Step(u64),

@@ -232,6 +232,6 @@ impl<D: Keepable> Debugger<D> {
             return Ok(true);
         };
         self.answer(command, out)?;
-        Ok(command != Command::Quit)
+        Ok(!matches!(command, Command::Quit))
     }
 }

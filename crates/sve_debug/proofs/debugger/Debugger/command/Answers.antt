@@ -47,4 +47,4 @@ returns-clause-told g c start d h =
     let text = told_is command c.args.self.now c.answer.new.self start d h (c.answer.ensures.session start d h) in
     let whole = line_is c.args.line.now command d (sym c.is_empty.ensures ∙ c.if-is_empty.false) (sym c.command_of.ensures.value ∙ c.in-Some.is) in
     put_as _ _ _ _ _ _ _ (text ∙ whole)
-    (puts_on (taken c.args.out.now) (taken c.answer.new.out) (faults c.args.out.now) (faults c.answer.new.out) _ c.answer.result c.in_ok-answer.field-0 c.ne.result c.in_ok-answer.was c.answer.ensures.text)
+    (puts_on (taken c.args.out.now) (taken c.answer.new.out) (faults c.args.out.now) (faults c.answer.new.out) _ c.answer.result c.in_ok-answer.field-0 _ c.in_ok-answer.was c.answer.ensures.text)
