@@ -44,10 +44,9 @@ pub fn emit_index(offset: i32, draft: &mut Draft) -> Result<(), AllocError>
     ensures { OnOk result (EmitsBefore draft.old draft.new draft.old.labels (code.with_index offset)) }
 {
     if offset != 0 {
-        draft.put(index_word(offset))
-    } else {
-        Ok(())
+        draft.put(index_word(offset))?;
     }
+    Ok(())
 }
 
 /// The predicate register of a mask: P0 where an item has none.

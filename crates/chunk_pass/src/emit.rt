@@ -45,7 +45,8 @@ pub fn emit_chunk(
     emit_loop_index(layout, draft)?;
     emit_exits(alloc, layout, region(items), draft)?;
     emit_items(alloc, layout, rest(items), draft)?;
-    draft.put(advance(layout.width()))
+    draft.put(advance(layout.width()))?;
+    Ok(())
 }
 
 /// One iteration of such a loop, where no lane came through a chunk.
@@ -64,7 +65,8 @@ pub fn emit_iteration(
     draft.put(first_lane(layout.width()))?;
     emit_single(alloc, layout, region(items), draft)?;
     emit_items(alloc, layout, rest(items), draft)?;
-    draft.put(advance(layout.width()))
+    draft.put(advance(layout.width()))?;
+    Ok(())
 }
 
 /// A chunk of a loop without a break, whose lanes are in P0.
@@ -80,5 +82,6 @@ pub fn emit_plain(
 {
     emit_loop_index(layout, draft)?;
     emit_items(alloc, layout, items, draft)?;
-    draft.put(advance(layout.width()))
+    draft.put(advance(layout.width()))?;
+    Ok(())
 }

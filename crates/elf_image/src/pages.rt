@@ -37,7 +37,8 @@ fn put_file_bytes(
     if end <= from {
         return Ok(());
     }
-    page.extend_from_slice(segment.file_bytes(bytes, from, end))
+    page.extend_from_slice(segment.file_bytes(bytes, from, end))?;
+    Ok(())
 }
 
 // The bytes of a page of a segment, by its number: zeros, those of the file, and zeros.

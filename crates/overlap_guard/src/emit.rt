@@ -221,7 +221,8 @@ fn emit_tests(
     emit_none(draft, bound, ok, u, v)?;
     emit_below(draft, bound, v, u)?;
     draft.branch(BranchKind::If(Cond::Lo), fail)?;
-    draft.place(ok)
+    draft.place(ok)?;
+    Ok(())
 }
 
 // The same with a label of their own.

@@ -37,7 +37,8 @@ fn push_run(
     text.extend_from_slice(b"run ")?;
     text.extend_from_slice(buffer.format(number).as_bytes())?;
     text.push(b'\n')?;
-    text.extend_from_slice(&shown)
+    text.extend_from_slice(&shown)?;
+    Ok(())
 }
 
 // Runs a line over the pages of the map, and adds what came of it to a text.

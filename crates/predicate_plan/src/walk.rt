@@ -344,5 +344,6 @@ pub fn plan(alloc: Global, kernel: &Checked) -> Result<Plan, AllocError>
     ensures masks { IfOk result (λ plan. plan ≡ masks_of (program kernel.now)) }
     ensures meets { IfOk result (λ plan. MeetsMasks (program kernel.now) plan) }
 {
-    loop_plan(alloc, kernel)
+    let plan = loop_plan(alloc, kernel)?;
+    Ok(plan)
 }

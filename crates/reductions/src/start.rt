@@ -73,7 +73,8 @@ fn emit_number(draft: &mut Draft, width: Width, z: VectorReg, value: u64) -> Res
 {
     let scratch = Bits { number: 26 };
     emit_const(draft, scratch, value)?;
-    draft.put(broadcast(width, z, scratch))
+    draft.put(broadcast(width, z, scratch))?;
+    Ok(())
 }
 
 // A value that is held throughout, in its vector register.

@@ -101,7 +101,8 @@ fn push_run(text: &mut Vec<u8>, vl: Vl, machine: &mut Machine) -> Result<(), All
     ensures { OnOk result (text.new.items ≡ text.old.items ++ run_line vl machine.old.state) }
 {
     let outcome = machine.run(MOST_STEPS);
-    push_outcome(text, vl, &outcome, machine)
+    push_outcome(text, vl, &outcome, machine)?;
+    Ok(())
 }
 
 /// What a sweep prints: a line for each vector length. Each run begins with pages of its own.

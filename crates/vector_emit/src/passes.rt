@@ -146,7 +146,8 @@ fn emit_breaking(
     let head = draft.label()?;
     let end = draft.label()?;
     emit_chunk_part(alloc, layout, bound, items, head, end, draft)?;
-    emit_iteration_part(alloc, layout, items, head, end, draft)
+    emit_iteration_part(alloc, layout, items, head, end, draft)?;
+    Ok(())
 }
 
 // The passes of a loop without a break.
@@ -212,5 +213,6 @@ pub fn emit_passes(
     let bound = Bits {
         number: bound_place(facts.kernel),
     };
-    emit_by(alloc, &layout, bound, &items, draft)
+    emit_by(alloc, &layout, bound, &items, draft)?;
+    Ok(())
 }
