@@ -1,5 +1,6 @@
 -- One more name of a kernel in its scope and among the homes.
-use Rattle.std.proofs.Common.{◌≡◌, ℕ, ◌+◌, ◌<◌, List, [], ◌∷◌, ◌++◌, ◌∙◌, length, drop, get_or, sym, ap, append_assoc}
+use Rattle.std.proofs.Common.{◌≡◌, ℕ, ◌+◌, ◌<◌, ◌≤◌, List, [], ◌∷◌, ◌++◌, ◌∙◌, length, drop, get_or, sym, ap, append_assoc, append-nil}
+use Rattle.std.proofs.lemmas.List.{drop_all}
 use Rattle.kernel_tree.specs.declared.ast.Param.{Param}
 use Rattle.kernel_tree.specs.declared.ast.Var.{Var}
 use Rattle.kernel_tree.specs.Plain.{parameter_of, parameters_of, accumulator_of, accumulators_of}
@@ -28,3 +29,10 @@ module _ (R : ℕ → ℕ) (vs : List Var) (i : ℕ) (v : Var) (lt : i < length 
 
   pub var_more : (old new whole : Homes) → new ≡ old ++ var_home R i (accumulator_of v) ∷ [] → old ++ var_homes R i (accumulators_of (drop i vs)) ≡ whole → new ++ var_homes R (i + 1) (accumulators_of (drop (i + 1) vs)) ≡ whole
   var_more old new whole e w = one_more old new whole _ _ _ e (ap (λ l. var_homes R i (accumulators_of l)) (next-entry vs i v lt at)) w
+
+-- after the last accumulator
+pub after_all : (vs : List Var) (i : ℕ) (s whole : Scope) → length vs ≤ i → after_vars s (accumulators_of (drop i vs)) ≡ whole → s ≡ whole
+after_all vs i s whole h w = sym (ap (λ l. after_vars s (accumulators_of l)) (drop_all i vs h)) ∙ w
+
+pub all_homes : (R : ℕ → ℕ) (vs : List Var) (i : ℕ) (l whole : Homes) → length vs ≤ i → l ++ var_homes R i (accumulators_of (drop i vs)) ≡ whole → l ≡ whole
+all_homes R vs i l whole h w = sym (ap (λ xs. l ++ var_homes R i (accumulators_of xs)) (drop_all i vs h) ∙ append-nil l) ∙ w
