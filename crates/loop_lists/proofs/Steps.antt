@@ -1,13 +1,18 @@
 -- One step of a loop over a list that is left to go through, and what stands after the last one.
 use Rattle.std.proofs.Common.{◌≡◌, ℕ, ◌+◌, ◌<◌, ◌≤◌, List, [], ◌∷◌, ◌++◌, ◌∙◌, length, drop, get_or, map, Option, Some, None, Bool, true, false, ◌||◌, cond, sym, ap, refl, arith, append_assoc, append-nil}
-use Rattle.std.specs.Prelude.{filter_map}
+use Rattle.std.specs.Prelude.{filter_map, bytes_eq, if◌then◌else◌}
 use Rattle.std.specs.List.{list_any, find, cons_option}
 use Rattle.std.specs.Bool.{then_some}
 use Rattle.std.specs.Option.{is_some}
 use Rattle.std.specs.Int.{from_bool}
 use Rattle.std.proofs.lemmas.List.{drop_all}
+use Rattle.kernel_tree.specs.declared.ast.Param.{Param}
+use Rattle.kernel_tree.specs.declared.ops.Ty.{Ty}
+use Rattle.kernel_tree.specs.Plain.{name_of, parameter_of, parameters_of}
 use Rattle.reg_assign.specs.declared.interval.RegClass.{RegClass}
 use Rattle.loop_form.specs.Entries.{Entry}
+use Rattle.loop_form.specs.Lanes.{type_of_array}
+use Rattle.loop_form.specs.Streams.{elements_of}
 use Rattle.loop_form.specs.Listing.{last_use_in}
 use Rattle.loop_form.specs.Places.{place_of, places_from}
 use Rattle.loop_form.specs.View.{entry_of, entries_view}
@@ -80,10 +85,6 @@ pub none_mapped : {E A B : Type 0} (f : E → A) (h : A → Option B) (xs : List
 none_mapped f h xs i x old whole lt at e w =
     sym (ap (λ l. old ++ l) (ap (λ l. filter_map h (map f l)) (next-entry xs i x lt at) ∙ ap (λ o. cons_option o (filter_map h (map f (drop (i + 1) xs)))) e)) ∙ w
 
-pub none_left : {A : Type 0} (o : Option A) → ((x : A) → o ≡ Some x → ⊥) → o ≡ None
-none_left None h = refl
-none_left (Some x) h = absurd (h x refl)
-
 -- ---- parts of a list
 
 pub two_parts : {A : Type 0} (e0 e1 e2 a b : List A) → e1 ≡ e0 ++ a → e2 ≡ e1 ++ b → e2 ≡ e0 ++ (a ++ b)
@@ -92,3 +93,19 @@ two_parts e0 e1 e2 a b e f = f ∙ ap (λ l. l ++ b) e ∙ append_assoc e0 a b
 pub four_parts : {A : Type 0} (e0 e1 e2 e3 e4 a b c d : List A) → e0 ≡ [] → e1 ≡ e0 ++ a → e2 ≡ e1 ++ b → e3 ≡ e2 ++ c → e4 ≡ e3 ++ d → e4 ≡ a ++ (b ++ (c ++ d))
 four_parts e0 e1 e2 e3 e4 a b c d e f g h i =
     i ∙ ap (λ l. l ++ d) h ∙ append_assoc e2 c d ∙ two_parts e1 e2 (e2 ++ (c ++ d)) b (c ++ d) g refl ∙ ap (λ l. l ++ (b ++ (c ++ d))) (f ∙ ap (λ l. l ++ a) e)
+
+-- ---- the element type of an array parameter
+
+module _ (ps : List Param) (i : ℕ) (a : List ℕ) (whole : Option Ty) (here : type_of_array a (parameters_of (drop i ps)) ≡ whole) where
+  head_type : (p : Param) (b : Bool) → i < length ps → p ≡ get_or ps i p → bytes_eq (name_of p.name) a ≡ b → (if b then elements_of (parameter_of p) else type_of_array a (parameters_of (drop (i + 1) ps))) ≡ whole
+  head_type p b lt at e =
+      sym (ap (λ l. type_of_array a (parameters_of l)) (next-entry ps i p lt at) ∙ ap (λ (c : Bool). if c then elements_of (parameter_of p) else type_of_array a (parameters_of (drop (i + 1) ps))) e) ∙ here
+
+  pub other_array : (p : Param) → i < length ps → p ≡ get_or ps i p → bytes_eq (name_of p.name) a ≡ false → type_of_array a (parameters_of (drop (i + 1) ps)) ≡ whole
+  other_array p lt at e = head_type p false lt at e
+
+  pub that_array : (p : Param) → i < length ps → p ≡ get_or ps i p → bytes_eq (name_of p.name) a ≡ true → elements_of (parameter_of p) ≡ whole
+  that_array p lt at e = head_type p true lt at e
+
+  pub no_array : length ps ≤ i → None ≡ whole
+  no_array le = sym (ap (λ l. type_of_array a (parameters_of l)) (drop_all i ps le)) ∙ here
