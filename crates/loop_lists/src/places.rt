@@ -24,12 +24,9 @@ pub fn places_from(
     let mut places = Vec::new(alloc);
     let mut next = first;
     for entry in some {
-        if last_use_if_made(class, all, entry).is_some() {
-            places.push(Some(next))?;
-            next += 1;
-        } else {
-            places.push(None)?;
-        }
+        let is_made = last_use_if_made(class, all, entry).is_some();
+        places.push(is_made.then_some(next))?;
+        next += u32::from(is_made);
     }
     Ok(places)
 }

@@ -1,5 +1,6 @@
 -- What stands in the registers of names, as the code finds it.
-use Rattle.std.proofs.Common.{◌≡◌, ℕ, List, [], ◌∷◌, Bool, true, false, refl}
+use Rattle.std.proofs.Common.{◌≡◌, ℕ, suc, ◌<◌, ◌≤◌, List, [], ◌∷◌, length, drop, get_or, drop-cons, Some, None, Bool, true, false, refl, sym, ap, ◌∙◌}
+use Rattle.std.proofs.lemmas.List.{drop_all}
 use Rattle.std.specs.Prelude.{option_map}
 use Rattle.scalar_words.specs.declared.loose.Loose.{Loose}
 use Rattle.scalar_words.specs.View.{looses_of, form_of, called, form_among}
@@ -12,3 +13,13 @@ one false l ls x e k = rw e k
 pub form_among_is : (ls : List Loose) (x : List ℕ) → option_map form_of (form_among ls x) ≡ loose_in (looses_of ls) x
 form_among_is [] x = refl
 form_among_is (l ∷ ls) x = one (called x l) l ls x refl (form_among_is ls x)
+
+-- where the loop over the names ends
+pub found : (ls : List Loose) (i : ℕ) (d : Loose) (x : List ℕ) → i < length ls → called x (get_or ls i d) ≡ true → form_among (drop i ls) x ≡ form_among ls x → Some (form_of (get_or ls i d).form) ≡ loose_in (looses_of ls) x
+found ls i d x lt e w =
+    let here : drop i ls ≡ get_or ls i d ∷ drop (suc i) ls = drop-cons ls i d lt in
+    let k : form_among (get_or ls i d ∷ drop (suc i) ls) x ≡ Some (get_or ls i d).form = rw e refl in
+    ap (option_map form_of) (sym (ap (λ l. form_among l x) here ∙ k) ∙ w) ∙ form_among_is ls x
+
+pub not_found : (ls : List Loose) (i : ℕ) (x : List ℕ) → length ls ≤ i → form_among (drop i ls) x ≡ form_among ls x → None ≡ loose_in (looses_of ls) x
+not_found ls i x le w = ap (option_map form_of) (sym (ap (λ l. form_among l x) (drop_all i ls le)) ∙ w) ∙ form_among_is ls x

@@ -18,3 +18,6 @@ pub mod KernelNames
 pub mod Binary
 pub mod WordCounts
 pub mod Pieces
+pub mod HalfWords
+pub mod NameSteps
+pub mod ItemSteps

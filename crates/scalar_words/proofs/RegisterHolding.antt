@@ -1,5 +1,7 @@
 -- Registers that hold numbers, as the code finds them.
-use Rattle.std.proofs.Common.{◌≡◌, List, [], ◌∷◌, Bool, true, false, refl}
+use Rattle.std.proofs.Common.{◌≡◌, ℕ, ◌+◌, ◌<◌, ◌≤◌, List, [], ◌∷◌, length, drop, get_or, Some, None, Bool, true, false, refl, sym, ap, ◌∙◌}
+use Rattle.std.proofs.lemmas.List.{drop_all}
+use Rattle.loop_form.proofs.LoopLists.{next-entry}
 use Rattle.std.specs.Prelude.{option_map}
 use Rattle.scalar_words.specs.declared.constant.Constant.{Constant}
 use Rattle.scalar_words.specs.View.{constants_of, keyed, register_number, register_holding}
@@ -12,3 +14,10 @@ one false c cs z e k = rw e k
 pub register_holding_is : (cs : List Constant) (z : Key) → option_map register_number (register_holding cs z) ≡ constant_in (constants_of cs) z
 register_holding_is [] z = refl
 register_holding_is (c ∷ cs) z = one (keyed z c) c cs z refl (register_holding_is cs z)
+
+-- where the loop over the constants ends
+pub found : (cs : List Constant) (i : ℕ) (c : Constant) (z : Key) → i < length cs → c ≡ get_or cs i c → keyed z c ≡ true → register_holding (drop i cs) z ≡ register_holding cs z → Some c.register.number ≡ constant_in (constants_of cs) z
+found cs i c z lt at e w = ap (option_map register_number) (sym (ap (λ l. register_holding l z) (next-entry cs i c lt at) ∙ (let k : register_holding (c ∷ drop (i + 1) cs) z ≡ Some c.register = rw e refl in k)) ∙ w) ∙ register_holding_is cs z
+
+pub not_found : (cs : List Constant) (i : ℕ) (z : Key) → length cs ≤ i → register_holding (drop i cs) z ≡ register_holding cs z → None ≡ constant_in (constants_of cs) z
+not_found cs i z le w = ap (option_map register_number) (sym (ap (λ l. register_holding l z) (drop_all i cs le)) ∙ w) ∙ register_holding_is cs z

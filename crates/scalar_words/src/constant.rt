@@ -2,7 +2,7 @@
 
 ghost use Rattle.std.specs.Prelude.{◌≡◌, option_map};
 ghost use Rattle.loop_form.specs.Needs.{same_number};
-ghost use Rattle.scalar_words.specs.View.{key_of, constants_of, register_holding, register_number};
+ghost use Rattle.scalar_words.specs.View.{key_of, constants_of, register_number};
 ghost use Rattle.scalar_words.specs.Layout.{same_key, constant_in};
 
 use a64_code::Reg;
@@ -46,19 +46,14 @@ fn is_same(key: Key, other: Key) -> bool
     }
 }
 
-fn register_holding(constants: &[Constant], key: Key) -> Option<Reg>
-    ensures { result ≡ register_holding constants.now (key_of key) }
-{
-    constants
-        .iter()
-        .find(|constant| is_same(constant.key, key))
-        .map(|constant| constant.register)
-}
-
 /// The register that holds it.
-#[tactic(auto, using(crate::proofs::RegisterHolding::register_holding_is))]
 pub fn constant_in(constants: &[Constant], key: Key) -> Option<Reg>
     ensures { option_map register_number result ≡ constant_in (constants_of constants.now) (key_of key) }
 {
-    register_holding(constants, key)
+    for constant in constants {
+        if is_same(constant.key, key) {
+            return Some(constant.register);
+        }
+    }
+    None
 }

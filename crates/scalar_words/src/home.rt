@@ -2,7 +2,7 @@
 
 ghost use Rattle.std.specs.Prelude.{◌≡◌};
 ghost use Rattle.kernel_tree.specs.Plain.{name_of};
-ghost use Rattle.scalar_words.specs.View.{homes_of, register_among};
+ghost use Rattle.scalar_words.specs.View.{homes_of};
 ghost use Rattle.scalar_words.specs.Layout as layout;
 
 use a64_code::Reg;
@@ -17,24 +17,16 @@ pub struct Home<'a> {
     pub last_use: Option<usize>,
 }
 
-fn register_among(homes: &[Home], text: &str) -> Option<Reg>
-    ensures { result ≡ register_among homes.now text.now }
-{
-    homes
-        .iter()
-        .find(|home| home.name == text)
-        .map(|home| home.register)
-}
-
 /// The register of a name, by its text.
-#[tactic(auto, using(crate::proofs::RegisterAmong::register_among_is))]
 pub fn register_named(homes: &[Home], text: &str) -> Reg
     ensures { result.number ≡ layout.register_at (homes_of homes.now) text.now }
 {
-    match register_among(homes, text) {
-        Some(register) => register,
-        None => Bits { number: 31 },
+    for home in homes {
+        if home.name == text {
+            return home.register;
+        }
     }
+    Bits { number: 31 }
 }
 
 /// The register of a name.

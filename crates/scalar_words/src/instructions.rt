@@ -1,6 +1,6 @@
 //! The words of constants, extensions and operators.
 
-ghost use Rattle.std.specs.Prelude.{◌≡◌, ◌<◌, ◌≤◌, true, nat_eq, ◌∷◌, []};
+ghost use Rattle.std.specs.Prelude.{◌≡◌, ◌<◌, true, ◌∷◌, []};
 ghost use Rattle.label_fix.specs.Draft.{word_view};
 ghost use Rattle.label_fix.specs.Finished.{is_plain};
 ghost use Rattle.a64_code.specs.Table as table;
@@ -58,36 +58,24 @@ pub fn extending(ty: Ty, d: Reg, a: Reg) -> Word
     ensures { word_view result ≡ words.extending ty d.number a.number }
 {
     match ty {
-        Ty::I8 => signed_field(d, a, 7),
-        Ty::I16 => signed_field(d, a, 15),
-        Ty::I32 => signed_field(d, a, 31),
-        Ty::I64 => signed_field(d, a, 63),
-        Ty::U8 => unsigned_field(d, a, 7),
-        Ty::U16 => unsigned_field(d, a, 15),
-        Ty::U32 => unsigned_field(d, a, 31),
-        Ty::U64 => unsigned_field(d, a, 63),
+        Ty::I8 => field(BitfieldOp::Sbfm, d, a, 7),
+        Ty::I16 => field(BitfieldOp::Sbfm, d, a, 15),
+        Ty::I32 => field(BitfieldOp::Sbfm, d, a, 31),
+        Ty::I64 => field(BitfieldOp::Sbfm, d, a, 63),
+        Ty::U8 => field(BitfieldOp::Ubfm, d, a, 7),
+        Ty::U16 => field(BitfieldOp::Ubfm, d, a, 15),
+        Ty::U32 => field(BitfieldOp::Ubfm, d, a, 31),
+        Ty::U64 => field(BitfieldOp::Ubfm, d, a, 63),
     }
 }
 
-fn signed_field(d: Reg, a: Reg, top: u32) -> Word
+// The low bits of a register up to this one, extended.
+fn field(op: BitfieldOp, d: Reg, a: Reg, top: u32) -> Word
     requires { top < 64 }
-    ensures { word_view result ≡ plain.word_of table.sbfm (d.number ∷ a.number ∷ top ∷ 0 ∷ []) }
+    ensures { word_view result ≡ plain.word_of (seen.bitfield_name op) (d.number ∷ a.number ∷ top ∷ 0 ∷ []) }
 {
     Word::A(A64::Bitfield {
-        op: BitfieldOp::Sbfm,
-        rd: d,
-        rn: a,
-        imms: Bits { number: top },
-        immr: Bits { number: 0 },
-    })
-}
-
-fn unsigned_field(d: Reg, a: Reg, top: u32) -> Word
-    requires { top < 64 }
-    ensures { word_view result ≡ plain.word_of table.ubfm (d.number ∷ a.number ∷ top ∷ 0 ∷ []) }
-{
-    Word::A(A64::Bitfield {
-        op: BitfieldOp::Ubfm,
+        op,
         rd: d,
         rn: a,
         imms: Bits { number: top },
@@ -175,18 +163,13 @@ pub fn is_narrow(ty: Ty) -> bool
     !matches!(ty, Ty::I64 | Ty::U64)
 }
 
-// Whether a half is a number, as a number.
-fn equal(half: u32, number: u32) -> u32
-    ensures count { result ≡ words.one (nat_eq half number) }
-    ensures most { result ≤ 1 }
-{
-    if half == number { 1 } else { 0 }
-}
-
 fn count_halves(number: u32, h0: u32, h1: u32, h2: u32, h3: u32) -> u32
     ensures { result ≡ words.count_halves number h0 h1 h2 h3 }
 {
-    equal(h0, number) + equal(h1, number) + equal(h2, number) + equal(h3, number)
+    u32::from(h0 == number)
+        + u32::from(h1 == number)
+        + u32::from(h2 == number)
+        + u32::from(h3 == number)
 }
 
 /// Whether more halves of a word are all ones than are zero.

@@ -3,7 +3,7 @@
 ghost use Rattle.std.specs.Prelude.{◌≡◌, option_map};
 ghost use Rattle.kernel_tree.specs.Plain.{name_of};
 ghost use Rattle.scalar_words.specs.Layout.{loose_in};
-ghost use Rattle.scalar_words.specs.View.{looses_of, form_of, form_among};
+ghost use Rattle.scalar_words.specs.View.{looses_of, form_of};
 
 use kernel_tree::{Name, Ty};
 
@@ -23,18 +23,16 @@ pub struct Loose<'a> {
     pub form: Form,
 }
 
-fn form_among(loose: &[Loose], text: &str) -> Option<Form>
-    ensures { result ≡ form_among loose.now text.now }
-{
-    loose.iter().find(|it| it.name == text).map(|it| it.form)
-}
-
 /// What stands in a name's register, by the text of the name; None where the value itself does.
-#[tactic(auto, using(crate::proofs::FormAmong::form_among_is))]
 pub fn loose_form_named(loose: &[Loose], text: &str) -> Option<Form>
     ensures { option_map form_of result ≡ loose_in (looses_of loose.now) text.now }
 {
-    form_among(loose, text)
+    for it in loose {
+        if it.name == text {
+            return Some(it.form);
+        }
+    }
+    None
 }
 
 /// What stands in a name's register; None where the value itself does.

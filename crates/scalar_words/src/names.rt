@@ -16,33 +16,34 @@ ghost use Rattle.scalar_words.specs.KernelRegisters as kernels;
 use crate::home::Home;
 use crate::laws::each_has_a_register;
 use crate::places::counted_register;
+use a64_code::Reg;
 use kernel_scope::{Scope, declare, empty, loop_index};
 use kernel_tree::fault::Binding;
 use kernel_tree::laws::few_params;
-use kernel_tree::{Checked, Kernel, Param, Var};
+use kernel_tree::{Checked, Kernel, Name, Param, Var};
 use reg_assign::Assigned;
 use std::alloc::{AllocError, Global};
 use word_rows::Bits;
 
-// A parameter.
-fn declare_param<'a>(
+// A name, and the register that holds its value throughout.
+fn declare_held<'a>(
     scope: &mut Scope<'a>,
     homes: &mut Vec<Home<'a>>,
-    place: u32,
-    param: &'a Param,
+    name: &'a Name,
+    register: Reg,
+    binding: Binding,
 ) -> Result<(), AllocError>
-    requires { place < 8 }
     ensures scope { OnOk result (scope_of scope.new
-        ≡ typing.declared (scope_of scope.old) (name_of param.now.name) (typing.binding_of_shape param.now.shape)) }
+        ≡ typing.declared (scope_of scope.old) (name_of name.now) binding) }
     ensures homes { OnOk result (homes_of homes.new.items
-        ≡ homes_of homes.old.items ++ kernels.param_home place (parameter_of param.now) ∷ []) }
+        ≡ homes_of homes.old.items ++ record { name = name_of name.now; register = register.number; last_use = None } ∷ []) }
 {
     homes.push(Home {
-        name: param.name.text(),
-        register: Bits { number: place },
+        name: name.text(),
+        register,
         last_use: None,
     })?;
-    declare(scope, &param.name, param.shape.binding())
+    declare(scope, name, binding)
 }
 
 /// The parameters, the first of which stands in X0.
@@ -60,7 +61,8 @@ pub fn declare_params<'a>(
 {
     let mut place = 0;
     for param in params {
-        declare_param(scope, homes, place, param)?;
+        let register = Bits { number: place };
+        declare_held(scope, homes, &param.name, register, param.shape.binding())?;
         place += 1;
     }
     Ok(())
@@ -80,12 +82,14 @@ pub fn declare_var<'a>(
     ensures homes { OnOk result (homes_of homes.new.items
         ≡ homes_of homes.old.items ++ kernels.var_home (register_in regs.now) place (accumulator_of var.now) ∷ []) }
 {
-    homes.push(Home {
-        name: var.name.text(),
-        register: counted_register(regs, place),
-        last_use: None,
-    })?;
-    declare(scope, &var.name, Binding::Accumulator(var.ty))
+    let register = counted_register(regs, place);
+    declare_held(
+        scope,
+        homes,
+        &var.name,
+        register,
+        Binding::Accumulator(var.ty),
+    )
 }
 
 // The accumulators, which have the first intervals.
@@ -99,7 +103,6 @@ fn declare_vars<'a>(
     requires within { length vars.now ≤ length regs.now.registers }
     ensures scope { OnOk result (scope_of scope.new
         ≡ typing.after_vars (scope_of scope.old) (accumulators_of vars.now)) }
-    ensures index { OnOk result ((scope_of scope.new).index ≡ (scope_of scope.old).index) }
     ensures homes { OnOk result (homes_of homes.new.items
         ≡ homes_of homes.old.items ++ kernels.var_homes (register_in regs.now) 0 (accumulators_of vars.now)) }
 {
@@ -144,8 +147,12 @@ pub fn kernel_homes<'a>(
     few_params(kernel);
     each_has_a_register(kernel, regs);
     let tree = kernel.kernel();
-    let mut scope = empty(alloc, loop_index(&tree.body));
     let mut homes = Vec::new(alloc);
-    declare_names(&mut scope, &mut homes, regs, tree)?;
-    Ok(homes)
+    let mut scope = empty(alloc, loop_index(&tree.body));
+    let declared = declare_names(&mut scope, &mut homes, regs, tree);
+    drop(scope);
+    match declared {
+        Ok(()) => Ok(homes),
+        Err(full) => Err(full),
+    }
 }

@@ -1,7 +1,11 @@
 //! Emits the code of constants and of operators with two operands, which are in registers.
 
-ghost use Rattle.std.specs.Prelude.{◌≡◌, ◌<◌, OnOk};
+ghost use Rattle.std.specs.Prelude.{◌≡◌, ◌<◌, true, OnOk, List, ◌∷◌, [], if◌then◌else◌};
+ghost use Rattle.label_fix.specs.Draft.{word_view};
+ghost use Rattle.label_fix.specs.Finished.{is_plain};
+ghost use Rattle.label_fix.specs.DraftRun.{DraftEntry, Put, ins};
 ghost use Rattle.label_fix.specs.Emits.{Emits};
+ghost use Rattle.a64_code.specs.Table.{movk};
 ghost use Rattle.scalar_words.specs.Words as words;
 ghost use Rattle.scalar_words.specs.Operands as operands;
 ghost use Rattle.kernel_meaning.specs.Operators as operators;
@@ -12,7 +16,7 @@ use crate::instructions::{
 use a64_code::{AddSubOp, MoveWideOp, Reg, zero};
 use kernel_meaning::{binary_leaves, is_signed};
 use kernel_tree::{BinaryOp, Ty, UpdateOp};
-use label_fix::Draft;
+use label_fix::{Draft, Word};
 use std::alloc::AllocError;
 
 /// A register into another one, where they differ.
@@ -39,49 +43,21 @@ pub fn emit_settle(draft: &mut Draft, leaves: bool, ty: Ty, d: Reg) -> Result<()
     }
 }
 
-// The first half of a constant.
-fn emit_start(
-    draft: &mut Draft,
-    ones: bool,
-    d: Reg,
-    half: u32,
-    place: u32,
-) -> Result<(), AllocError>
+// The word of a half; the one that begins makes the other halves the filler.
+fn half_word(ones: bool, begun: bool, d: Reg, half: u32, place: u32) -> Word
     requires half { half < 65536 }
     requires place { place < 4 }
-    ensures { OnOk result (Emits draft.old draft.new draft.old.labels (words.start_code ones d.number half place)) }
+    ensures plain { is_plain (word_view result) ≡ true }
+    ensures code { (rest : List DraftEntry) → Put (word_view result) ∷ rest
+        ≡ (if begun then ins movk (d.number ∷ half ∷ place ∷ []) ∷ rest else words.start_code ones d.number half place rest) }
 {
-    if ones {
-        draft.put(wide(MoveWideOp::Movn, d, 65535 - half, place))
+    if begun {
+        wide(MoveWideOp::Movk, d, half, place)
+    } else if ones {
+        wide(MoveWideOp::Movn, d, 65535 - half, place)
     } else {
-        draft.put(wide(MoveWideOp::Movz, d, half, place))
+        wide(MoveWideOp::Movz, d, half, place)
     }
-}
-
-// A further half.
-fn emit_half(draft: &mut Draft, ones: bool, d: Reg, half: u32, place: u32) -> Result<(), AllocError>
-    requires half { half < 65536 }
-    requires place { place < 4 }
-    ensures { OnOk result (Emits draft.old draft.new draft.old.labels
-        (words.word_code (words.half_word d.number (words.filler ones) half place))) }
-{
-    if half == filler(ones) {
-        Ok(())
-    } else {
-        draft.put(wide(MoveWideOp::Movk, d, half, place))
-    }
-}
-
-// The last two halves.
-fn emit_last_two(draft: &mut Draft, ones: bool, d: Reg, h2: u32, h3: u32) -> Result<(), AllocError>
-    requires h2 { h2 < 65536 }
-    requires h3 { h3 < 65536 }
-    ensures { OnOk result (Emits draft.old draft.new draft.old.labels
-        (λ rest. words.word_code (words.half_word d.number (words.filler ones) h2 2)
-        (words.word_code (words.half_word d.number (words.filler ones) h3 3) rest))) }
-{
-    emit_half(draft, ones, d, h2, 2)?;
-    emit_half(draft, ones, d, h3, 3)
 }
 
 // A constant by its halves.
@@ -101,20 +77,19 @@ fn emit_halves(
     ensures { OnOk result (Emits draft.old draft.new draft.old.labels (words.halves_code ones d.number h0 h1 h2 h3)) }
 {
     let filler = filler(ones);
-    if h0 != filler {
-        emit_start(draft, ones, d, h0, 0)?;
-        emit_half(draft, ones, d, h1, 1)?;
-        emit_last_two(draft, ones, d, h2, h3)
-    } else if h1 != filler {
-        emit_start(draft, ones, d, h1, 1)?;
-        emit_last_two(draft, ones, d, h2, h3)
-    } else if h2 != filler {
-        emit_start(draft, ones, d, h2, 2)?;
-        emit_half(draft, ones, d, h3, 3)
-    } else if h3 != filler {
-        emit_start(draft, ones, d, h3, 3)
+    let mut begun = false;
+    let mut place = 0;
+    for half in &[h0, h1, h2, h3] {
+        if *half != filler {
+            draft.put(half_word(ones, begun, d, *half, place))?;
+            begun = true;
+        }
+        place += 1;
+    }
+    if begun {
+        Ok(())
     } else {
-        emit_start(draft, ones, d, h0, 0)
+        draft.put(half_word(ones, false, d, h0, 0))
     }
 }
 
@@ -129,17 +104,6 @@ pub fn emit_const(draft: &mut Draft, d: Reg, value: u64) -> Result<(), AllocErro
     emit_halves(draft, has_ones(h0, h1, h2, h3), d, h0, h1, h2, h3)
 }
 
-// The comparison that comes before the word of a minimum or a maximum.
-fn emit_ordering(draft: &mut Draft, op: BinaryOp, a: Reg, b: Reg) -> Result<(), AllocError>
-    ensures { OnOk result (Emits draft.old draft.new draft.old.labels (operands.test_code op a.number b.number)) }
-{
-    if matches!(op, BinaryOp::Min | BinaryOp::Max) {
-        draft.put(add_sub(AddSubOp::Subs, zero(), a, b))
-    } else {
-        Ok(())
-    }
-}
-
 /// The words of an operator with two operands, before its result is settled.
 pub fn emit_operation(
     draft: &mut Draft,
@@ -152,8 +116,14 @@ pub fn emit_operation(
     ensures { OnOk result (Emits draft.old draft.new draft.old.labels
         (words.operation_code op signed d.number a.number b.number)) }
 {
-    emit_ordering(draft, op, a, b)?;
-    draft.put(operation_word(op, signed, d, a, b))
+    let word = operation_word(op, signed, d, a, b);
+    match op {
+        BinaryOp::Min | BinaryOp::Max => {
+            draft.put(add_sub(AddSubOp::Subs, zero(), a, b))?;
+            draft.put(word)
+        }
+        _ => draft.put(word),
+    }
 }
 
 /// The code of an operator with two operands.

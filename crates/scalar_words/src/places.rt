@@ -1,6 +1,6 @@
 //! Where the values of items are kept.
 
-ghost use Rattle.std.specs.Prelude.{◌≡◌, ℕ, ◌+◌, ◌<◌, ◌≤◌, ◌^◌, List, [], ◌∷◌, ◌++◌, IfOk, OnOk, length, map, option_map, unwrap_or};
+ghost use Rattle.std.specs.Prelude.{◌≡◌, ◌+◌, ◌<◌, ◌≤◌, ◌++◌, IfOk, OnOk, length, map, option_map};
 ghost use Rattle.loop_form.specs.Listing.{listing_of};
 ghost use Rattle.loop_form.specs.View.{program};
 ghost use Rattle.kernel_tree.specs.Plain.{name_of};
@@ -9,7 +9,7 @@ ghost use Rattle.reg_assign.specs.Registers.{IsAssignment};
 ghost use Rattle.loop_form.specs.Registers.{FitsKernel};
 ghost use Rattle.scalar_words.specs.Layout.{reg_of, last_use_at, constant_at, with_constants, loose_in, with_loose};
 ghost use Rattle.scalar_words.specs.View.{constants_of, looses_of, form_of, key_of, register_number};
-ghost use Rattle.scalar_words.specs.KernelRegisters.{counted_x, register_in, one_reg, one_value, count_values, item_regs, item_last_use, layout_of_kernel};
+ghost use Rattle.scalar_words.specs.KernelRegisters.{counted_x, register_in, count_values, item_regs, item_last_use, layout_of_kernel};
 
 use crate::constant::{Constant, Key, constant_in};
 use crate::laws::each_has_a_register;
@@ -124,64 +124,33 @@ pub fn counted_register(regs: &Assigned, interval: usize) -> Reg
     }
 }
 
-// One more item, whose value has the next interval if it makes one.
-fn add_item(
-    places: &mut Places,
-    regs: &Assigned,
-    interval: &mut usize,
-    last_use: Option<u32>,
-) -> Result<(), AllocError>
-    requires assigned { IsAssignment 15 regs.now }
-    requires within { interval.old + one_value last_use ≤ length regs.now.registers }
-    requires room { interval.old + 1 < 2 ^ 64 }
-    ensures regs { OnOk result ((more : ℕ → List ℕ)
-        → places.new.regs ++ more interval.new
-        ≡ places.old.regs ++ one_reg (register_in regs.now) interval.old last_use more) }
-    ensures untils { OnOk result (places.new.untils ≡ places.old.untils ++ unwrap_or last_use 0 ∷ []) }
-    ensures constants { OnOk result (places.new.constants ≡ places.old.constants) }
-    ensures loose { OnOk result (places.new.loose ≡ places.old.loose) }
-    ensures next { OnOk result (interval.new ≡ interval.old + one_value last_use) }
-{
-    match last_use {
-        None => {
-            places.regs.push(Bits { number: 0 })?;
-            places.untils.push(0)
-        }
-        Some(last_use) => {
-            places.regs.push(counted_register(regs, *interval))?;
-            places.untils.push(last_use as usize)?;
-            *interval += 1;
-            Ok(())
-        }
-    }
-}
-
-// Items the first interval of which has this number.
-fn place_items<'a>(
-    alloc: Global,
+// The registers and the last uses of items, the first interval of which has this number.
+fn place_items(
+    found: &mut Vec<Reg>,
+    untils: &mut Vec<usize>,
     regs: &Assigned,
     first: usize,
     items: &[Item],
-) -> Result<Places<'a>, AllocError>
+) -> Result<(), AllocError>
     requires assigned { IsAssignment 15 regs.now }
     requires within { first + count_values items.now ≤ length regs.now.registers }
     requires room { first ≤ 1000 }
-    ensures regs { IfOk result (λ p. p.regs ≡ item_regs (register_in regs.now) first items.now) }
-    ensures untils { IfOk result (λ p. p.untils ≡ map item_last_use items.now) }
-    ensures constants { IfOk result (λ p. p.constants ≡ []) }
-    ensures loose { IfOk result (λ p. p.loose ≡ []) }
+    ensures regs { OnOk result (map register_number found.new.items
+        ≡ map register_number found.old.items ++ item_regs (register_in regs.now) first items.now) }
+    ensures untils { OnOk result (untils.new.items ≡ untils.old.items ++ map item_last_use items.now) }
 {
-    let mut places = Places {
-        regs: Vec::new(alloc),
-        untils: Vec::new(alloc),
-        constants: Vec::new(alloc),
-        loose: Vec::new(alloc),
-    };
     let mut interval = first;
     for item in items {
-        add_item(&mut places, regs, &mut interval, item.x_last_use)?;
+        untils.push(item.x_last_use.unwrap_or(0) as usize)?;
+        match item.x_last_use {
+            None => found.push(Bits { number: 0 })?,
+            Some(_) => {
+                found.push(counted_register(regs, interval))?;
+                interval += 1;
+            }
+        }
     }
-    Ok(places)
+    Ok(())
 }
 
 /// The registers and last uses of a kernel's items, by its listing and the registers of its intervals of class X.
@@ -199,5 +168,13 @@ pub fn places_of<'a>(
     few_items(kernel);
     each_has_a_register(kernel, regs);
     let vars = kernel.kernel().vars.len();
-    place_items(alloc, regs, vars, items)
+    let mut found = Vec::new(alloc);
+    let mut untils = Vec::new(alloc);
+    place_items(&mut found, &mut untils, regs, vars, items)?;
+    Ok(Places {
+        regs: found,
+        untils,
+        constants: Vec::new(alloc),
+        loose: Vec::new(alloc),
+    })
 }

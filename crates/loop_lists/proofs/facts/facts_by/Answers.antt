@@ -2,13 +2,13 @@ use Rattle.std.proofs.Common.{◌≡◌, ◌++◌, length, map, ap, ◌∙◌, a
 use Rattle.std.proofs.lemmas.List.{length-map}
 use Rattle.guest_types.specs.declared.length.Width.TheVariants.{B}
 use Rattle.reg_assign.specs.declared.interval.RegClass.TheVariants.{Z, P}
-use Rattle.loop_form.specs.Entries.{entries_of}
+use Rattle.loop_form.specs.Entries.{entries_of, loop_entries}
 use Rattle.loop_form.specs.HeldView.{view_of, view}
 use Rattle.loop_form.specs.Lanes.{widest}
 use Rattle.loop_form.specs.Listing.{item_of}
 use Rattle.loop_form.specs.Needs.{throughout}
 use Rattle.loop_form.specs.Places.{places_from}
-use Rattle.loop_form.specs.View.{program, entries_view}
+use Rattle.loop_form.specs.View.{program, entry_of, entries_view}
 use Rattle.loop_lists.proofs.facts.facts_by.Goals as goal
 
 pub invariant_of-result : goal.invariant_of-result
@@ -30,3 +30,37 @@ invariant_of-result c =
       valued = c.in_ok-values.ensures ∙ ap (λ n. places_from Z all n looped) count ∙ ap (λ es. places_from Z es (length (throughout k Z)) looped) c.requires.all ∙ ap (places_from Z (entries_of k) (length (throughout k Z))) c.requires.looped;
       tested = c.in_ok-truths.ensures ∙ ap (λ es. places_from P es 0 looped) c.requires.all ∙ ap (places_from P (entries_of k) 0) c.requires.looped;
     }
+
+-- how many are held, and how many items the loop has
+pub overflow_cast-len : goal.overflow_cast-len
+overflow_cast-len c =
+    let k = program c.args.kernel.now in
+    let number = c.len.ensures in
+    let held = c.in_ok-push_of_loop.ensures ∙ ap (λ hs. view hs ++ throughout k Z) c.new-held.ensures.items in
+    let many : length (map view_of c.push_of_loop.new.held.items) ≡ length (throughout k Z) = ap length held in
+    let same = length-map c.push_of_loop.new.held.items view_of in
+    let few = c.few_intervals.ensures in
+    record { fits = omega (arith, number, many, same, few) }
+
+pub push_of_loop-requires : goal.push_of_loop-requires
+push_of_loop-requires c = c.requires.looped
+
+pub places_from-requires : goal.places_from-requires
+places_from-requires c =
+    let k = program c.args.kernel.now in
+    let number = c.len.ensures in
+    let held = c.in_ok-push_of_loop.ensures ∙ ap (λ hs. view hs ++ throughout k Z) c.new-held.ensures.items in
+    let many : length (map view_of c.push_of_loop.new.held.items) ≡ length (throughout k Z) = ap length held in
+    let same = length-map c.push_of_loop.new.held.items view_of in
+    let looped : length (entries_view c.args.looped.now) ≡ length (loop_entries k) = ap length c.requires.looped in
+    let items = length-map c.args.looped.now entry_of in
+    let few = c.few_intervals.ensures in
+    omega (arith, number, many, same, looped, items, few)
+
+pub places_from-requires-2 : goal.places_from-requires-2
+places_from-requires-2 c =
+    let k = program c.args.kernel.now in
+    let looped : length (entries_view c.args.looped.now) ≡ length (loop_entries k) = ap length c.requires.looped in
+    let items = length-map c.args.looped.now entry_of in
+    let few = c.few_intervals.ensures in
+    omega (arith, looped, items, few)

@@ -9,6 +9,5 @@ use Rattle.scalar_words.proofs.names.declare_vars.Given as goal
 abbrev pub invariant-loop-place : goal.invariant-loop-place
 invariant-loop-place l = record {
   scope : typing.after_vars (scope_of l.scope) (accumulators_of (drop l.place l.vars)) ≡ typing.after_vars (scope_of l.fn.scope) (accumulators_of l.vars);
-  index : (scope_of l.scope).index ≡ (scope_of l.fn.scope).index;
   homes : homes_of l.homes.items ++ kernels.var_homes (kernels.register_in l.regs) l.place (accumulators_of (drop l.place l.vars)) ≡ homes_of l.fn.homes.items ++ kernels.var_homes (kernels.register_in l.regs) 0 (accumulators_of l.vars);
 }

@@ -1,0 +1,14 @@
+use Rattle.loop_form.specs.View.{entries_view}
+use Rattle.loop_lists.proofs.Steps.{few_more, more_places, all_places}
+use Rattle.loop_lists.proofs.places.places_from.Goals as goal
+
+pub loop-entry-preserved : goal.loop-entry-preserved
+loop-entry-preserved c =
+    let l = c.loop-entry in
+    record {
+      small = few_more l.next c.args.first l.entry-index c.from-next.result _ c.from-next.ensures l.invariant.small;
+      places = more_places c.args.class (entries_view c.args.all.now) c.args.some.now l.entry-index c.entry-item.result l.next c.from-next.result c.is_some-is_made.result c.then_some.result c.last_use_if_made.result _ _ _ c.loop-entry-test.true c.entry-item.is c.last_use_if_made.ensures c.is_some-is_made.ensures c.then_some.ensures c.from-next.ensures c.in_ok-push.ensures.items l.invariant.places;
+    }
+
+pub returns : goal.returns
+returns c = all_places c.args.class (entries_view c.args.all.now) c.args.some.now c.loop-entry.entry-index c.loop-entry.next _ _ c.loop-entry-test.false c.loop-entry.invariant.places

@@ -1,0 +1,9 @@
+use Rattle.std.proofs.Common.{sym, ◌∙◌}
+use Rattle.scalar_words.proofs.RegisterAmong.{found, not_found}
+use Rattle.scalar_words.proofs.home.register_named.Goals as goal
+
+pub returns-then-eq : goal.returns-then-eq
+returns-then-eq c = found c.args.homes.now c.loop-home.home-index c.home-item.result c.args.text.now c.loop-home-test.true c.home-item.is (sym c.eq.ensures ∙ c.if-eq.true) c.loop-home.invariant
+
+pub returns : goal.returns
+returns c = not_found c.args.homes.now c.loop-home.home-index c.args.text.now c.loop-home-test.false c.loop-home.invariant
