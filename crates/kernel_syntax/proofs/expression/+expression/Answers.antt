@@ -1,15 +1,22 @@
-use Rattle.std.proofs.Common.{◌≡◌, ◌-◌, ◌<◌, ◌≤◌, length, Err, refl, sym, ◌∙◌, ap, arith}
+use Rattle.std.proofs.Common.{◌≡◌, ◌-◌, ◌<◌, ◌≤◌, List, length, take, drop, Some, None, Err, refl, sym, ◌∙◌, ap, arith}
+use Rattle.std.proofs.lemmas.Grind.{common_steps}
 use Rattle.std.proofs.lemmas.Result.{err_from_is_err_and}
 use Rattle.std.proofs.lemmas.List.{length-map}
 use Rattle.kernel_tree.specs.Plain.{term_of, words_of, word_of}
-use Rattle.kernel_syntax.specs.Reading.{chain_at, unary_at, signed_by, choice_by, pair_by, absolute_by, term_before}
+use Rattle.kernel_tree.specs.declared.token.Token.{Token}
+use Rattle.kernel_tree.specs.Grammar.{opening_of_mark}
+use Rattle.kernel_syntax.specs.Reading.{mark_at, chain_at, unary_at, signed_by, choice_by, pair_by, absolute_by, term_before}
 use Rattle.kernel_syntax.specs.Operands.{joined_by, compared_by}
 use Rattle.kernel_syntax.proofs.Chain.{chain-zero, chain-above, fails_on, begins, ends, takes, ends_at, refuses}
-use Rattle.kernel_syntax.proofs.Rooms.{unary-some}
+use Rattle.kernel_syntax.proofs.Rooms.{unopened}
 use Rattle.kernel_syntax.proofs.Within.{reads_go}
 use Rattle.kernel_syntax.proofs.Shorter.{chain_short, extended_short}
 use Rattle.kernel_syntax.proofs.SignRows.{wraps_none, wraps_more, wraps_fails, wraps_stops, wraps_all}
 use Rattle.kernel_syntax.proofs.expression.+expression.Goals as goal
+
+-- the tokens after the first
+abbrev following : List Token → List Token
+following ts = take (length ts - 1) (drop 1 ts)
 
 pub chain-returns-then-level-eq0 : goal.chain-returns-then-level-eq0
 chain-returns-then-level-eq0 t c = rw (chain-zero (unary_at c.args.room) c.args.level (words_of c.args.tokens.now) c.if-level-eq0.true) c.unary.ensures
@@ -46,8 +53,11 @@ chain-more-smaller t c =
 pub chain-returns : goal.chain-returns
 chain-returns t c = ends (unary_at c.args.room) c.args.level (words_of c.args.tokens.now) (term_of c.more.left.value) (words_of c.more.rest.now) c.more.invariant.1 c.in_default.ensures.value
 
-pub unary-returns : goal.unary-returns
-unary-returns t c = rw (unary-some c.args.room (words_of c.args.tokens.now) (omega arith)) c.begun.ensures
+pub unary-returns-in-None : goal.unary-returns-in-None
+unary-returns-in-None t c =
+    let front : mark_at (words_of c.args.tokens.now) ≡ Some (c.in-Mark.mark, words_of (following c.args.tokens.now)) = grind (arith, common_steps) in
+    let none : opening_of_mark c.in-Mark.mark ≡ None = grind (arith, common_steps) in
+    unopened c.args.room (words_of c.args.tokens.now) c.in-Mark.mark _ (omega arith) front none ∙ ap Err (length-map c.args.tokens.now word_of)
 
 pub signed-more-init : goal.signed-more-init
 signed-more-init t c = record { short = omega arith; less = omega arith; wraps = rw c.new-signs.ensures.items (wraps_none (signed_by (unary_at c.args.room) c.args.sign (words_of c.args.tokens.now))) }
