@@ -3,7 +3,7 @@
 ghost use Rattle.std.specs.Prelude.{◌≡◌, ◌<◌, length, IfOk, IfSome, option_map};
 ghost use Rattle.kernel_tree.specs.Plain.{name_of, words_of};
 ghost use Rattle.kernel_tree.specs.Grammar.{number_at};
-ghost use Rattle.kernel_syntax.specs.Reading.{Gives, following, past, name_at, type_at, operator_at};
+ghost use Rattle.kernel_syntax.specs.Reading.{Gives, following, past, name_at, name_before, type_at, operator_at};
 
 use crate::class;
 use crate::fault::Stop;
@@ -64,6 +64,15 @@ pub fn expect_name<'a>(tokens: &'a [Token]) -> Result<(&'a Name, &'a [Token]), S
         [Token::Name(name), rest @ ..] => Ok((name, rest)),
         _ => Err(Stop::Syntax { left: tokens.len() }),
     }
+}
+
+// The name that must stand at the front, and the tokens after a mark that must follow it.
+#[tactic(auto, unfolding(crate::specs::Reading::name_before))]
+pub fn name_then<'a>(tokens: &'a [Token], mark: Mark) -> Result<(&'a Name, &'a [Token]), Stop>
+    ensures { Gives (λ x. (name_of x.0.now, words_of x.1.now)) result (name_before mark (words_of tokens.now)) }
+{
+    let (name, following) = expect_name(tokens)?;
+    Ok((name, expect(following, mark)?))
 }
 
 // The type that must stand at the front.

@@ -6,7 +6,7 @@ ghost use Rattle.kernel_syntax.specs.Reading.{Gives};
 ghost use Rattle.kernel_syntax.specs.Headers.{shape_at, param_at, params_at, var_at, vars_at, zero_at, loop_at, tail_at, answer_by};
 
 use crate::fault::Stop;
-use crate::front::{accept, copy_name, expect, expect_name, expect_type};
+use crate::front::{accept, copy_name, expect, expect_type, name_then};
 use crate::statement::{block, term};
 use kernel_tree::mark::Mark;
 use kernel_tree::token::Token;
@@ -35,8 +35,7 @@ fn read_shape<'a>(tokens: &'a [Token]) -> Result<(Shape, &'a [Token]), Stop>
 fn parameter<'a>(alloc: Global, tokens: &'a [Token]) -> Result<(Param, &'a [Token]), Stop>
     ensures { Gives (λ x. (parameter_of x.0, words_of x.1.now)) result (param_at (words_of tokens.now)) }
 {
-    let (name, following) = expect_name(tokens)?;
-    let from = expect(following, Mark::Colon)?;
+    let (name, from) = name_then(tokens, Mark::Colon)?;
     let (shape, rest) = read_shape(from)?;
     Ok((
         Param {
@@ -80,8 +79,7 @@ pub fn params<'a>(alloc: Global, tokens: &'a [Token]) -> Result<(Vec<Param>, &'a
 fn accumulator<'a>(alloc: Global, tokens: &'a [Token]) -> Result<(Var, &'a [Token]), Stop>
     ensures { Gives (λ x. (accumulator_of x.0, words_of x.1.now)) result (var_at (words_of tokens.now)) }
 {
-    let (name, following) = expect_name(tokens)?;
-    let from = expect(following, Mark::Colon)?;
+    let (name, from) = name_then(tokens, Mark::Colon)?;
     let (ty, next) = expect_type(from)?;
     let value = expect(next, Mark::Equals)?;
     let name = copy_name(alloc, name)?;
@@ -129,12 +127,10 @@ pub fn body<'a>(alloc: Global, tokens: &'a [Token]) -> Result<(Option<Loop>, &'a
     let Some(start) = accept(tokens, Mark::For) else {
         return Ok((None, tokens));
     };
-    let (index, following) = expect_name(start)?;
-    let from = expect(following, Mark::In)?;
+    let (index, from) = name_then(start, Mark::In)?;
     let range = expect_zero(from)?;
     let end = expect(range, Mark::Range)?;
-    let (bound, next) = expect_name(end)?;
-    let inside = expect(next, Mark::OpenBrace)?;
+    let (bound, inside) = name_then(end, Mark::OpenBrace)?;
     let (body, rest) = block(alloc, inside, true, inside.len())?;
     let index = copy_name(alloc, index)?;
     let bound = copy_name(alloc, bound)?;

@@ -3,12 +3,13 @@ use Rattle.std.proofs.lemmas.Grind.{common_steps}
 use Rattle.std.proofs.lemmas.Result.{err_from_is_err_and}
 use Rattle.std.proofs.lemmas.List.{length-map}
 use Rattle.kernel_tree.specs.Plain.{term_of, words_of, word_of}
+use Rattle.kernel_tree.specs.declared.mark.Opening.TheVariants as opening
 use Rattle.kernel_tree.specs.declared.token.Token.{Token}
 use Rattle.kernel_tree.specs.Grammar.{opening_of_mark}
 use Rattle.kernel_syntax.specs.Reading.{mark_at, chain_at, unary_at, signed_by, choice_by, pair_by, absolute_by, term_before}
 use Rattle.kernel_syntax.specs.Operands.{joined_by, compared_by}
 use Rattle.kernel_syntax.proofs.Chain.{chain-zero, chain-above, fails_on, begins, ends, takes, ends_at, refuses}
-use Rattle.kernel_syntax.proofs.Rooms.{unopened}
+use Rattle.kernel_syntax.proofs.Rooms.{opens, unopened}
 use Rattle.kernel_syntax.proofs.Within.{reads_go}
 use Rattle.kernel_syntax.proofs.Shorter.{chain_short, extended_short}
 use Rattle.kernel_syntax.proofs.SignRows.{wraps_none, wraps_more, wraps_fails, wraps_stops, wraps_all}
@@ -58,6 +59,36 @@ unary-returns-in-None t c =
     let front : mark_at (words_of c.args.tokens.now) ≡ Some (c.in-Mark.mark, words_of (following c.args.tokens.now)) = grind (arith, common_steps) in
     let none : opening_of_mark c.in-Mark.mark ≡ None = grind (arith, common_steps) in
     unopened c.args.room (words_of c.args.tokens.now) c.in-Mark.mark _ (omega arith) front none ∙ ap Err (length-map c.args.tokens.now word_of)
+
+pub unary-returns-in-Some-Group : goal.unary-returns-in-Some-Group
+unary-returns-in-Some-Group t c =
+    let front : mark_at (words_of c.args.tokens.now) ≡ Some (c.in-Mark.mark, words_of (following c.args.tokens.now)) = grind (arith, common_steps) in
+    let kind : opening_of_mark c.in-Mark.mark ≡ Some opening.Group = grind (arith, common_steps) in
+    rw (opens c.args.room (words_of c.args.tokens.now) c.in-Mark.mark _ _ (omega arith) front kind) c.term_then.ensures
+
+pub unary-returns-in-Some-Pair : goal.unary-returns-in-Some-Pair
+unary-returns-in-Some-Pair t c =
+    let front : mark_at (words_of c.args.tokens.now) ≡ Some (c.in-Mark.mark, words_of (following c.args.tokens.now)) = grind (arith, common_steps) in
+    let kind : opening_of_mark c.in-Mark.mark ≡ Some (opening.Pair c.in-Some-Pair.op) = grind (arith, common_steps) in
+    rw (opens c.args.room (words_of c.args.tokens.now) c.in-Mark.mark _ _ (omega arith) front kind) c.pair.ensures
+
+pub unary-returns-in-Some-Absolute : goal.unary-returns-in-Some-Absolute
+unary-returns-in-Some-Absolute t c =
+    let front : mark_at (words_of c.args.tokens.now) ≡ Some (c.in-Mark.mark, words_of (following c.args.tokens.now)) = grind (arith, common_steps) in
+    let kind : opening_of_mark c.in-Mark.mark ≡ Some opening.Absolute = grind (arith, common_steps) in
+    rw (opens c.args.room (words_of c.args.tokens.now) c.in-Mark.mark _ _ (omega arith) front kind) c.absolute.ensures
+
+pub unary-returns-in-Some-Choice : goal.unary-returns-in-Some-Choice
+unary-returns-in-Some-Choice t c =
+    let front : mark_at (words_of c.args.tokens.now) ≡ Some (c.in-Mark.mark, words_of (following c.args.tokens.now)) = grind (arith, common_steps) in
+    let kind : opening_of_mark c.in-Mark.mark ≡ Some opening.Choice = grind (arith, common_steps) in
+    rw (opens c.args.room (words_of c.args.tokens.now) c.in-Mark.mark _ _ (omega arith) front kind) c.choice.ensures
+
+pub unary-returns-in-Some-Signed : goal.unary-returns-in-Some-Signed
+unary-returns-in-Some-Signed t c =
+    let front : mark_at (words_of c.args.tokens.now) ≡ Some (c.in-Mark.mark, words_of (following c.args.tokens.now)) = grind (arith, common_steps) in
+    let kind : opening_of_mark c.in-Mark.mark ≡ Some (opening.Signed c.in-Some-Signed.sign) = grind (arith, common_steps) in
+    rw (opens c.args.room (words_of c.args.tokens.now) c.in-Mark.mark _ _ (omega arith) front kind) c.signed.ensures
 
 pub signed-more-init : goal.signed-more-init
 signed-more-init t c = record { short = omega arith; less = omega arith; wraps = rw c.new-signs.ensures.items (wraps_none (signed_by (unary_at c.args.room) c.args.sign (words_of c.args.tokens.now))) }
@@ -157,3 +188,19 @@ unfolding compared_by
 extended-returns-in_err-right-in-Compared t c =
     let p = err_from_is_err_and c.from_residual-in_err-right-in-Compared.result c.from_residual-in_err-right-in-Compared.ensures.1 in
     rw (p.1, p.2, c.in-Compared.is) (fails_on _ _ _ _ refl c.in_err-right-in-Compared.ensures)
+
+pub choice-returns : goal.choice-returns
+unfolding choice_by
+choice-returns t c = rw (c.in_ok-from.ensures, c.in_ok-cond.ensures, c.in_ok-yes.ensures, c.in_ok-no.ensures) c.read.ensures
+
+pub pair-returns : goal.pair-returns
+unfolding pair_by
+pair-returns t c = rw (c.in_ok-from.ensures, c.in_ok-left.ensures, c.in_ok-right.ensures) c.read.ensures
+
+pub absolute-returns : goal.absolute-returns
+unfolding absolute_by
+absolute-returns t c = rw (c.in_ok-from.ensures, c.in_ok-arg.ensures) c.read.ensures
+
+pub term_then-returns : goal.term_then-returns
+unfolding term_before
+term_then-returns t c = rw (c.in_ok-e.ensures, c.in_ok-expect.ensures) refl
