@@ -247,8 +247,8 @@ fn operand<'a>(
     ensures { Gives (λ x. (term_of x.0.value, words_of x.1.now)) result
         (signed_by (unary_at room) sign (words_of tokens.now)) }
 {
-    match (sign, tokens) {
-        (Sign::Minus, [Token::Number(n), rest @ ..]) => {
+    match (sign, front_number(tokens)) {
+        (Sign::Minus, Some((n, rest))) => {
             build::read(alloc, Expr::Lit(-(n.value as i128)), rest)
         }
         _ => {
