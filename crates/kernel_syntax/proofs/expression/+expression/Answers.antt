@@ -204,3 +204,66 @@ absolute-returns t c = rw (c.in_ok-from.ensures, c.in_ok-arg.ensures) c.read.ens
 pub term_then-returns : goal.term_then-returns
 unfolding term_before
 term_then-returns t c = rw (c.in_ok-e.ensures, c.in_ok-expect.ensures) refl
+
+pub extended-chain-requires : goal.extended-chain-requires
+extended-chain-requires t c = (omega arith, omega arith)
+
+pub extended-chain-requires-in-Compared : goal.extended-chain-requires-in-Compared
+extended-chain-requires-in-Compared t c = (omega arith, omega arith)
+
+pub chain-unary-requires : goal.chain-unary-requires
+chain-unary-requires t c = omega arith
+
+pub chain-chain-requires : goal.chain-chain-requires
+chain-chain-requires t c = (omega arith, omega arith)
+
+pub chain-extended-requires : goal.chain-extended-requires
+chain-extended-requires t c = (omega arith, omega arith)
+
+pub unary-named-requires : goal.unary-named-requires
+unary-named-requires t c = omega arith
+
+pub unary-term_then-requires : goal.unary-term_then-requires
+unary-term_then-requires t c = omega arith
+
+pub unary-pair-requires : goal.unary-pair-requires
+unary-pair-requires t c = omega arith
+
+pub unary-absolute-requires : goal.unary-absolute-requires
+unary-absolute-requires t c = omega arith
+
+pub unary-choice-requires : goal.unary-choice-requires
+unary-choice-requires t c = omega arith
+
+pub unary-signed-requires : goal.unary-signed-requires
+unary-signed-requires t c = omega arith
+
+pub term_then-chain-requires : goal.term_then-chain-requires
+term_then-chain-requires t c = (omega arith, omega arith)
+
+pub named-term_then-requires : goal.named-term_then-requires
+named-term_then-requires t c = omega arith
+
+pub pair-term_then-requires : goal.pair-term_then-requires
+pair-term_then-requires t c = omega arith
+
+pub pair-term_then-requires-2 : goal.pair-term_then-requires-2
+pair-term_then-requires-2 t c = omega arith
+
+pub absolute-term_then-requires : goal.absolute-term_then-requires
+absolute-term_then-requires t c = omega arith
+
+pub choice-term_then-requires : goal.choice-term_then-requires
+choice-term_then-requires t c = omega arith
+
+pub choice-term_then-requires-2 : goal.choice-term_then-requires-2
+choice-term_then-requires-2 t c = omega arith
+
+pub choice-term_then-requires-3 : goal.choice-term_then-requires-3
+choice-term_then-requires-3 t c = omega arith
+
+pub operand-unary-requires : goal.operand-unary-requires
+operand-unary-requires t c = omega arith
+
+pub signed-operand-requires : goal.signed-operand-requires
+signed-operand-requires t c = omega arith

@@ -104,3 +104,15 @@ statement-returns-in-None t c =
     let front : mark_at (words_of c.args.tokens.now) ≡ Some (c.in-Mark.mark, words_of (following c.args.tokens.now)) = grind (arith, common_steps) in
     let kind : beginning_of_mark c.in-Mark.mark ≡ None = grind (arith, common_steps) in
     unbegun c.args.whole _ (words_of c.args.tokens.now) c.in-Mark.mark _ front kind ∙ ap Err (length-map c.args.tokens.now word_of)
+
+pub choice-block-requires : goal.choice-block-requires
+choice-block-requires t c = omega arith
+
+pub choice-block-requires-in-Some : goal.choice-block-requires-in-Some
+choice-block-requires-in-Some t c = omega arith
+
+pub statement-choice-requires : goal.statement-choice-requires
+statement-choice-requires t c = omega arith
+
+pub block-statement-requires : goal.block-statement-requires
+block-statement-requires t c = omega arith
