@@ -1,13 +1,17 @@
 -- The statements of a block, as far as a loop has read them.
-use Rattle.std.proofs.Common.{◌≡◌, ℕ, zero, suc, ◌-◌, ◌<◌, Bool, false, List, [], ◌∷◌, ◌++◌, length, Some, None, Result, Ok, Err, refl, sym, ap, ◌∙◌, arith}
+use Rattle.std.proofs.Common.{◌≡◌, ℕ, zero, suc, ◌-◌, ◌<◌, Bool, false, List, [], ◌∷◌, ◌++◌, length, Option, Some, None, Result, Ok, Err, refl, sym, ap, ◌∙◌, arith}
 use Rattle.kernel_tree.specs.declared.ast.Stmt.{Stmt}
+use Rattle.kernel_tree.specs.declared.mark.Mark.{Mark}
 use Rattle.kernel_tree.specs.declared.mark.Mark.TheVariants as mark
+use Rattle.kernel_tree.specs.declared.mark.Beginning.{Beginning}
+use Rattle.kernel_tree.specs.Grammar.{beginning_of_mark}
 use Rattle.kernel_tree.specs.TextToken.{TextToken}
 use Rattle.kernel_tree.specs.Plain.{Block, Done, Then, action_of, block_of}
 use Rattle.kernel_syntax.specs.declared.fault.Stop.{Stop}
-use Rattle.kernel_syntax.specs.Reading.{◌>>=◌, Fails, given, following}
-use Rattle.kernel_syntax.specs.Statements.{Statement, Statements, block_by, statement_by, block_at}
+use Rattle.kernel_syntax.specs.Reading.{◌>>=◌, Fails, given, following, mark_at}
+use Rattle.kernel_syntax.specs.Statements.{Statement, Statements, block_by, begun_by, statement_by, block_at}
 use Rattle.kernel_syntax.proofs.Chain.{fails_on}
+use Rattle.kernel_syntax.proofs.Sound.{mark-is}
 
 -- statements in front of a block
 abbrev pub before : List Stmt → Block → Block
@@ -73,3 +77,13 @@ pub block-some : (whole : Bool) (room : ℕ) (words : List TextToken) → 0 < ro
 unfolding block_at
 block-some whole zero words h = absurd (omega arith)
 block-some whole (suc room) words h = let e : suc room - 1 ≡ room = omega arith in rw e refl
+
+-- ---- what a mark begins
+
+pub begins : (whole : Bool) (block : List TextToken → Statements) (words : List TextToken) (m : Mark) (rest : List TextToken) (o : Option Beginning) → mark_at words ≡ Some (m, rest) → beginning_of_mark m ≡ o → statement_by whole block words ≡ begun_by whole block o rest
+unfolding statement_by
+begins whole block words m rest o e k = rw (mark-is words (m, rest) e, k) refl
+
+pub unbegun : (whole : Bool) (block : List TextToken → Statements) (words : List TextToken) (m : Mark) (rest : List TextToken) → mark_at words ≡ Some (m, rest) → beginning_of_mark m ≡ None → statement_by whole block words ≡ Err (length words)
+unfolding statement_by
+unbegun whole block words m rest e k = rw (mark-is words (m, rest) e, k) refl

@@ -24,3 +24,4 @@ pub mod Extend
 pub mod FrontsCut
 pub mod Place
 mod Examples
+pub mod Names

@@ -1,5 +1,5 @@
 -- What reading comes to.
-use Rattle.std.proofs.Common.{◌≡◌, ℕ, suc, ◌≤◌, false, List, [], ◌∷◌, length, Option, Some, None, Result, Ok, Err, sym, ap, ◌∙◌, arith, inl, inr}
+use Rattle.std.proofs.Common.{◌≡◌, ℕ, suc, ◌≤◌, false, List, [], ◌∷◌, length, Option, Some, None, Result, Ok, Err, refl, sym, ap, ◌∙◌, arith, inl, inr}
 use Rattle.std.specs.Prelude.{nat_lt, option_map, IfOk}
 use Rattle.std.proofs.lemmas.Bool.{cond-true, cond-false}
 use Rattle.std.proofs.lemmas.Bool.Decides.{leb_tells}
@@ -51,3 +51,7 @@ read_within text (Err e) g = tt
 pub left_following : (k : Program) (ts : List Token) → 1 ≤ length ts → alone k (words_of ts) ≡ Err (length ts)
 left_following k [] h = absurd (omega arith)
 left_following k (t ∷ ts) h = ap (λ n. Err (suc n)) (length-map ts word_of)
+
+pub nothing_following : (k : Program) (ts : List Token) → length ts ≡ 0 → alone k (words_of ts) ≡ Ok k
+nothing_following k [] h = refl
+nothing_following k (t ∷ ts) h = absurd (omega arith)

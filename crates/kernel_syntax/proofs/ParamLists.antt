@@ -6,7 +6,7 @@ use Rattle.kernel_tree.specs.TextToken.{TextToken}
 use Rattle.kernel_tree.specs.Plain.{Parameter, Accumulator}
 use Rattle.kernel_syntax.specs.declared.fault.Stop.{Stop}
 use Rattle.kernel_syntax.specs.Reading.{◌>>=◌, Fails, given, following, past}
-use Rattle.kernel_syntax.specs.Headers.{Read, param_at, some_at, var_at, vars_by, vars_at}
+use Rattle.kernel_syntax.specs.Headers.{Read, param_at, some_at, params_at, var_at, vars_by, vars_at}
 use Rattle.kernel_syntax.proofs.Chain.{fails_on}
 use Rattle.kernel_syntax.proofs.Blocks.{bind_assoc}
 
@@ -40,8 +40,9 @@ some-is (suc others) words = refl
 pub record ParamsFollow (whole : Read (List Parameter)) (others : ℕ) (ps : List Parameter) (rest : List TextToken) : Type 0 where
   pub same : (some_at others rest >>= in_list ps) ≡ whole
 
-pub params_start : (others : ℕ) (words : List TextToken) → ParamsFollow (some_at others words) others [] words
-params_start others words = record { same = nothing_before (some_at others words) }
+pub params_start : (words : List TextToken) → None ≡ following mark.CloseParen words → ParamsFollow (params_at words) 7 [] words
+unfolding params_at
+params_start words e = record { same = nothing_before (some_at 7 words) ∙ ap (λ o. given o (λ rest. Ok ([], rest)) (some_at 7 words)) e }
 
 module _ (whole : Read (List Parameter)) (others : ℕ) (ps : List Parameter) (rest : List TextToken) (f : ParamsFollow whole others ps rest) where
   first : whole ≡ (param_at rest >>= (λ p. by_param others p >>= in_list ps))

@@ -93,6 +93,10 @@ type_at words = needed (type_front words) (length words)
 unfoldable pub count_at : List TextToken → Result (ℕ × List TextToken) ℕ
 count_at words = needed (number_at words) (length words)
 
+-- a name and a mark after it
+unfoldable pub name_before : Mark → List TextToken → Result (List ℕ × List TextToken) ℕ
+name_before m words = name_at words >>= (λ x. past m x.1 >>= (λ rest. Ok (x.0, rest)))
+
 -- the operator at the front, where it is of a level, and the tokens after it
 unfoldable pub operator_at : ℕ → List TextToken → Option (Operator × List TextToken)
 operator_at level [] = None

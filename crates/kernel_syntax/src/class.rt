@@ -2,7 +2,7 @@
 
 ghost use Rattle.std.specs.Prelude.{◌≡◌};
 ghost use Rattle.kernel_tree.specs.Plain.{word_of};
-ghost use Rattle.kernel_tree.specs.Grammar.{operator_of, operator_of_mark, opening_of_mark, beginning_of_mark, level_of, level_of_joint, level_of_dual};
+ghost use Rattle.kernel_tree.specs.Grammar.{operator_of, operator_of_mark, opening_of_mark, beginning_of_mark, level_of, level_of_dual};
 ghost use Rattle.kernel_syntax.specs.Operands.{is_comparison};
 
 use kernel_tree::BinaryOp;
@@ -52,16 +52,6 @@ fn dual_level(op: BinaryOp) -> u8
     }
 }
 
-fn joint_level(joint: Joint) -> u8
-    ensures { result ≡ level_of_joint joint }
-{
-    match joint {
-        Joint::Dual(op) => dual_level(op),
-        Joint::Both => 9,
-        Joint::Either => 10,
-    }
-}
-
 // Whether an operator is a comparison, after which nothing of its level goes on.
 pub fn compares(operator: Operator) -> bool
     ensures { result ≡ is_comparison operator }
@@ -77,7 +67,9 @@ pub fn level(operator: Operator) -> u8
         Operator::As => 1,
         Operator::Shifted(_) => 4,
         Operator::Compared(_) => 8,
-        Operator::Joined(joint) => joint_level(joint),
+        Operator::Joined(Joint::Dual(op)) => dual_level(op),
+        Operator::Joined(Joint::Both) => 9,
+        Operator::Joined(Joint::Either) => 10,
     }
 }
 

@@ -2,18 +2,15 @@
 
 ghost use Rattle.std.specs.Prelude.{◌≡◌, ◌≤◌, ◌<◌, length, IfOk, IfSome, option_map};
 ghost use Rattle.kernel_tree.specs.Plain.{term_of, name_of, words_of};
-ghost use Rattle.kernel_tree.specs.Grammar.{number_following, opening_of_mark};
-ghost use Rattle.kernel_syntax.specs.Reading.{Gives, chain_at, unary_at, term_before, name_by, pair_by, absolute_by, choice_by, signed_by, opened_by, unary_by, sign_front};
+ghost use Rattle.kernel_syntax.specs.Reading.{Gives, chain_at, unary_at, term_before, name_by, pair_by, absolute_by, choice_by, signed_by, sign_front};
 ghost use Rattle.kernel_syntax.specs.Operands.{extended_by};
 ghost use Rattle.kernel_syntax.specs.Signs.{all_signed};
 
 use crate::fault::Stop;
-use crate::front::{
-    accept, copy_name, expect, expect_number, expect_type, front_mark, front_number, front_operator,
-};
+use crate::front::{accept, copy_name, expect, expect_type, front_number, front_operator};
 use crate::{build, class};
 use kernel_tree::mark::{Mark, Opening, Operator, Sign};
-use kernel_tree::token::{Number, Token};
+use kernel_tree::token::Token;
 use kernel_tree::{BinaryOp, Expr, Name, UnaryOp};
 use std::alloc::{AllocError, Global};
 
@@ -22,7 +19,7 @@ const ANY: u8 = 10;
 
 // What an operator and what stands after it make of a first operand.
 #[cycle(expression)]
-#[tactic(auto, unfolding(crate::specs::Operands::joined_by, crate::specs::Operands::compared_by, crate::specs::Operands::shifted_by, crate::specs::Operands::converted_by))]
+#[tactic(auto, unfolding(crate::specs::Operands::joined_by, crate::specs::Operands::compared_by, crate::specs::Operands::shifted_by, crate::specs::Operands::converted_by, crate::specs::Reading::count_at))]
 fn extended<'a>(
     alloc: Global,
     operator: Operator,
@@ -44,15 +41,17 @@ fn extended<'a>(
             let (right, rest) = chain(alloc, tokens, level, room)?;
             build::read(alloc, Expr::Compare { op, left, right }, rest)
         }
-        Operator::Shifted(to_left) => {
-            let (count, rest) = expect_number(tokens)?;
-            let shift = Expr::Shift {
-                left_shift: to_left,
-                arg: left,
-                count: count.value as i128,
-            };
-            build::read(alloc, shift, rest)
-        }
+        Operator::Shifted(to_left) => match front_number(tokens) {
+            Some((count, rest)) => {
+                let shift = Expr::Shift {
+                    left_shift: to_left,
+                    arg: left,
+                    count: count.value as i128,
+                };
+                build::read(alloc, shift, rest)
+            }
+            None => Err(Stop::Syntax { left: tokens.len() }),
+        },
         Operator::As => {
             let (ty, rest) = expect_type(tokens)?;
             build::read(alloc, Expr::Cast { arg: left, ty }, rest)
@@ -102,47 +101,19 @@ fn unary<'a>(
     if room == 0 {
         return Err(Stop::Syntax { left: tokens.len() });
     }
-    begun(alloc, tokens, room - 1)
-}
-
-// A unary expression by its first token.
-#[cycle(expression)]
-fn begun<'a>(
-    alloc: Global,
-    tokens: &'a [Token],
-    room: usize,
-) -> Result<(Box<Expr>, &'a [Token]), Stop>
-    ensures { Gives (λ x. (term_of x.0.value, words_of x.1.now)) result
-        (unary_by (chain_at (unary_at room) 10) (unary_at room) (words_of tokens.now)) }
-{
+    let inner = room - 1;
     match tokens {
         [Token::Number(n), rest @ ..] => build::read(alloc, Expr::Lit(n.value as i128), rest),
-        [Token::Name(name), rest @ ..] => named(alloc, name, rest, room),
-        [Token::Mark(mark), rest @ ..] => opened(alloc, *mark, rest, room),
+        [Token::Name(name), rest @ ..] => named(alloc, name, rest, inner),
+        [Token::Mark(mark), rest @ ..] => match class::opening(*mark) {
+            Some(Opening::Group) => term_then(alloc, rest, Mark::CloseParen, inner),
+            Some(Opening::Pair(op)) => pair(alloc, op, rest, inner),
+            Some(Opening::Absolute) => absolute(alloc, rest, inner),
+            Some(Opening::Choice) => choice(alloc, rest, inner),
+            Some(Opening::Signed(sign)) => signed(alloc, sign, rest, inner),
+            None => Err(Stop::Syntax { left: tokens.len() }),
+        },
         _ => Err(Stop::Syntax { left: tokens.len() }),
-    }
-}
-
-// What begins with a mark.
-#[cycle(expression)]
-fn opened<'a>(
-    alloc: Global,
-    mark: Mark,
-    tokens: &'a [Token],
-    room: usize,
-) -> Result<(Box<Expr>, &'a [Token]), Stop>
-    ensures { Gives (λ x. (term_of x.0.value, words_of x.1.now)) result
-        (opened_by (chain_at (unary_at room) 10) (unary_at room) (opening_of_mark mark) (words_of tokens.now)) }
-{
-    match class::opening(mark) {
-        Some(Opening::Group) => term_then(alloc, tokens, Mark::CloseParen, room),
-        Some(Opening::Pair(op)) => pair(alloc, op, tokens, room),
-        Some(Opening::Absolute) => absolute(alloc, tokens, room),
-        Some(Opening::Choice) => choice(alloc, tokens, room),
-        Some(Opening::Signed(sign)) => signed(alloc, sign, tokens, room),
-        None => Err(Stop::Syntax {
-            left: tokens.len() + 1,
-        }),
     }
 }
 
@@ -237,30 +208,18 @@ fn choice<'a>(
     build::read(alloc, Expr::Select { cond, yes, no }, rest)
 }
 
-// The number that belongs to a sign in front of it.
-fn signed_number(sign: Sign, tokens: &[Token]) -> Option<(Number, &[Token])>
-    ensures { option_map (λ x. (x.0.value, words_of x.1.now)) result
-        ≡ number_following sign (words_of tokens.now) }
-{
-    match sign {
-        Sign::Minus => front_number(tokens),
-        Sign::Flip => None,
-        Sign::Not => None,
-    }
-}
-
 // The sign at the front, and the tokens after it.
 #[tactic(auto, unfolding(crate::specs::Reading::sign_front))]
 fn front_sign(tokens: &[Token]) -> Option<(Sign, &[Token])>
     ensures value { option_map (λ x. (x.0, words_of x.1.now)) result ≡ sign_front (words_of tokens.now) }
     ensures shorter { IfSome result (λ x. length x.1.now < length tokens.now) }
 {
-    match front_mark(tokens) {
-        Some((mark, rest)) => match class::opening(mark) {
+    match tokens {
+        [Token::Mark(mark), rest @ ..] => match class::opening(*mark) {
             Some(Opening::Signed(sign)) => Some((sign, rest)),
             _ => None,
         },
-        None => None,
+        _ => None,
     }
 }
 
@@ -288,9 +247,11 @@ fn operand<'a>(
     ensures { Gives (λ x. (term_of x.0.value, words_of x.1.now)) result
         (signed_by (unary_at room) sign (words_of tokens.now)) }
 {
-    match signed_number(sign, tokens) {
-        Some((n, rest)) => build::read(alloc, Expr::Lit(-(n.value as i128)), rest),
-        None => {
+    match (sign, front_number(tokens)) {
+        (Sign::Minus, Some((n, rest))) => {
+            build::read(alloc, Expr::Lit(-(n.value as i128)), rest)
+        }
+        _ => {
             let (arg, rest) = unary(alloc, tokens, room)?;
             build::read(alloc, build::sign(sign, arg), rest)
         }

@@ -3,25 +3,14 @@
 ghost use Rattle.std.specs.Prelude.{◌≡◌, ◌<◌, length, IfOk, IfSome, option_map};
 ghost use Rattle.kernel_tree.specs.Plain.{name_of, words_of};
 ghost use Rattle.kernel_tree.specs.Grammar.{number_at};
-ghost use Rattle.kernel_syntax.specs.Reading.{Gives, mark_at, update_front, following, past, name_at, type_at, count_at, operator_at};
+ghost use Rattle.kernel_syntax.specs.Reading.{Gives, following, past, name_at, name_before, type_at, operator_at};
 
 use crate::class;
 use crate::fault::Stop;
 use kernel_tree::mark::{Mark, Operator};
 use kernel_tree::token::{Number, Token};
-use kernel_tree::{Name, Ty, UpdateOp};
+use kernel_tree::{Name, Ty};
 use std::alloc::{AllocError, Global};
-
-// The mark at the front, and the tokens after it.
-pub fn front_mark(tokens: &[Token]) -> Option<(Mark, &[Token])>
-    ensures value { option_map (λ x. (x.0, words_of x.1.now)) result ≡ mark_at (words_of tokens.now) }
-    ensures shorter { IfSome result (λ x. length x.1.now < length tokens.now) }
-{
-    match tokens {
-        [Token::Mark(mark), rest @ ..] => Some((*mark, rest)),
-        _ => None,
-    }
-}
 
 // The number at the front, and the tokens after it.
 pub fn front_number(tokens: &[Token]) -> Option<(Number, &[Token])>
@@ -33,25 +22,15 @@ pub fn front_number(tokens: &[Token]) -> Option<(Number, &[Token])>
     }
 }
 
-// The update at the front, and the tokens after it.
-pub fn front_update(tokens: &[Token]) -> Option<(UpdateOp, &[Token])>
-    ensures { option_map (λ x. (x.0, words_of x.1.now)) result ≡ update_front (words_of tokens.now) }
-{
-    match tokens {
-        [Token::Update(op), rest @ ..] => Some((*op, rest)),
-        _ => None,
-    }
-}
-
 // The tokens after a mark, where it stands at the front.
 #[tactic(auto, unfolding(crate::specs::Reading::following))]
 pub fn accept<'a>(tokens: &'a [Token], mark: Mark) -> Option<&'a [Token]>
     ensures value { option_map (λ rest. words_of rest.now) result ≡ following mark (words_of tokens.now) }
     ensures shorter { IfSome result (λ rest. length rest.now < length tokens.now) }
 {
-    match front_mark(tokens) {
-        Some((found, rest)) => { if found == mark { Some(rest) } else { None } }
-        None => None,
+    match tokens {
+        [Token::Mark(found), rest @ ..] => { if *found == mark { Some(rest) } else { None } }
+        _ => None,
     }
 }
 
@@ -87,6 +66,15 @@ pub fn expect_name<'a>(tokens: &'a [Token]) -> Result<(&'a Name, &'a [Token]), S
     }
 }
 
+// The name that must stand at the front, and the tokens after a mark that must follow it.
+#[tactic(auto, unfolding(crate::specs::Reading::name_before))]
+pub fn name_then<'a>(tokens: &'a [Token], mark: Mark) -> Result<(&'a Name, &'a [Token]), Stop>
+    ensures { Gives (λ x. (name_of x.0.now, words_of x.1.now)) result (name_before mark (words_of tokens.now)) }
+{
+    let (name, following) = expect_name(tokens)?;
+    Ok((name, expect(following, mark)?))
+}
+
 // The type that must stand at the front.
 #[tactic(auto, unfolding(crate::specs::Reading::type_at))]
 pub fn expect_type<'a>(tokens: &'a [Token]) -> Result<(Ty, &'a [Token]), Stop>
@@ -95,17 +83,6 @@ pub fn expect_type<'a>(tokens: &'a [Token]) -> Result<(Ty, &'a [Token]), Stop>
     match tokens {
         [Token::Type(ty), rest @ ..] => Ok((*ty, rest)),
         _ => Err(Stop::Syntax { left: tokens.len() }),
-    }
-}
-
-// The number that must stand at the front.
-#[tactic(auto, unfolding(crate::specs::Reading::count_at))]
-pub fn expect_number<'a>(tokens: &'a [Token]) -> Result<(Number, &'a [Token]), Stop>
-    ensures { Gives (λ x. (x.0.value, words_of x.1.now)) result (count_at (words_of tokens.now)) }
-{
-    match front_number(tokens) {
-        Some((number, rest)) => Ok((number, rest)),
-        None => Err(Stop::Syntax { left: tokens.len() }),
     }
 }
 

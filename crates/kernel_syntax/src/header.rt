@@ -1,17 +1,17 @@
 //! Parameters, accumulators, the loop and the returned value.
 
-ghost use Rattle.std.specs.Prelude.{◌≡◌, IfOk, option_map};
-ghost use Rattle.kernel_tree.specs.Plain.{name_of, words_of, parameter_of, parameters_of, accumulator_of, accumulators_of, for_loop_of, returned_of};
+ghost use Rattle.std.specs.Prelude.{option_map};
+ghost use Rattle.kernel_tree.specs.Plain.{words_of, parameter_of, parameters_of, accumulator_of, accumulators_of, for_loop_of, returned_of};
 ghost use Rattle.kernel_syntax.specs.Reading.{Gives};
-ghost use Rattle.kernel_syntax.specs.Headers.{shape_at, param_at, some_at, params_at, var_at, vars_at, zero_at, for_loop_at, loop_at, tail_at, answer_by};
+ghost use Rattle.kernel_syntax.specs.Headers.{shape_at, param_at, params_at, var_at, vars_at, zero_at, loop_at, tail_at, answer_by};
 
 use crate::fault::Stop;
-use crate::front::{accept, copy_name, expect, expect_name, expect_type, front_number};
+use crate::front::{accept, copy_name, expect, expect_type, name_then};
 use crate::statement::{block, term};
 use kernel_tree::mark::Mark;
 use kernel_tree::token::Token;
-use kernel_tree::{Answer, Loop, Name, Param, Shape, Stmt, Ty, Var};
-use std::alloc::{AllocError, Global};
+use kernel_tree::{Answer, Loop, Param, Shape, Ty, Var};
+use std::alloc::Global;
 
 // What stands after the colon of a parameter.
 #[tactic(auto, unfolding(crate::specs::Headers::shape_at))]
@@ -35,8 +35,7 @@ fn read_shape<'a>(tokens: &'a [Token]) -> Result<(Shape, &'a [Token]), Stop>
 fn parameter<'a>(alloc: Global, tokens: &'a [Token]) -> Result<(Param, &'a [Token]), Stop>
     ensures { Gives (λ x. (parameter_of x.0, words_of x.1.now)) result (param_at (words_of tokens.now)) }
 {
-    let (name, following) = expect_name(tokens)?;
-    let from = expect(following, Mark::Colon)?;
+    let (name, from) = name_then(tokens, Mark::Colon)?;
     let (shape, rest) = read_shape(from)?;
     Ok((
         Param {
@@ -47,11 +46,14 @@ fn parameter<'a>(alloc: Global, tokens: &'a [Token]) -> Result<(Param, &'a [Toke
     ))
 }
 
-// One to eight parameters and the parenthesis after them.
-fn some_params<'a>(alloc: Global, tokens: &'a [Token]) -> Result<(Vec<Param>, &'a [Token]), Stop>
-    ensures { Gives (λ x. (parameters_of x.0.items, words_of x.1.now)) result (some_at 7 (words_of tokens.now)) }
+// The parameters, at most eight, and the parenthesis after them.
+pub fn params<'a>(alloc: Global, tokens: &'a [Token]) -> Result<(Vec<Param>, &'a [Token]), Stop>
+    ensures { Gives (λ x. (parameters_of x.0.items, words_of x.1.now)) result (params_at (words_of tokens.now)) }
 {
     let mut params = Vec::new(alloc);
+    if let Some(rest) = accept(tokens, Mark::CloseParen) {
+        return Ok((params, rest));
+    }
     let mut rest = tokens;
     // how many more may follow
     let mut others: usize = 7;
@@ -72,24 +74,12 @@ fn some_params<'a>(alloc: Global, tokens: &'a [Token]) -> Result<(Vec<Param>, &'
     }
 }
 
-// The parameters and the parenthesis after them.
-#[tactic(auto, unfolding(crate::specs::Headers::params_at))]
-pub fn params<'a>(alloc: Global, tokens: &'a [Token]) -> Result<(Vec<Param>, &'a [Token]), Stop>
-    ensures { Gives (λ x. (parameters_of x.0.items, words_of x.1.now)) result (params_at (words_of tokens.now)) }
-{
-    match accept(tokens, Mark::CloseParen) {
-        Some(rest) => Ok((Vec::new(alloc), rest)),
-        None => some_params(alloc, tokens),
-    }
-}
-
 // What stands after the word that begins an accumulator.
 #[tactic(auto, unfolding(crate::specs::Headers::var_at))]
 fn accumulator<'a>(alloc: Global, tokens: &'a [Token]) -> Result<(Var, &'a [Token]), Stop>
     ensures { Gives (λ x. (accumulator_of x.0, words_of x.1.now)) result (var_at (words_of tokens.now)) }
 {
-    let (name, following) = expect_name(tokens)?;
-    let from = expect(following, Mark::Colon)?;
+    let (name, from) = name_then(tokens, Mark::Colon)?;
     let (ty, next) = expect_type(from)?;
     let value = expect(next, Mark::Equals)?;
     let name = copy_name(alloc, name)?;
@@ -117,56 +107,34 @@ pub fn vars<'a>(alloc: Global, tokens: &'a [Token]) -> Result<(Vec<Var>, &'a [To
 fn expect_zero<'a>(tokens: &'a [Token]) -> Result<&'a [Token], Stop>
     ensures { Gives (λ rest. words_of rest.now) result (zero_at (words_of tokens.now)) }
 {
-    match front_number(tokens) {
-        Some((number, rest)) => {
+    match tokens {
+        [Token::Number(number), rest @ ..] => {
             if number.value == 0 {
                 Ok(rest)
             } else {
                 Err(Stop::Syntax { left: tokens.len() })
             }
         }
-        None => Err(Stop::Syntax { left: tokens.len() }),
+        _ => Err(Stop::Syntax { left: tokens.len() }),
     }
-}
-
-// A loop over copies of these names.
-fn loop_of(alloc: Global, index: &Name, bound: &Name, body: Vec<Stmt>) -> Result<Loop, AllocError>
-    ensures index { IfOk result (λ for_loop. name_of for_loop.index ≡ name_of index.now) }
-    ensures bound { IfOk result (λ for_loop. name_of for_loop.bound ≡ name_of bound.now) }
-    ensures body { IfOk result (λ for_loop. for_loop.body ≡ body) }
-{
-    let index = copy_name(alloc, index)?;
-    let bound = copy_name(alloc, bound)?;
-    Ok(Loop { index, bound, body })
-}
-
-// What stands after the word that begins a loop.
-#[tactic(auto, unfolding(crate::specs::Headers::for_loop_at))]
-fn for_loop<'a>(alloc: Global, tokens: &'a [Token]) -> Result<(Loop, &'a [Token]), Stop>
-    ensures { Gives (λ x. (for_loop_of x.0, words_of x.1.now)) result (for_loop_at (words_of tokens.now)) }
-{
-    let (index, following) = expect_name(tokens)?;
-    let from = expect(following, Mark::In)?;
-    let range = expect_zero(from)?;
-    let end = expect(range, Mark::Range)?;
-    let (bound, next) = expect_name(end)?;
-    let inside = expect(next, Mark::OpenBrace)?;
-    let (body, rest) = block(alloc, inside, true, inside.len())?;
-    Ok((loop_of(alloc, index, bound, body)?, rest))
 }
 
 // The loop at the front, if there is one.
-#[tactic(auto, unfolding(crate::specs::Headers::loop_at))]
+#[tactic(auto, unfolding(crate::specs::Headers::loop_at, crate::specs::Headers::for_loop_at))]
 pub fn body<'a>(alloc: Global, tokens: &'a [Token]) -> Result<(Option<Loop>, &'a [Token]), Stop>
     ensures { Gives (λ x. (option_map for_loop_of x.0, words_of x.1.now)) result (loop_at (words_of tokens.now)) }
 {
-    match accept(tokens, Mark::For) {
-        Some(from) => {
-            let (for_loop, rest) = for_loop(alloc, from)?;
-            Ok((Some(for_loop), rest))
-        }
-        None => Ok((None, tokens)),
-    }
+    let Some(start) = accept(tokens, Mark::For) else {
+        return Ok((None, tokens));
+    };
+    let (index, from) = name_then(start, Mark::In)?;
+    let range = expect_zero(from)?;
+    let end = expect(range, Mark::Range)?;
+    let (bound, inside) = name_then(end, Mark::OpenBrace)?;
+    let (body, rest) = block(alloc, inside, true, inside.len())?;
+    let index = copy_name(alloc, index)?;
+    let bound = copy_name(alloc, bound)?;
+    Ok((Some(Loop { index, bound, body }), rest))
 }
 
 // What stands after the parameters: the type of what is returned, if anything is, and the brace.

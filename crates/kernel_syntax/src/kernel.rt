@@ -7,7 +7,7 @@ ghost use Rattle.kernel_syntax.specs.Headers.{kernel_at};
 ghost use Rattle.kernel_syntax.specs.Refusals.{limit_fault, WordsGive, TextGives, IsReadFrom, HasNoTree, StopsAt};
 
 use crate::fault::{ReadFault, Stop};
-use crate::front::{copy_name, expect, expect_name};
+use crate::front::{copy_name, expect, name_then};
 use crate::header::{body, params, read_answer, tail, vars};
 use crate::nesting::too_deep;
 use kernel_tokens::{TokenFault, read_tokens};
@@ -26,8 +26,7 @@ fn all(alloc: Global, tokens: &[Token]) -> Result<Kernel, Stop>
     ensures { Gives program_of result (kernel_at (words_of tokens.now)) }
 {
     let from = expect(tokens, Mark::Kernel)?;
-    let (name, following) = expect_name(from)?;
-    let inside = expect(following, Mark::OpenParen)?;
+    let (name, inside) = name_then(from, Mark::OpenParen)?;
     let (params, next) = params(alloc, inside)?;
     let (ty, from) = tail(next)?;
     let (vars, next) = vars(alloc, from)?;

@@ -2,17 +2,16 @@
 
 ghost use Rattle.std.specs.Prelude.{false};
 ghost use Rattle.kernel_tree.specs.Plain.{term_of, name_of, words_of, action_of, block_of};
-ghost use Rattle.kernel_tree.specs.Grammar.{beginning_of_mark};
 ghost use Rattle.kernel_syntax.specs.Reading.{Gives};
-ghost use Rattle.kernel_syntax.specs.Statements.{term_at, type_part, define_at, put_at, update_at, target_at, leave_at, choose_by, begun_by, statement_by, block_at};
+ghost use Rattle.kernel_syntax.specs.Statements.{term_at, type_part, define_at, put_at, target_at, leave_at, choose_by, statement_by, block_at};
 
 use crate::class;
 use crate::expression::term_then;
 use crate::fault::Stop;
-use crate::front::{accept, copy_name, expect, expect_name, expect_type, front_update};
+use crate::front::{accept, copy_name, expect, expect_name, expect_type};
 use kernel_tree::mark::{Beginning, Mark};
 use kernel_tree::token::Token;
-use kernel_tree::{Expr, Name, Stmt, Ty, UpdateOp, make};
+use kernel_tree::{Expr, Name, Stmt, Ty, make};
 use std::alloc::Global;
 
 // An expression and a mark after it.
@@ -75,25 +74,8 @@ fn store<'a>(alloc: Global, array: &Name, tokens: &'a [Token]) -> Result<(Stmt, 
     ))
 }
 
-// What stands after the operator of an update.
-#[tactic(auto, unfolding(crate::specs::Statements::update_at))]
-fn update<'a>(
-    alloc: Global,
-    name: &Name,
-    op: UpdateOp,
-    tokens: &'a [Token],
-) -> Result<(Stmt, &'a [Token]), Stop>
-    ensures { Gives (λ x. (action_of x.0, words_of x.1.now)) result
-        (update_at (name_of name.now) op (words_of tokens.now)) }
-{
-    let name = copy_name(alloc, name)?;
-    let (value, rest) = term(alloc, tokens, Mark::Semicolon)?;
-    let value = Box::into_inner(value);
-    Ok((Stmt::Update { name, op, value }, rest))
-}
-
 // What stands after the name of what a statement changes.
-#[tactic(auto, unfolding(crate::specs::Statements::target_at))]
+#[tactic(auto, unfolding(crate::specs::Statements::target_at, crate::specs::Statements::update_at))]
 fn target<'a>(alloc: Global, name: &Name, tokens: &'a [Token]) -> Result<(Stmt, &'a [Token]), Stop>
     ensures { Gives (λ x. (action_of x.0, words_of x.1.now)) result
         (target_at (name_of name.now) (words_of tokens.now)) }
@@ -101,9 +83,15 @@ fn target<'a>(alloc: Global, name: &Name, tokens: &'a [Token]) -> Result<(Stmt, 
     if let Some(from) = accept(tokens, Mark::OpenBracket) {
         return store(alloc, name, from);
     }
-    match front_update(tokens) {
-        Some((op, from)) => update(alloc, name, op, from),
-        None => Err(Stop::Syntax { left: tokens.len() }),
+    match tokens {
+        [Token::Update(op), from @ ..] => {
+            let name = copy_name(alloc, name)?;
+            let (value, rest) = term(alloc, from, Mark::Semicolon)?;
+            let value = Box::into_inner(value);
+            let op = *op;
+            Ok((Stmt::Update { name, op, value }, rest))
+        }
+        _ => Err(Stop::Syntax { left: tokens.len() }),
     }
 }
 
@@ -145,28 +133,6 @@ fn choice<'a>(alloc: Global, tokens: &'a [Token], room: usize) -> Result<(Stmt, 
     }
 }
 
-// What begins with a mark.
-#[cycle(block)]
-fn begun<'a>(
-    alloc: Global,
-    mark: Mark,
-    tokens: &'a [Token],
-    whole: bool,
-    room: usize,
-) -> Result<(Stmt, &'a [Token]), Stop>
-    ensures { Gives (λ x. (action_of x.0, words_of x.1.now)) result
-        (begun_by whole (block_at false room) (beginning_of_mark mark) (words_of tokens.now)) }
-{
-    match class::beginning(mark) {
-        Some(Beginning::Definition) => definition(alloc, tokens),
-        Some(Beginning::Choice) => choice(alloc, tokens, room),
-        Some(Beginning::Leaving) => leaving(alloc, tokens, whole),
-        None => Err(Stop::Syntax {
-            left: tokens.len() + 1,
-        }),
-    }
-}
-
 // A statement of the loop's own block or of another.
 #[cycle(block)]
 #[tactic(auto, unfolding(crate::specs::Statements::statement_by))]
@@ -181,7 +147,12 @@ fn statement<'a>(
 {
     match tokens {
         [Token::Name(name), rest @ ..] => target(alloc, name, rest),
-        [Token::Mark(mark), rest @ ..] => begun(alloc, *mark, rest, whole, room),
+        [Token::Mark(mark), rest @ ..] => match class::beginning(*mark) {
+            Some(Beginning::Definition) => definition(alloc, rest),
+            Some(Beginning::Choice) => choice(alloc, rest, room),
+            Some(Beginning::Leaving) => leaving(alloc, rest, whole),
+            None => Err(Stop::Syntax { left: tokens.len() }),
+        },
         _ => Err(Stop::Syntax { left: tokens.len() }),
     }
 }

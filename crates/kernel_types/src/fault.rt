@@ -34,11 +34,6 @@ pub enum TypeFault {
     Memory,
 }
 
-// Writes what is wrong, and the number of the item where it is, or the number that is too great.
-fn write_number<W: fmt::Write>(f: &mut fmt::Formatter<W>, text: &str, number: u32) -> fmt::Result {
-    write!(f, "{text} {number}")
-}
-
 fn write_mismatch<W: fmt::Write>(
     f: &mut fmt::Formatter<W>,
     item: u32,
@@ -52,23 +47,23 @@ fn write_mismatch<W: fmt::Write>(
 
 impl fmt::Display for TypeFault {
     fn fmt<W: fmt::Write>(&self, f: &mut fmt::Formatter<W>) -> fmt::Result {
-        match *self {
-            TypeFault::Unknown { item } => write_number(f, "unknown name at item", item),
-            TypeFault::Twice { item } => write_number(f, "name declared twice at item", item),
-            TypeFault::WrongKind { item } => write_number(f, "wrong kind at item", item),
-            TypeFault::Mismatch { item, want, found } => write_mismatch(f, item, want, found),
-            TypeFault::Untyped { item } => write_number(f, "no type at item", item),
-            TypeFault::LiteralRange { item } => write_number(
-                f,
-                "literal out of range at item",
-                item,
-            ),
-            TypeFault::ShiftRange { item } => write_number(f, "shift out of range at item", item),
-            TypeFault::OffsetRange { item } => write_number(f, "offset out of range at item", item),
-            TypeFault::TooLarge { size } => write_number(f, "too large", size),
-            TypeFault::TooDeep { depth } => write_number(f, "too deep", depth),
-            TypeFault::Memory => f.write_str("out of memory"),
-        }
+        // what is wrong, and the number of the item where it is, or the number that is too great
+        let (text, number) = match *self {
+            TypeFault::Unknown { item } => ("unknown name at item", item),
+            TypeFault::Twice { item } => ("name declared twice at item", item),
+            TypeFault::WrongKind { item } => ("wrong kind at item", item),
+            TypeFault::Mismatch { item, want, found } => {
+                return write_mismatch(f, item, want, found);
+            }
+            TypeFault::Untyped { item } => ("no type at item", item),
+            TypeFault::LiteralRange { item } => ("literal out of range at item", item),
+            TypeFault::ShiftRange { item } => ("shift out of range at item", item),
+            TypeFault::OffsetRange { item } => ("offset out of range at item", item),
+            TypeFault::TooLarge { size } => ("too large", size),
+            TypeFault::TooDeep { depth } => ("too deep", depth),
+            TypeFault::Memory => return f.write_str("out of memory"),
+        };
+        write!(f, "{text} {number}")
     }
 }
 

@@ -14,12 +14,6 @@ decreases-extended l = 32 * l.room + (2 + 2 * l.level)
 abbrev pub decreases-unary : goal.decreases-unary
 decreases-unary l = 32 * l.room
 
-abbrev pub decreases-opened : goal.decreases-opened
-decreases-opened l = 32 * l.room + 24
-
-abbrev pub decreases-begun : goal.decreases-begun
-decreases-begun l = 32 * l.room + 25
-
 abbrev pub decreases-term_then : goal.decreases-term_then
 decreases-term_then l = 32 * l.room + 22
 

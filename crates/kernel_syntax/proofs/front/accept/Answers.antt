@@ -1,4 +1,5 @@
-use Rattle.std.proofs.Common.{◌≡◌, List, true, false, Some, None, refl, sym, ap₂, ◌∙◌, eqb}
+use Rattle.std.proofs.Common.{◌≡◌, ◌-◌, List, length, take, drop, arith, true, false, Some, None, refl, sym, ap₂, ◌∙◌, eqb}
+use Rattle.std.proofs.lemmas.Grind.{common_steps}
 use denote.Enum.Bare.{sameb}
 use denote.Enum.Declared.{tag_of}
 use Rattle.kernel_tree.specs.contracts.mark.Mark.{the_type}
@@ -25,7 +26,13 @@ unfolding following
 another m n words rest e h = rw (← e, h) refl
 
 pub returns-then-eq-clause-value : goal.returns-then-eq-clause-value
-returns-then-eq-clause-value c = follows c.args.mark c.in-Some.found (words_of c.args.tokens.now) (words_of c.in-Some.rest.now) c.in-Some.ensures.value (sym (same-is c.in-Some.found c.args.mark) ∙ sym c.eq.ensures ∙ c.if-eq.true)
+returns-then-eq-clause-value c =
+    let front : Some (c.in-Mark.found, words_of (take (length c.args.tokens.now - 1) (drop 1 c.args.tokens.now))) ≡ mark_at (words_of c.args.tokens.now) = grind (arith, common_steps) in
+    let equal : sameb the_type c.in-Mark.found c.args.mark ≡ true = grind (arith, common_steps) in
+    follows c.args.mark c.in-Mark.found (words_of c.args.tokens.now) _ front (sym (same-is c.in-Mark.found c.args.mark) ∙ equal)
 
 pub returns-else-eq-clause-value : goal.returns-else-eq-clause-value
-returns-else-eq-clause-value c = another c.args.mark c.in-Some.found (words_of c.args.tokens.now) (words_of c.in-Some.rest.now) c.in-Some.ensures.value (sym (same-is c.in-Some.found c.args.mark) ∙ sym c.eq.ensures ∙ c.if-eq.false)
+returns-else-eq-clause-value c =
+    let front : Some (c.in-Mark.found, words_of (take (length c.args.tokens.now - 1) (drop 1 c.args.tokens.now))) ≡ mark_at (words_of c.args.tokens.now) = grind (arith, common_steps) in
+    let equal : sameb the_type c.in-Mark.found c.args.mark ≡ false = grind (arith, common_steps) in
+    another c.args.mark c.in-Mark.found (words_of c.args.tokens.now) _ front (sym (same-is c.in-Mark.found c.args.mark) ∙ equal)

@@ -1,13 +1,22 @@
-use Rattle.std.proofs.Common.{◌-◌, ◌<◌, List, [], length, false, refl, sym, arith, subst}
+use Rattle.std.proofs.Common.{◌≡◌, ◌-◌, ◌<◌, List, [], length, take, drop, false, Some, None, Err, refl, sym, ap, ◌∙◌, arith, subst}
+use Rattle.std.proofs.lemmas.Grind.{common_steps}
 use Rattle.std.proofs.lemmas.Result.{err_from_is_err_and}
 use Rattle.std.proofs.lemmas.List.{length-map}
 use Rattle.kernel_tree.specs.declared.ast.Stmt.{Stmt}
+use Rattle.kernel_tree.specs.declared.mark.Beginning.TheVariants as beginning
+use Rattle.kernel_tree.specs.declared.token.Token.{Token}
+use Rattle.kernel_tree.specs.Grammar.{beginning_of_mark}
+use Rattle.kernel_syntax.specs.Reading.{mark_at}
 use Rattle.kernel_tree.specs.Plain.{words_of, word_of}
 use Rattle.kernel_syntax.specs.Statements.{Statements, statement_by, block_at, choose_by}
-use Rattle.kernel_syntax.proofs.Blocks.{Follows, starts, closes, fails_inside, takes, block-none, block-some}
+use Rattle.kernel_syntax.proofs.Blocks.{Follows, begins, unbegun, starts, closes, fails_inside, takes, block-none, block-some}
 use Rattle.kernel_syntax.proofs.Chain.{fails_on}
 use Rattle.kernel_syntax.proofs.Shorter.{statement_short}
 use Rattle.kernel_syntax.proofs.statement.+block.Goals as goal
+
+-- the tokens after the first
+abbrev following : List Token → List Token
+following ts = take (length ts - 1) (drop 1 ts)
 
 pub block-returns-then-room-eq0 : goal.block-returns-then-room-eq0
 block-returns-then-room-eq0 t c = block-none c.args.whole c.args.room (words_of c.args.tokens.now) _ c.if-room-eq0.true (length-map c.args.tokens.now word_of)
@@ -63,3 +72,47 @@ unfolding choose_by
 choice-returns-in_err-other-in-Some t c =
     let p = err_from_is_err_and c.from_residual-in_err-other-in-Some.result c.from_residual-in_err-other-in-Some.ensures.1 in
     rw (p.1, p.2, c.in_ok-cond.ensures, c.in_ok-then_part.ensures, ← c.in-Some.ensures.value, c.in_ok-from-in-Some.ensures) (fails_on _ _ _ _ refl c.in_err-other-in-Some.ensures)
+
+pub choice-returns-in_ok-other-in-Some : goal.choice-returns-in_ok-other-in-Some
+unfolding choose_by
+choice-returns-in_ok-other-in-Some t c = rw (c.in_ok-cond.ensures, c.in_ok-then_part.ensures, ← c.in-Some.ensures.value, c.in_ok-from-in-Some.ensures, c.in_ok-other-in-Some.ensures, c.choose_else.ensures, c.into_inner.ensures) refl
+
+pub choice-returns-in-None : goal.choice-returns-in-None
+unfolding choose_by
+choice-returns-in-None t c = rw (c.in_ok-cond.ensures, c.in_ok-then_part.ensures, ← c.in-None.ensures.value, c.choose.ensures, c.into_inner-in-None.ensures) refl
+
+pub statement-returns-in-Some-Definition : goal.statement-returns-in-Some-Definition
+statement-returns-in-Some-Definition t c =
+    let front : mark_at (words_of c.args.tokens.now) ≡ Some (c.in-Mark.mark, words_of (following c.args.tokens.now)) = grind (arith, common_steps) in
+    let kind : beginning_of_mark c.in-Mark.mark ≡ Some beginning.Definition = grind (arith, common_steps) in
+    rw (begins c.args.whole _ (words_of c.args.tokens.now) c.in-Mark.mark _ _ front kind) c.definition.ensures
+
+pub statement-returns-in-Some-Choice : goal.statement-returns-in-Some-Choice
+statement-returns-in-Some-Choice t c =
+    let front : mark_at (words_of c.args.tokens.now) ≡ Some (c.in-Mark.mark, words_of (following c.args.tokens.now)) = grind (arith, common_steps) in
+    let kind : beginning_of_mark c.in-Mark.mark ≡ Some beginning.Choice = grind (arith, common_steps) in
+    rw (begins c.args.whole _ (words_of c.args.tokens.now) c.in-Mark.mark _ _ front kind) c.choice.ensures
+
+pub statement-returns-in-Some-Leaving : goal.statement-returns-in-Some-Leaving
+statement-returns-in-Some-Leaving t c =
+    let front : mark_at (words_of c.args.tokens.now) ≡ Some (c.in-Mark.mark, words_of (following c.args.tokens.now)) = grind (arith, common_steps) in
+    let kind : beginning_of_mark c.in-Mark.mark ≡ Some beginning.Leaving = grind (arith, common_steps) in
+    rw (begins c.args.whole _ (words_of c.args.tokens.now) c.in-Mark.mark _ _ front kind) c.leaving.ensures
+
+pub statement-returns-in-None : goal.statement-returns-in-None
+statement-returns-in-None t c =
+    let front : mark_at (words_of c.args.tokens.now) ≡ Some (c.in-Mark.mark, words_of (following c.args.tokens.now)) = grind (arith, common_steps) in
+    let kind : beginning_of_mark c.in-Mark.mark ≡ None = grind (arith, common_steps) in
+    unbegun c.args.whole _ (words_of c.args.tokens.now) c.in-Mark.mark _ front kind ∙ ap Err (length-map c.args.tokens.now word_of)
+
+pub choice-block-requires : goal.choice-block-requires
+choice-block-requires t c = omega arith
+
+pub choice-block-requires-in-Some : goal.choice-block-requires-in-Some
+choice-block-requires-in-Some t c = omega arith
+
+pub statement-choice-requires : goal.statement-choice-requires
+statement-choice-requires t c = omega arith
+
+pub block-statement-requires : goal.block-statement-requires
+block-statement-requires t c = omega arith

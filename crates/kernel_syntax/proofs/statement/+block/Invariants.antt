@@ -7,9 +7,6 @@ use Rattle.kernel_syntax.proofs.statement.+block.Given as goal
 abbrev pub decreases-choice : goal.decreases-choice
 decreases-choice l = 4 * l.room + 1
 
-abbrev pub decreases-begun : goal.decreases-begun
-decreases-begun l = 4 * l.room + 2
-
 abbrev pub decreases-statement : goal.decreases-statement
 decreases-statement l = 4 * l.room + 3
 

@@ -27,3 +27,8 @@ unfolding define_at
 returns-in_err-value c =
     let p = err_from_is_err_and c.from_residual-in_err-value.result c.from_residual-in_err-value.ensures.1 in
     rw (p.1, p.2, c.in_ok-name.ensures, c.in_ok-ty.ensures, c.in_ok-from.ensures) (fails_on _ _ _ _ refl c.in_err-value.ensures)
+
+pub returns : goal.returns
+unfolding define_at
+returns c =
+    rw (c.in_ok-name.ensures, c.in_ok-ty.ensures, c.in_ok-from.ensures, c.in_ok-value.ensures, c.into_inner-value.ensures, c.in_ok-name-2.ensures) refl

@@ -49,3 +49,18 @@ walk_if_else-returns-clause-types t c = IfOk-weaker c.walk_inner-2.result _ _ (Î
 
 pub walk_inner-returns-clause-types : goal.walk_inner-returns-clause-types
 walk_inner-returns-clause-types t c = then_types c.in_ok-walk_block.ensures.types c.end.ensures.types
+
+pub walk_if-walk_marked-requires : goal.walk_if-walk_marked-requires
+walk_if-walk_marked-requires t c = omega arith
+
+pub walk_if-walk_inner-requires : goal.walk_if-walk_inner-requires
+walk_if-walk_inner-requires t c = (omega arith, omega arith)
+
+pub walk_if_else-walk_marked-requires : goal.walk_if_else-walk_marked-requires
+walk_if_else-walk_marked-requires t c = omega arith
+
+pub walk_if_else-walk_inner-requires : goal.walk_if_else-walk_inner-requires
+walk_if_else-walk_inner-requires t c = (omega arith, omega arith)
+
+pub walk_inner-walk_block-requires : goal.walk_inner-walk_block-requires
+walk_inner-walk_block-requires t c = (omega arith, omega arith)

@@ -1,4 +1,4 @@
-use Rattle.std.proofs.Common.{ℕ, ◌++◌, Option, ap, ◌∙◌}
+use Rattle.std.proofs.Common.{ℕ, ◌++◌, Option, ap, ◌∙◌, arith, rules}
 use Rattle.std.specs.Prelude.{ℤ}
 use Rattle.std.specs.Int.{w128}
 use Rattle.std.proofs.lemmas.Int.{to_z-of_z}
@@ -153,3 +153,111 @@ walk_or-returns-clause-types t c = then_types c.walk_expr.ensures.types (then_ty
 
 pub walk_not-returns-clause-types : goal.walk_not-returns-clause-types
 walk_not-returns-clause-types t c = then_types c.walk_expr.ensures.types c.end.ensures.types
+
+pub walk_unary-walk_expr-requires : goal.walk_unary-walk_expr-requires
+walk_unary-walk_expr-requires t c = (search rules, omega arith)
+
+pub walk_unary-end-requires : goal.walk_unary-end-requires
+walk_unary-end-requires t c = omega arith
+
+pub walk_unary-returns-clause-next : goal.walk_unary-returns-clause-next
+walk_unary-returns-clause-next t c = omega arith
+
+pub walk_binary-walk_expr-requires : goal.walk_binary-walk_expr-requires
+walk_binary-walk_expr-requires t c = (search rules, omega arith)
+
+pub walk_binary-walk_expr-requires-2 : goal.walk_binary-walk_expr-requires-2
+walk_binary-walk_expr-requires-2 t c = (search rules, omega arith)
+
+pub walk_binary-end-requires : goal.walk_binary-end-requires
+walk_binary-end-requires t c = omega arith
+
+pub walk_binary-returns-clause-next : goal.walk_binary-returns-clause-next
+walk_binary-returns-clause-next t c = omega arith
+
+pub walk_shift-walk_expr-requires : goal.walk_shift-walk_expr-requires
+walk_shift-walk_expr-requires t c = (search rules, omega arith)
+
+pub walk_shift-end_shift-requires : goal.walk_shift-end_shift-requires
+walk_shift-end_shift-requires t c = omega arith
+
+pub walk_shift-returns-clause-next : goal.walk_shift-returns-clause-next
+walk_shift-returns-clause-next t c = omega arith
+
+pub walk_cast-walk_expr-requires : goal.walk_cast-walk_expr-requires
+walk_cast-walk_expr-requires t c = (search rules, omega arith)
+
+pub walk_cast-end-requires : goal.walk_cast-end-requires
+walk_cast-end-requires t c = omega arith
+
+pub walk_cast-returns-clause-next : goal.walk_cast-returns-clause-next
+walk_cast-returns-clause-next t c = omega arith
+
+pub walk_select-walk_expr-requires : goal.walk_select-walk_expr-requires
+walk_select-walk_expr-requires t c = (search rules, omega arith)
+
+pub walk_select-walk_expr-requires-2 : goal.walk_select-walk_expr-requires-2
+walk_select-walk_expr-requires-2 t c = (search rules, omega arith)
+
+pub walk_select-walk_expr-requires-3 : goal.walk_select-walk_expr-requires-3
+walk_select-walk_expr-requires-3 t c = (search rules, omega arith)
+
+pub walk_select-end-requires : goal.walk_select-end-requires
+walk_select-end-requires t c = omega arith
+
+pub walk_select-returns-clause-next : goal.walk_select-returns-clause-next
+walk_select-returns-clause-next t c = omega arith
+
+pub walk_compare-walk_expr-requires : goal.walk_compare-walk_expr-requires
+walk_compare-walk_expr-requires t c = (search rules, omega arith)
+
+pub walk_compare-walk_expr-requires-2 : goal.walk_compare-walk_expr-requires-2
+walk_compare-walk_expr-requires-2 t c = (search rules, omega arith)
+
+pub walk_compare-end-requires : goal.walk_compare-end-requires
+walk_compare-end-requires t c = omega arith
+
+pub walk_compare-returns-clause-next : goal.walk_compare-returns-clause-next
+walk_compare-returns-clause-next t c = omega arith
+
+pub walk_and-walk_expr-requires : goal.walk_and-walk_expr-requires
+walk_and-walk_expr-requires t c = (search rules, omega arith)
+
+pub walk_and-walk_expr-requires-2 : goal.walk_and-walk_expr-requires-2
+walk_and-walk_expr-requires-2 t c = (search rules, omega arith)
+
+pub walk_and-end-requires : goal.walk_and-end-requires
+walk_and-end-requires t c = omega arith
+
+pub walk_and-returns-clause-next : goal.walk_and-returns-clause-next
+walk_and-returns-clause-next t c = omega arith
+
+pub walk_or-walk_expr-requires : goal.walk_or-walk_expr-requires
+walk_or-walk_expr-requires t c = (search rules, omega arith)
+
+pub walk_or-walk_expr-requires-2 : goal.walk_or-walk_expr-requires-2
+walk_or-walk_expr-requires-2 t c = (search rules, omega arith)
+
+pub walk_or-end-requires : goal.walk_or-end-requires
+walk_or-end-requires t c = omega arith
+
+pub walk_or-end-requires-2 : goal.walk_or-end-requires-2
+walk_or-end-requires-2 t c = omega arith
+
+pub walk_or-returns-clause-next : goal.walk_or-returns-clause-next
+walk_or-returns-clause-next t c = omega arith
+
+pub walk_not-walk_expr-requires : goal.walk_not-walk_expr-requires
+walk_not-walk_expr-requires t c = (search rules, omega arith)
+
+pub walk_not-end-requires : goal.walk_not-end-requires
+walk_not-end-requires t c = omega arith
+
+pub walk_not-returns-clause-next : goal.walk_not-returns-clause-next
+walk_not-returns-clause-next t c = omega arith
+
+pub walk_read-end-requires : goal.walk_read-end-requires
+walk_read-end-requires t c = omega arith
+
+pub walk_read-returns-clause-next : goal.walk_read-returns-clause-next
+walk_read-returns-clause-next t c = omega arith
