@@ -1,5 +1,6 @@
 pub mod StepLists
 pub mod ListWalks
+pub mod SameNames
 pub mod HeldSlots
 pub mod ResolvedValues
 pub mod ResolvedStatements

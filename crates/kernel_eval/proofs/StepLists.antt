@@ -19,6 +19,10 @@ held_rows v = rows _ (hidden-the_row-Step-0 v) ∙ ap tasks_of (items_hidden-the
 pub if-is : (c : Node) (v w : Vec Step Global) → task_of (step.If c v w) ≡ If (tree_of c) (tasks_of v.items) (tasks_of w.items)
 if-is c v w = ap₂ (λ (a b : Tasks). If (tree_of c) a b) (held_rows v) (held_rows w)
 
+-- a step with resolved parts
+pub if-resolved : (c : Node) (v w : Vec Step Global) (t : Tree) (a b : Tasks) → tree_of c ≡ t → tasks_of v.items ≡ a → tasks_of w.items ≡ b → task_of (step.If c v w) ≡ If t a b
+if-resolved c v w t a b e f g = if-is c v w ∙ ap (λ t. If t (tasks_of v.items) (tasks_of w.items)) e ∙ ap₂ (If t) f g
+
 pub branch-true : (t : Task) (c : Tree) (a b : Tasks) (memory : Memory) (slots : Slots) → t ≡ If c a b → tree_holds c memory slots ≡ Some true → do_tasks a memory slots ≡ do_task t memory slots
 branch-true t c a b memory slots z h =
     sym (ap (λ t. do_task t memory slots) z ∙ ap (λ o. branch memory o (do_tasks a memory slots) (do_tasks b memory slots)) h)

@@ -31,17 +31,6 @@ fn address(ty: Ty, base: i128, number: i128) -> u64
     word(base).wrapping_add(u64::from(byte_count(ty)).wrapping_mul(word(number)))
 }
 
-// An element of an array.
-#[inline(always)]
-fn read_at<M: GuestMemory>(memory: &M, ty: Ty, base: i128, number: i128) -> Option<i128>
-    ensures { result ≡ eval.read_element (Some ty) (M.memory memory.now) base number }
-{
-    match memory.load(address(ty, base, number), byte_count(ty)) {
-        Ok(value) => Some(wrap(ty, value as i128)),
-        Err(_) => None,
-    }
-}
-
 /// An element of an array, unless its number faults or the read does.
 #[inline(always)]
 pub fn read<M: GuestMemory>(
@@ -55,25 +44,12 @@ pub fn read<M: GuestMemory>(
     match (number, ty) {
         (None, _) => None,
         (Some(_), None) => Some(0),
-        (Some(number), Some(ty)) => read_at(memory, ty, base, number),
-    }
-}
-
-// Replaces an element of an array.
-#[inline(always)]
-fn write_at<M: GuestMemory>(
-    memory: &mut M,
-    ty: Ty,
-    base: i128,
-    number: i128,
-    value: i128,
-) -> BlockEnd
-    ensures { (slots : Slots) → block_end_of result (M.memory memory.new) slots
-        ≡ store (Some ty) base (M.memory memory.old) slots (Some value) (Some number) }
-{
-    match memory.store(address(ty, base, number), byte_count(ty), word(value)) {
-        Ok(()) => BlockEnd::Next,
-        Err(_) => BlockEnd::Faulted,
+        (Some(number), Some(ty)) => {
+            match memory.load(address(ty, base, number), byte_count(ty)) {
+                Ok(value) => Some(wrap(ty, value as i128)),
+                Err(_) => None,
+            }
+        }
     }
 }
 
@@ -90,7 +66,12 @@ pub fn write<M: GuestMemory>(
         ≡ store ty base (M.memory memory.old) slots value number }
 {
     match (ty, value, number) {
-        (Some(ty), Some(value), Some(number)) => write_at(memory, ty, base, number, value),
+        (Some(ty), Some(value), Some(number)) => {
+            match memory.store(address(ty, base, number), byte_count(ty), word(value)) {
+                Ok(()) => BlockEnd::Next,
+                Err(_) => BlockEnd::Faulted,
+            }
+        }
         _ => BlockEnd::Faulted,
     }
 }

@@ -33,8 +33,8 @@ pub fn scalar_run<M: GuestMemory>(
     ensures unchanged { OnErr result (M.memory memory.new ≡ M.memory memory.old) }
 {
     let kernel = kernel.kernel();
-    let plan = resolve_kernel(alloc, kernel)?;
     let mut slots = start(alloc, &kernel.params, args)?;
+    let plan = resolve_kernel(alloc, kernel)?;
     let outcome = run(&plan, limit, memory, &mut slots);
     Ok(outcome)
 }

@@ -1,8 +1,7 @@
 //! Resolves kernels.
 
-ghost use Rattle.std.specs.Prelude.{◌≡◌, IfOk, Some, option_map};
-ghost use Rattle.kernel_tree.specs.declared.fault.Binding.TheVariants as binding;
-ghost use Rattle.kernel_tree.specs.Plain.{name_of, parameters_of, accumulators_of, for_loop_of, returned_of, program_of};
+ghost use Rattle.std.specs.Prelude.{◌≡◌, IfOk, option_map};
+ghost use Rattle.kernel_tree.specs.Plain.{parameters_of, accumulators_of, for_loop_of, returned_of, program_of};
 ghost use Rattle.kernel_tree.specs.Items as items;
 ghost use Rattle.kernel_tree.specs.Typing as typing;
 ghost use Rattle.kernel_eval.specs.Trees.{tree_of, tasks_of, followed};
@@ -13,7 +12,7 @@ use crate::names::slot;
 use crate::node::Node;
 use crate::plan::{Plan, ResolvedLoop};
 use crate::resolve::resolve;
-use crate::statements::resolve_block;
+use crate::statements::resolve_inner;
 use crate::step::Step;
 use kernel_scope::{Scope, declare, empty, loop_index, visible_count};
 use kernel_tree::fault::Binding;
@@ -61,85 +60,55 @@ fn resolve_answer(
 {
     match answer {
         None => Ok(None),
-        Some(answer) => {
-            let node = resolve(alloc, scope, Some(answer.ty), &answer.value)?;
-            Ok(Some(node))
-        }
+        Some(answer) => { Ok(Some(resolve(alloc, scope, Some(answer.ty), &answer.value)?)) }
     }
 }
 
-// The body of a loop whose variable is declared.
-fn resolve_body<'a>(
-    alloc: Global,
-    scope: &mut Scope<'a>,
-    for_loop: &'a Loop,
-) -> Result<Vec<Step>, AllocError>
-    ensures { IfOk result (λ v. tasks_of v.items ≡ plans.resolved_body (scope_of scope.old) (for_loop_of for_loop.now)) }
-{
-    scope.inside = true;
-    resolve_block(alloc, scope, &for_loop.body)
-}
-
-// The loop and the returned value after it.
+// The loop, where there is one. Of its names the variable alone stays visible.
 fn resolve_loop<'a>(
     alloc: Global,
     scope: &mut Scope<'a>,
-    for_loop: &'a Loop,
-    answer: &Option<Answer>,
-) -> Result<(Option<ResolvedLoop>, Option<Node>), AllocError>
-    ensures cycle { IfOk result (λ p. option_map plans.loop_plan_of p.0
-        ≡ Some (plans.resolved_loop (scope_of scope.old) (for_loop_of for_loop.now))) }
-    ensures answer { IfOk result (λ p. option_map tree_of p.1
-        ≡ plans.resolved_answer (typing.declared (scope_of scope.old) (name_of for_loop.now.index) binding.Index)
-        (option_map returned_of answer.now)) }
+    for_loop: &'a Option<Loop>,
+) -> Result<Option<ResolvedLoop>, AllocError>
+    ensures for_loop { IfOk result (λ o. option_map plans.loop_plan_of o
+        ≡ plans.resolved_for_loop (scope_of scope.old) (option_map for_loop_of for_loop.now)) }
+    ensures visible { IfOk result (λ _. (scope_of scope.new).visible
+        ≡ (typing.after_for_loop (scope_of scope.old) (option_map for_loop_of for_loop.now)).visible) }
+    ensures index { IfOk result (λ _. (scope_of scope.new).index
+        ≡ (typing.after_for_loop (scope_of scope.old) (option_map for_loop_of for_loop.now)).index) }
 {
-    let bound = slot(scope, &for_loop.bound);
-    let index = visible_count(scope);
-    declare(scope, &for_loop.index, Binding::Index)?;
-    let answer = resolve_answer(alloc, scope, answer)?;
-    let body = resolve_body(alloc, scope, for_loop)?;
-    Ok((Some(ResolvedLoop { bound, index, body }), answer))
-}
-
-// The loop, where there is one, and the returned value.
-fn resolve_rest<'a>(
-    alloc: Global,
-    scope: &mut Scope<'a>,
-    kernel: &'a Kernel,
-) -> Result<(Option<ResolvedLoop>, Option<Node>), AllocError>
-    ensures for_loop { IfOk result (λ p. option_map plans.loop_plan_of p.0
-        ≡ plans.resolved_for_loop (scope_of scope.old) (option_map for_loop_of kernel.now.body)) }
-    ensures answer { IfOk result (λ p. option_map tree_of p.1
-        ≡ plans.resolved_answer (typing.after_for_loop (scope_of scope.old) (option_map for_loop_of kernel.now.body))
-        (option_map returned_of kernel.now.answer)) }
-{
-    match &kernel.body {
-        None => {
-            let answer = resolve_answer(alloc, scope, &kernel.answer)?;
-            Ok((None, answer))
+    match for_loop {
+        None => Ok(None),
+        Some(for_loop) => {
+            let bound = slot(scope, &for_loop.bound);
+            let index = visible_count(scope);
+            declare(scope, &for_loop.index, Binding::Index)?;
+            scope.inside = true;
+            let body = resolve_inner(alloc, scope, &for_loop.body)?;
+            Ok(Some(ResolvedLoop { bound, index, body }))
         }
-        Some(for_loop) => resolve_loop(alloc, scope, for_loop, &kernel.answer),
     }
 }
 
-// What sets the accumulators, and the rest, of a kernel of which nothing is declared yet.
+// A kernel of which nothing is declared yet.
 fn resolve_parts<'a>(
     alloc: Global,
     scope: &mut Scope<'a>,
-    start: &mut Vec<Step>,
     kernel: &'a Kernel,
-) -> Result<(Option<ResolvedLoop>, Option<Node>), AllocError>
+) -> Result<Plan, AllocError>
     requires { scope_of scope.old ≡ typing.empty (items.loop_index (program_of kernel.now)) }
-    ensures start { let k = program_of kernel.now in IfOk result (λ _. tasks_of start.new.items
-        ≡ followed (tasks_of start.old.items) (plans.resolved_vars (typing.param_scope k) k.vars)) }
-    ensures for_loop { let k = program_of kernel.now in IfOk result (λ p. option_map plans.loop_plan_of p.0
-        ≡ plans.resolved_for_loop (typing.var_scope k) k.for_loop) }
-    ensures answer { let k = program_of kernel.now in IfOk result (λ p. option_map tree_of p.1
-        ≡ plans.resolved_answer (typing.after_for_loop (typing.var_scope k) k.for_loop) k.answer) }
+    ensures { IfOk result (λ p. plans.planned_of p ≡ plans.planned (program_of kernel.now)) }
 {
     declare_params(scope, &kernel.params)?;
-    push_vars(alloc, scope, start, &kernel.vars)?;
-    resolve_rest(alloc, scope, kernel)
+    let mut start = Vec::new(alloc);
+    push_vars(alloc, scope, &mut start, &kernel.vars)?;
+    let for_loop = resolve_loop(alloc, scope, &kernel.body)?;
+    let answer = resolve_answer(alloc, scope, &kernel.answer)?;
+    Ok(Plan {
+        start,
+        for_loop,
+        answer,
+    })
 }
 
 /// A kernel with its names and types resolved.
@@ -147,11 +116,5 @@ pub fn resolve_kernel(alloc: Global, kernel: &Kernel) -> Result<Plan, AllocError
     ensures { IfOk result (λ p. plans.planned_of p ≡ plans.planned (program_of kernel.now)) }
 {
     let mut scope = empty(alloc, loop_index(&kernel.body));
-    let mut start = Vec::new(alloc);
-    let (for_loop, answer) = resolve_parts(alloc, &mut scope, &mut start, kernel)?;
-    Ok(Plan {
-        start,
-        for_loop,
-        answer,
-    })
+    resolve_parts(alloc, &mut scope, kernel)
 }

@@ -2,12 +2,10 @@
 #![tactic(auto)]
 
 mod block_end;
-mod build;
 mod element;
 mod evaluator;
 mod kernels;
 mod loop_state;
-mod make;
 mod names;
 mod node;
 mod offset;

@@ -66,36 +66,12 @@ fn compare_on(op: CompareOp, left: i128, right: i128) -> bool
     }
 }
 
-#[inline(always)]
-#[tactic(auto, using(kernel_meaning::proofs::Residues::word_rules))]
-fn unary_at(op: UnaryOp, ty: Option<Ty>, value: i128) -> i128
-    ensures { result ≡ operators.unary_value op ty value }
-{
-    wrapped(ty, unary_on(op, value))
-}
-
-#[inline(always)]
-#[tactic(auto, using(kernel_meaning::proofs::Residues::word_rules))]
-fn binary_at(op: BinaryOp, ty: Option<Ty>, left: i128, right: i128) -> i128
-    ensures { result ≡ operators.binary_value op ty left right }
-{
-    wrapped(ty, binary_on(op, left, right))
-}
-
-#[inline(always)]
-#[tactic(auto, using(kernel_meaning::proofs::Residues::word_rules))]
-fn shift_at(left_shift: bool, count: i128, ty: Option<Ty>, value: i128) -> i128
-    ensures { result ≡ operators.shift_value left_shift count ty value }
-{
-    wrapped(ty, shift_on(left_shift, shift_count(count), value))
-}
-
 /// The number of the element at an offset from the loop variable, modulo 2^64.
 #[inline(always)]
 pub fn stream_number(index: i128, offset: i128) -> i128
     ensures { result ≡ slots_of.stream_number index offset }
 {
-    binary_at(BinaryOp::Add, Some(Ty::U64), index, offset)
+    wrap(Ty::U64, index.wrapping_add(offset))
 }
 
 /// What a unary operator gives at a type, unless its operand faults.
@@ -105,7 +81,7 @@ pub fn unary(op: UnaryOp, ty: Option<Ty>, value: Option<i128>) -> Option<i128>
 {
     match value {
         None => None,
-        Some(value) => Some(unary_at(op, ty, value)),
+        Some(value) => Some(wrapped(ty, unary_on(op, value))),
     }
 }
 
@@ -115,7 +91,7 @@ pub fn binary(op: BinaryOp, ty: Option<Ty>, left: Option<i128>, right: Option<i1
     ensures { result ≡ eval.on_both (operators.binary_value op ty) left right }
 {
     match (left, right) {
-        (Some(left), Some(right)) => Some(binary_at(op, ty, left, right)),
+        (Some(left), Some(right)) => Some(wrapped(ty, binary_on(op, left, right))),
         _ => None,
     }
 }
@@ -127,7 +103,7 @@ pub fn shift(left_shift: bool, count: i128, ty: Option<Ty>, value: Option<i128>)
 {
     match value {
         None => None,
-        Some(value) => Some(shift_at(left_shift, count, ty, value)),
+        Some(value) => Some(wrapped(ty, shift_on(left_shift, shift_count(count), value))),
     }
 }
 

@@ -13,7 +13,7 @@ use crate::node::Node;
 use crate::offset::stream_offset;
 use kernel_meaning::wrapped;
 use kernel_scope::{Scope, array_type, first, own_type, side_type};
-use kernel_tree::{BinaryOp, CompareOp, Expr, Name, Ty, UnaryOp};
+use kernel_tree::{BinaryOp, CompareOp, Expr, Name, Ty};
 use std::alloc::{AllocError, Global};
 
 // An element at an offset from the loop variable.
@@ -42,19 +42,33 @@ pub fn resolve(
         Expr::Lit(value) => Ok(Node::Constant(wrapped(want, *value))),
         Expr::Var(name) => Ok(Node::Slot(slot(scope, name))),
         Expr::Read { array, index } => resolve_read(alloc, scope, array, index),
-        Expr::Unary { op, arg } => resolve_unary(alloc, scope, *op, want, arg),
+        Expr::Unary { op, arg } => Ok(Node::Unary {
+            op: *op,
+            ty: want,
+            arg: operand(alloc, scope, want, arg)?,
+        }),
         Expr::Binary { op, left, right } => resolve_binary(alloc, scope, *op, want, left, right),
         Expr::Shift {
             left_shift,
             arg,
             count,
-        } => resolve_shift(alloc, scope, *left_shift, *count, want, arg),
-        Expr::Cast { arg, ty } => resolve_cast(alloc, scope, *ty, arg),
+        } => Ok(Node::Shift {
+            left_shift: *left_shift,
+            count: *count,
+            ty: want,
+            arg: operand(alloc, scope, want, arg)?,
+        }),
+        Expr::Cast { arg, ty } => Ok(Node::Cast {
+            ty: *ty,
+            arg: operand(alloc, scope, own_type(scope, arg), arg)?,
+        }),
         Expr::Select { cond, yes, no } => resolve_select(alloc, scope, want, cond, yes, no),
         Expr::Compare { op, left, right } => resolve_compared(alloc, scope, *op, left, right),
         Expr::And { left, right } => resolve_both(alloc, scope, left, right),
         Expr::Or { left, right } => resolve_either(alloc, scope, left, right),
-        Expr::Not { arg } => resolve_negated(alloc, scope, arg),
+        Expr::Not { arg } => Ok(Node::Not {
+            arg: operand(alloc, scope, None, arg)?,
+        }),
     }
 }
 
@@ -67,9 +81,9 @@ pub fn resolve_number(alloc: Global, scope: &Scope, index: &Expr) -> Result<Node
     resolve(alloc, scope, want, index)
 }
 
-// An operand, in a box.
+/// An operand, in a box.
 #[cycle(nodes)]
-fn operand(
+pub fn operand(
     alloc: Global,
     scope: &Scope,
     want: Option<Ty>,
@@ -134,60 +148,6 @@ fn resolve_element(
         ty: array_type(scope, array),
         number,
     })
-}
-
-#[cycle(nodes)]
-fn resolve_unary(
-    alloc: Global,
-    scope: &Scope,
-    op: UnaryOp,
-    want: Option<Ty>,
-    arg: &Expr,
-) -> Result<Node, AllocError>
-    ensures { IfOk result (λ n. tree_of n ≡ trees.Unary op want
-        (resolving.resolved (scope_of scope.now) want (term_of arg.now))) }
-{
-    let arg = operand(alloc, scope, want, arg)?;
-    Ok(Node::Unary { op, ty: want, arg })
-}
-
-#[cycle(nodes)]
-fn resolve_shift(
-    alloc: Global,
-    scope: &Scope,
-    left_shift: bool,
-    count: i128,
-    want: Option<Ty>,
-    arg: &Expr,
-) -> Result<Node, AllocError>
-    ensures { IfOk result (λ n. tree_of n ≡ trees.Shift left_shift count want
-        (resolving.resolved (scope_of scope.now) want (term_of arg.now))) }
-{
-    let arg = operand(alloc, scope, want, arg)?;
-    Ok(Node::Shift {
-        left_shift,
-        count,
-        ty: want,
-        arg,
-    })
-}
-
-#[cycle(nodes)]
-fn resolve_cast(alloc: Global, scope: &Scope, ty: Ty, arg: &Expr) -> Result<Node, AllocError>
-    ensures { IfOk result (λ n. tree_of n ≡ trees.Cast ty (resolving.resolved (scope_of scope.now)
-        (typing.own (scope_of scope.now) (term_of arg.now)) (term_of arg.now))) }
-{
-    let arg = operand(alloc, scope, own_type(scope, arg), arg)?;
-    Ok(Node::Cast { ty, arg })
-}
-
-#[cycle(nodes)]
-fn resolve_negated(alloc: Global, scope: &Scope, arg: &Expr) -> Result<Node, AllocError>
-    ensures { IfOk result (λ n. tree_of n
-        ≡ trees.Not (resolving.resolved (scope_of scope.now) None (term_of arg.now))) }
-{
-    let arg = operand(alloc, scope, None, arg)?;
-    Ok(Node::Not { arg })
 }
 
 #[cycle(nodes)]

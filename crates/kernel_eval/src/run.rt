@@ -1,11 +1,9 @@
 //! Runs resolved kernels.
 
-ghost use Rattle.std.specs.Prelude.{◌≡◌, Option, option_map, pos, slice_set};
-ghost use Rattle.guest_types.specs.Memory.{Memory};
+ghost use Rattle.std.specs.Prelude.{◌≡◌, option_map, slice_set};
 ghost use Rattle.kernel_meaning.specs.Operators as operators;
 ghost use Rattle.kernel_meaning.specs.ScalarRun as running;
 ghost use Rattle.kernel_eval.specs.Trees.{tree_of};
-ghost use Rattle.kernel_eval.specs.Slots.{block_end_of};
 ghost use Rattle.kernel_eval.specs.Slots as slots_of;
 ghost use Rattle.kernel_eval.specs.Plans as plans;
 ghost use Rattle.kernel_eval.specs.Plans.{limited_of, loop_plan_of, planned_of, loop_state_of};
@@ -27,21 +25,6 @@ fn put(slots: &mut [i128], slot: usize, value: i128)
     }
 }
 
-// One iteration.
-fn iterate<M: GuestMemory>(
-    resolved: &ResolvedLoop,
-    at: u64,
-    memory: &mut M,
-    slots: &mut [i128],
-) -> BlockEnd
-    ensures { block_end_of result (M.memory memory.new) slots.new
-        ≡ plans.slot_iteration (loop_plan_of resolved.now) at (M.memory memory.old) slots.old }
-{
-    put(slots, resolved.index, at as i128);
-    let iteration_end = perform(&resolved.body, memory, slots);
-    iteration_end
-}
-
 // So many iterations.
 fn follow<M: GuestMemory>(
     resolved: &ResolvedLoop,
@@ -53,7 +36,8 @@ fn follow<M: GuestMemory>(
         ≡ plans.slot_iterations (loop_plan_of resolved.now) count 0 (M.memory memory.old) slots.old }
 {
     for at in 0..count {
-        match iterate(resolved, at, memory, slots) {
+        put(slots, resolved.index, at as i128);
+        match perform(&resolved.body, memory, slots) {
             BlockEnd::Next => {}
             BlockEnd::Broke => return LoopState::Left(At { number: at }),
             BlockEnd::Faulted => return LoopState::Failed(At { number: at }),
@@ -62,27 +46,24 @@ fn follow<M: GuestMemory>(
     LoopState::Going
 }
 
-// The result, unless its expression faults.
-fn result_of<M: GuestMemory>(answer: &Option<Node>, memory: &M, slots: &[i128]) -> Option<u64>
-    ensures { result ≡ plans.slot_answer (option_map tree_of answer.now) (M.memory memory.now) slots.now }
+// The end of a run: the result, or a fault in its expression.
+fn ended<M: GuestMemory>(
+    answer: &Option<Node>,
+    memory: &M,
+    slots: &[i128],
+    begun: u64,
+) -> ScalarOutcome
+    ensures { limited_of result (M.memory memory.now) ≡ plans.Ended (running.ended (M.memory memory.now) begun
+        (plans.slot_answer (option_map tree_of answer.now) (M.memory memory.now) slots.now)) }
 {
     match answer {
-        None => Some(0),
+        None => ScalarOutcome::End { result: 0, begun },
         Some(node) => match value(node, memory, slots) {
-            None => None,
-            Some(value) => Some(word(value)),
-        },
-    }
-}
-
-fn ended(value: Option<u64>, begun: u64) -> ScalarOutcome
-    ensures { (memory : Memory) → limited_of result memory ≡ plans.Ended (running.ended memory begun value) }
-{
-    match value {
-        None => ScalarOutcome::Fault { begun },
-        Some(value) => ScalarOutcome::End {
-            result: value,
-            begun,
+            None => ScalarOutcome::Fault { begun },
+            Some(value) => ScalarOutcome::End {
+                result: word(value),
+                begun,
+            },
         },
     }
 }
@@ -101,43 +82,7 @@ fn close<M: GuestMemory>(
         (M.memory memory.now) slots.old done begun) }
 {
     put(slots, index, done as i128);
-    ended(result_of(answer, memory, slots), begun)
-}
-
-// The end of a loop of `count` iterations, of which at most `limit` are done.
-fn finish<M: GuestMemory>(
-    resolved: &ResolvedLoop,
-    answer: &Option<Node>,
-    count: u64,
-    limit: u64,
-    state: LoopState,
-    memory: &M,
-    slots: &mut [i128],
-) -> ScalarOutcome
-    ensures { limited_of result (M.memory memory.now)
-        ≡ plans.slot_finish (option_map tree_of answer.now) resolved.now.index count limit
-        (loop_state_of state (M.memory memory.now) slots.old) }
-{
-    match state {
-        LoopState::Going => {
-            if limit < count {
-                ScalarOutcome::Spent
-            } else {
-                close(answer, resolved.index, memory, slots, count, count)
-            }
-        }
-        LoopState::Left(at) => close(
-            answer,
-            resolved.index,
-            memory,
-            slots,
-            at.number,
-            at.number + 1,
-        ),
-        LoopState::Failed(at) => ScalarOutcome::Fault {
-            begun: at.number + 1,
-        },
-    }
+    ended(answer, memory, slots, begun)
 }
 
 fn run_loop<M: GuestMemory>(
@@ -152,23 +97,25 @@ fn run_loop<M: GuestMemory>(
         (operators.word (slots_of.slot_at slots.old resolved.now.bound)) (M.memory memory.old) slots.old }
 {
     let count = word(slot_at(slots, resolved.bound));
-    let state = follow(resolved, count.min(limit), memory, slots);
-    finish(resolved, answer, count, limit, state, &*memory, slots)
-}
-
-fn run_for_loop<M: GuestMemory>(
-    plan: &Plan,
-    limit: u64,
-    memory: &mut M,
-    slots: &mut [i128],
-) -> ScalarOutcome
-    ensures { limited_of result (M.memory memory.new)
-        ≡ plans.slot_for_loop (planned_of plan.now).answer (planned_of plan.now).for_loop limit
-        (M.memory memory.old) slots.old }
-{
-    match &plan.for_loop {
-        None => ended(result_of(&plan.answer, &*memory, slots), 0),
-        Some(resolved) => run_loop(resolved, &plan.answer, limit, memory, slots),
+    match follow(resolved, count.min(limit), memory, slots) {
+        LoopState::Going => {
+            if limit < count {
+                ScalarOutcome::Spent
+            } else {
+                close(answer, resolved.index, &*memory, slots, count, count)
+            }
+        }
+        LoopState::Left(at) => close(
+            answer,
+            resolved.index,
+            &*memory,
+            slots,
+            at.number,
+            at.number + 1,
+        ),
+        LoopState::Failed(at) => ScalarOutcome::Fault {
+            begun: at.number + 1,
+        },
     }
 }
 
@@ -183,8 +130,10 @@ pub fn run<M: GuestMemory>(
         ≡ plans.slot_run (planned_of plan.now) limit (M.memory memory.old) slots.old }
 {
     match perform(&plan.start, memory, slots) {
-        BlockEnd::Next => run_for_loop(plan, limit, memory, slots),
-        BlockEnd::Broke => ScalarOutcome::Fault { begun: 0 },
-        BlockEnd::Faulted => ScalarOutcome::Fault { begun: 0 },
+        BlockEnd::Next => match &plan.for_loop {
+            None => ended(&plan.answer, &*memory, slots, 0),
+            Some(resolved) => run_loop(resolved, &plan.answer, limit, memory, slots),
+        },
+        BlockEnd::Broke | BlockEnd::Faulted => ScalarOutcome::Fault { begun: 0 },
     }
 }

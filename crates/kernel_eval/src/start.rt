@@ -1,10 +1,9 @@
 //! The slots at the start of a run.
 
-ghost use Rattle.std.specs.Prelude.{◌≡◌, ◌++◌, ◌-◌, IfOk, length, map, pos, replicate, slice_index};
+ghost use Rattle.std.specs.Prelude.{◌≡◌, IfOk, map, slice_index};
 ghost use Rattle.kernel_tree.specs.Plain.{parameters_of};
 ghost use Rattle.kernel_meaning.specs.Eval.{value_of};
 ghost use Rattle.kernel_meaning.specs.ScalarRun as running;
-ghost use Rattle.kernel_eval.specs.Resolve.{most_slots};
 ghost use Rattle.kernel_eval.specs.Plans.{filled};
 
 use crate::names::MOST_SLOTS;
@@ -40,23 +39,14 @@ fn argument_names(alloc: Global, params: &[Param], args: &[u64]) -> Result<Vec<i
     Ok(slots)
 }
 
-// Adds zeros up to the last slot.
-fn pad(slots: &mut Vec<i128>) -> Result<(), AllocError>
-    ensures { IfOk result (λ _. slots.new.items
-        ≡ slots.old.items ++ replicate (most_slots - length slots.old.items) (pos 0)) }
-{
-    let missing = MOST_SLOTS.saturating_sub(slots.len());
-    for _at in 0..missing {
-        slots.push(0)?;
-    }
-    Ok(())
-}
-
 /// The slots at the start: the values of the parameters, and zeros.
 pub fn start(alloc: Global, params: &[Param], args: &[u64]) -> Result<Vec<i128>, AllocError>
     ensures { IfOk result (λ v. v.items ≡ filled (running.argument_names (parameters_of params.now) args.now)) }
 {
     let mut slots = argument_names(alloc, params, args)?;
-    pad(&mut slots)?;
+    let missing = MOST_SLOTS.saturating_sub(slots.len());
+    for _at in 0..missing {
+        slots.push(0)?;
+    }
     Ok(slots)
 }

@@ -5,17 +5,14 @@ ghost use Rattle.kernel_tree.specs.Plain as plain;
 ghost use Rattle.kernel_tree.specs.Plain.{name_of, term_of, action_of, block_of};
 ghost use Rattle.kernel_tree.specs.Typing as typing;
 ghost use Rattle.kernel_meaning.specs.Operators as operators;
-ghost use Rattle.kernel_eval.specs.Trees as trees;
 ghost use Rattle.kernel_eval.specs.Trees.{task_of, tasks_of};
 ghost use Rattle.kernel_eval.specs.Resolve as resolving;
 ghost use Rattle.kernel_scope.specs.Scopes.{scope_of};
 
-use crate::build::binary;
-use crate::make::{branch, put, store};
 use crate::names::{MOST_SLOTS, index_slot, slot};
 use crate::node::Node;
 use crate::offset::stream_offset;
-use crate::resolve::{resolve, resolve_number};
+use crate::resolve::{operand, resolve, resolve_number};
 use crate::step::Step;
 use kernel_scope::{
     Scope, accumulator_type, array_type, define, first, leave, lookup, own_type, visible_count,
@@ -52,47 +49,6 @@ fn resolve_let<'a>(
     Ok(Step::Set { slot, value })
 }
 
-// A store at a computed number.
-fn resolve_computed(
-    alloc: Global,
-    scope: &Scope,
-    array: &Name,
-    index: &Expr,
-    value: &Expr,
-) -> Result<Step, AllocError>
-    ensures { IfOk result (λ s. task_of s ≡ trees.Store (resolving.slot_of (scope_of scope.now) (name_of array.now))
-        (typing.array_type (scope_of scope.now) (name_of array.now))
-        (resolving.number_tree (scope_of scope.now) (term_of index.now))
-        (resolving.resolved (scope_of scope.now) (typing.array_type (scope_of scope.now) (name_of array.now))
-        (term_of value.now))) }
-{
-    let ty = array_type(scope, array);
-    let base = slot(scope, array);
-    let number = resolve_number(alloc, scope, index)?;
-    let value = resolve(alloc, scope, ty, value)?;
-    Ok(store(base, ty, number, value))
-}
-
-// A store at an offset from the loop variable.
-fn resolve_put(
-    alloc: Global,
-    scope: &Scope,
-    array: &Name,
-    offset: i128,
-    value: &Expr,
-) -> Result<Step, AllocError>
-    ensures { IfOk result (λ s. task_of s ≡ trees.Put (resolving.slot_of (scope_of scope.now) (name_of array.now))
-        (typing.array_type (scope_of scope.now) (name_of array.now))
-        (resolving.index_slot (scope_of scope.now).visible (scope_of scope.now).index) offset
-        (resolving.resolved (scope_of scope.now) (typing.array_type (scope_of scope.now) (name_of array.now))
-        (term_of value.now))) }
-{
-    let ty = array_type(scope, array);
-    let base = slot(scope, array);
-    let value = resolve(alloc, scope, ty, value)?;
-    Ok(put(base, ty, index_slot(scope), offset, value))
-}
-
 fn resolve_store(
     alloc: Global,
     scope: &Scope,
@@ -103,9 +59,23 @@ fn resolve_store(
     ensures { IfOk result (λ s. task_of s ≡ resolving.resolved_action (scope_of scope.now)
         (plain.Put (name_of array.now) (term_of index.now) (term_of value.now))) }
 {
+    let base = slot(scope, array);
+    let ty = array_type(scope, array);
+    let value = resolve(alloc, scope, ty, value)?;
     match stream_offset(scope.index, index) {
-        Some(offset) => resolve_put(alloc, scope, array, offset, value),
-        None => resolve_computed(alloc, scope, array, index, value),
+        Some(offset) => Ok(Step::Put {
+            base,
+            ty,
+            index: index_slot(scope),
+            offset,
+            value,
+        }),
+        None => Ok(Step::Store {
+            base,
+            ty,
+            number: resolve_number(alloc, scope, index)?,
+            value,
+        }),
     }
 }
 
@@ -135,8 +105,14 @@ fn resolve_update(
 {
     let want = lookup(scope, name).and_then(accumulator_type);
     let slot = slot(scope, name);
-    let value = resolve(alloc, scope, want, value)?;
-    let value = binary(alloc, operator(op), want, Node::Slot(slot), value)?;
+    let right = operand(alloc, scope, want, value)?;
+    let left = Box::new(alloc, Node::Slot(slot))?;
+    let value = Node::Binary {
+        op: operator(op),
+        ty: want,
+        left,
+        right,
+    };
     Ok(Step::Set { slot, value })
 }
 
@@ -166,33 +142,14 @@ fn resolve_stmt<'a>(
             value,
         } => resolve_store(alloc, scope, array, index, value),
         Part::Update { name, op, value } => resolve_update(alloc, scope, name, op, value),
-        Part::If { cond, block } => resolve_if(alloc, scope, cond, block),
-        Part::IfElse { cond, block, other } => resolve_if_else(alloc, scope, cond, block, other),
+        Part::If { cond, block } => resolve_if(alloc, scope, cond, block, &[]),
+        Part::IfElse { cond, block, other } => resolve_if(alloc, scope, cond, block, other),
         Part::Break { cond } => resolve_break(alloc, scope, cond),
     }
 }
 
 #[cycle(statements)]
 fn resolve_if<'a>(
-    alloc: Global,
-    scope: &mut Scope<'a>,
-    cond: &Expr,
-    block: &'a [Stmt],
-) -> Result<Step, AllocError>
-    ensures step { IfOk result (λ s. task_of s
-        ≡ resolving.resolved_action (scope_of scope.old)
-        (plain.Choose (term_of cond.now) (block_of block.now) plain.Nothing)) }
-    ensures scope { IfOk result (λ _. scope_of scope.new
-        ≡ typing.after_action (scope_of scope.old)
-        (plain.Choose (term_of cond.now) (block_of block.now) plain.Nothing)) }
-{
-    let cond = resolve(alloc, scope, None, cond)?;
-    let yes = resolve_inner(alloc, scope, block)?;
-    Ok(branch(cond, yes, Vec::new(alloc)))
-}
-
-#[cycle(statements)]
-fn resolve_if_else<'a>(
     alloc: Global,
     scope: &mut Scope<'a>,
     cond: &Expr,
@@ -206,15 +163,15 @@ fn resolve_if_else<'a>(
         ≡ typing.after_action (scope_of scope.old)
         (plain.Choose (term_of cond.now) (block_of block.now) (plain.Else (block_of other.now)))) }
 {
-    let cond = resolve(alloc, scope, None, cond)?;
     let yes = resolve_inner(alloc, scope, block)?;
     let no = resolve_inner(alloc, scope, other)?;
-    Ok(branch(cond, yes, no))
+    let cond = resolve(alloc, scope, None, cond)?;
+    Ok(Step::If { cond, yes, no })
 }
 
-// A block, after which its names are visible no more.
+/// A block, after which its names are visible no more.
 #[cycle(statements)]
-fn resolve_inner<'a>(
+pub fn resolve_inner<'a>(
     alloc: Global,
     scope: &mut Scope<'a>,
     block: &'a [Stmt],
@@ -230,9 +187,9 @@ fn resolve_inner<'a>(
     Ok(steps)
 }
 
-/// Statements, after which their names stay visible.
+// Statements, after which their names stay visible.
 #[cycle(statements)]
-pub fn resolve_block<'a>(
+fn resolve_block<'a>(
     alloc: Global,
     scope: &mut Scope<'a>,
     block: &'a [Stmt],

@@ -257,7 +257,8 @@ impl Vectors {
             &mut self.ffr,
             &mut self.stops,
             &mut self.z[zt as usize],
-        )
+        )?;
+        Ok(())
     }
 
     // What a gather reads, before a register holds it.

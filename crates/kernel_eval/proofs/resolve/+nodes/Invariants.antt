@@ -38,15 +38,3 @@ decreases-resolve_either l = 4 * max (term_depth (term_of l.left.now)) (term_dep
 
 abbrev pub decreases-resolve_select : goal.decreases-resolve_select
 decreases-resolve_select l = 4 * max (term_depth (term_of l.cond.now)) (max (term_depth (term_of l.yes.now)) (term_depth (term_of l.no.now))) + 3
-
-abbrev pub decreases-resolve_unary : goal.decreases-resolve_unary
-decreases-resolve_unary l = 4 * term_depth (term_of l.arg.now) + 3
-
-abbrev pub decreases-resolve_shift : goal.decreases-resolve_shift
-decreases-resolve_shift l = 4 * term_depth (term_of l.arg.now) + 3
-
-abbrev pub decreases-resolve_cast : goal.decreases-resolve_cast
-decreases-resolve_cast l = 4 * term_depth (term_of l.arg.now) + 3
-
-abbrev pub decreases-resolve_negated : goal.decreases-resolve_negated
-decreases-resolve_negated l = 4 * term_depth (term_of l.arg.now) + 3

@@ -1,12 +1,15 @@
-use Rattle.std.proofs.Common.{◌+◌, List, sym, ap, ◌∙◌, arith, drop}
+use Rattle.std.proofs.Common.{◌+◌, List, None, sym, ap, ◌∙◌, arith, drop}
 use Rattle.std.proofs.Math.ListN.{drop_of_length-le}
 use Rattle.kernel_tree.specs.declared.ast.Stmt.{Stmt}
-use Rattle.kernel_tree.specs.Plain.{action_of, block_of}
+use Rattle.kernel_tree.specs.Plain.{term_of, action_of, block_of}
+use Rattle.kernel_tree.specs.Typing as typing
 use Rattle.kernel_tree.specs.Limits.{block_depth}
 use Rattle.kernel_scope.specs.Scopes.{scope_of, kept}
 use Rattle.kernel_eval.specs.Trees.{tasks_of, followed}
 use Rattle.kernel_eval.specs.Resolve as resolving
 use Rattle.kernel_scope.proofs.Growth.{kept-block}
+use Rattle.kernel_eval.proofs.SameNames.{resolved-same}
+use Rattle.kernel_eval.proofs.StepLists.{if-resolved}
 use Rattle.kernel_eval.proofs.ListWalks.{next_statement, goes_on, followed-done}
 use Rattle.kernel_eval.proofs.statements.+statements.Goals as goal
 
@@ -33,3 +36,13 @@ resolve_block-returns-clause-steps t c =
     let l = c.loop-stmt in
     let e = drop_of_length-le c.args.block.now c.loop-stmt-test.false in
     sym (followed-done (tasks_of l.steps.items)) ∙ ap (λ (xs : List Stmt). followed (tasks_of l.steps.items) (resolving.resolved_block (scope_of l.scope) (block_of xs))) (sym e) ∙ l.invariant.steps
+
+pub resolve_if-returns-clause-step : goal.resolve_if-returns-clause-step
+resolve_if-returns-clause-step t c =
+    let yes = c.in_ok-yes.ensures in
+    let no = c.in_ok-no.ensures in
+    let visible = ap (λ (s : typing.Scope). s.visible) no.scope ∙ ap (λ (s : typing.Scope). s.visible) yes.scope in
+    let index = ap (λ (s : typing.Scope). s.index) no.scope ∙ ap (λ (s : typing.Scope). s.index) yes.scope in
+    if-resolved c.in_ok-cond.cond c.in_ok-yes.yes c.in_ok-no.no _ _ _
+    (c.in_ok-cond.ensures ∙ resolved-same (scope_of c.args.scope.now) (scope_of c.resolve_inner-2.new.scope) None (term_of c.args.cond.now) visible index)
+    yes.steps (no.steps ∙ ap (λ s. resolving.resolved_block s (block_of c.args.other.now)) yes.scope)

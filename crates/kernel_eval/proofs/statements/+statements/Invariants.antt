@@ -21,10 +21,7 @@ abbrev pub decreases-resolve_stmt : goal.decreases-resolve_stmt
 decreases-resolve_stmt l = 4 * action_depth (action_of l.stmt.now)
 
 abbrev pub decreases-resolve_if : goal.decreases-resolve_if
-decreases-resolve_if l = 4 * block_depth (block_of l.block.now) + 3
-
-abbrev pub decreases-resolve_if_else : goal.decreases-resolve_if_else
-decreases-resolve_if_else l = 4 * max (block_depth (block_of l.block.now)) (block_depth (block_of l.other.now)) + 3
+decreases-resolve_if l = 4 * max (block_depth (block_of l.block.now)) (block_depth (block_of l.other.now)) + 3
 
 abbrev pub decreases-resolve_inner : goal.decreases-resolve_inner
 decreases-resolve_inner l = 4 * block_depth (block_of l.block.now) + 2
