@@ -1,23 +1,12 @@
 -- The words of an operator with two operands.
-use Rattle.std.specs.Prelude.{ℕ, List, [], ◌∷◌, Bool, true, false}
-use Rattle.a64_code.specs.Table.{add, sub, subs, madd, land, orr, eor, csel}
+use Rattle.std.specs.Prelude.{ℕ, [], ◌∷◌, Bool, true, false}
+use Rattle.a64_code.specs.Table.{add, sub, madd, land, orr, eor, csel}
 use Rattle.machine_model.specs.InstructionTable.{Listed}
 use Rattle.kernel_tree.specs.declared.ops.BinaryOp.{BinaryOp}
-use Rattle.label_fix.specs.DraftRun.{DraftEntry, word_of, ins}
+use Rattle.label_fix.specs.DraftRun.{word_of}
 use Rattle.scalar_words.specs.Words.{condition}
 use Rattle.kernel_tree.specs.declared.ops.BinaryOp.TheVariants as binary
 use Rattle.kernel_tree.specs.declared.ops.CompareOp.TheVariants as compare
-
--- the comparison before the word of a minimum or a maximum
-abbrev pub test_code : BinaryOp → ℕ → ℕ → List DraftEntry → List DraftEntry
-test_code binary.Add a b rest = rest
-test_code binary.Sub a b rest = rest
-test_code binary.Mul a b rest = rest
-test_code binary.And a b rest = rest
-test_code binary.Or a b rest = rest
-test_code binary.Xor a b rest = rest
-test_code binary.Min a b rest = ins subs (31 ∷ a ∷ 0 ∷ b ∷ 0 ∷ []) ∷ rest
-test_code binary.Max a b rest = ins subs (31 ∷ a ∷ 0 ∷ b ∷ 0 ∷ []) ∷ rest
 
 -- the word that writes the result
 abbrev pub operation_word : BinaryOp → Bool → ℕ → ℕ → ℕ → Listed

@@ -150,6 +150,7 @@ pub fn kernel_homes<'a>(
     let mut homes = Vec::new(alloc);
     let mut scope = empty(alloc, loop_index(&tree.body));
     let declared = declare_names(&mut scope, &mut homes, regs, tree);
+    // both answers leave at one place, where no scope is left
     drop(scope);
     match declared {
         Ok(()) => Ok(homes),
