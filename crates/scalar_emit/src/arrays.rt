@@ -7,7 +7,7 @@ ghost use Rattle.scalar_words.specs.View.{looses_of};
 ghost use Rattle.kernel_tree.specs.Items as items;
 ghost use Rattle.scalar_emit.specs.Loosening as loosening;
 
-use kernel_scope::{Scope, element_type, lookup};
+use kernel_scope::{Scope, array_type};
 use kernel_tree::{Expr, Name, Part, Stmt, Ty, parts};
 use scalar_values::covers::is_whole;
 use scalar_values::instructions::index_word;
@@ -28,7 +28,8 @@ fn put_ahead<'a>(
         Some(ty) => {
             let name = array.text();
             let form = Form::Ahead(ty);
-            loose.push(Loose { name, form })
+            loose.push(Loose { name, form })?;
+            Ok(())
         }
     }
 }
@@ -42,7 +43,7 @@ fn add_array<'a>(
         ≡ loosening.with_array (scope_of scope.now) (name_of array.now) (looses_of loose.old.items)) }
 {
     if is_whole(loose, array) {
-        let want = lookup(scope, array).and_then(element_type);
+        let want = array_type(scope, array);
         put_ahead(loose, array, want)
     } else {
         Ok(())

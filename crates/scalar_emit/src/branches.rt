@@ -28,9 +28,8 @@ pub fn land(draft: &mut Draft, label: Label, item: &mut usize) -> Result<(), All
     ensures item { OnOk result (item.new ≡ item.old + 1) }
     ensures emits { OnOk result (Emits draft.old draft.new draft.old.labels (λ rest. plain.Place label ∷ rest)) }
 {
-    draft.place(label)?;
     *item += 1;
-    Ok(())
+    draft.place(label)
 }
 
 /// A branch over what follows to a new label, and the place of a label to which what went before branches, which is an item.

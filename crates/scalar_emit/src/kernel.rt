@@ -21,7 +21,7 @@ ghost use Rattle.scalar_emit.specs.Loop as loops;
 ghost use Rattle.scalar_emit.specs.Kernel as kernels;
 ghost use Rattle.scalar_words.specs.KernelRegisters as registers;
 
-use crate::for_loop::emit_loop;
+use crate::for_loop::{emit_head, emit_loop};
 use crate::loosening::{after_loop, loosen_names};
 use crate::numbers::hold_block;
 use kernel_scope::{Scope, empty, loop_index};
@@ -43,16 +43,6 @@ use word_rows::Bits;
 
 // ---- before the loop
 
-fn emit_argument(draft: &mut Draft, place: u32, shape: Shape) -> Result<(), AllocError>
-    requires { place < 8 }
-    ensures { OnOk result (Emits draft.old draft.new draft.old.labels (kernels.argument_code shape place)) }
-{
-    match shape {
-        Shape::Array(_) => Ok(()),
-        Shape::Scalar(ty) => emit_settle(draft, true, ty, Bits { number: place }),
-    }
-}
-
 // The scalar arguments, wrapped to their types.
 fn emit_arguments(draft: &mut Draft, params: &[Param]) -> Result<(), AllocError>
     requires { length params.now ≤ 8 }
@@ -61,7 +51,9 @@ fn emit_arguments(draft: &mut Draft, params: &[Param]) -> Result<(), AllocError>
 {
     let mut place = 0;
     for param in params {
-        emit_argument(draft, place, param.shape)?;
+        if let Shape::Scalar(ty) = param.shape {
+            emit_settle(draft, true, ty, Bits { number: place })?;
+        }
         place += 1;
     }
     Ok(())
@@ -93,9 +85,8 @@ fn emit_var<'a>(
 {
     let from = emit_value(draft, places, homes, scope, Some(var.ty), &var.init, item)?;
     emit_copy(draft, counted_register(regs, place), from)?;
-    declare_var(scope, homes, regs, place, var)?;
     *item += 1;
-    Ok(())
+    declare_var(scope, homes, regs, place, var)
 }
 
 // The accumulators in their order.
@@ -322,29 +313,6 @@ fn emit_for_loop<'a>(
     Ok(head)
 }
 
-// A kernel without a loop, with its names; answers the label before its returned value.
-fn emit_straight(
-    draft: &mut Draft,
-    places: &Places,
-    homes: &[Home],
-    scope: &Scope,
-    answer: &Option<Answer>,
-    item: usize,
-) -> Result<Label, AllocError>
-    requires kind { AnswerKinds (option_map returned_of answer.now) }
-    requires fits { item + items.answer_size (scope_of scope.now).index (option_map returned_of answer.now) < 2 ^ 32 }
-    ensures head { IfOk result (λ l. l ≡ draft.old.labels) }
-    ensures emits { OnOk result (Emits draft.old draft.new
-        (draft.old.labels + (1 + loops.answer_labels (scope_of scope.now).index (option_map returned_of answer.now)))
-        (kernels.straight_code places.now (homes_of homes.now) (scope_of scope.now) draft.old.labels item
-        (option_map returned_of answer.now))) }
-{
-    let head = draft.label()?;
-    draft.place(head)?;
-    emit_answer(draft, places, homes, scope, answer, item)?;
-    Ok(head)
-}
-
 // The code of a kernel's loop and of what follows it, with no name declared yet; answers the label of its head, or before
 // the returned value.
 fn emit_rest<'a>(
@@ -373,7 +341,11 @@ fn emit_rest<'a>(
 {
     declare_names(scope, homes, regs, kernel)?;
     match &kernel.body {
-        None => emit_straight(draft, places, homes, scope, &kernel.answer, item),
+        None => {
+            let head = emit_head(draft)?;
+            emit_answer(draft, places, homes, scope, &kernel.answer, item)?;
+            Ok(head)
+        }
         Some(for_loop) => emit_for_loop(
             alloc, draft, places, regs, homes, scope, kernel, for_loop, item,
         ),
