@@ -144,28 +144,6 @@ fn emit_first<'a>(
     draft.put(small(9, 0))
 }
 
-// The same, where no name is held yet.
-fn emit_before(
-    alloc: Global,
-    draft: &mut Draft,
-    places: &Places,
-    regs: &Assigned,
-    kernel: &Kernel,
-) -> Result<(), AllocError>
-    requires assigned { IsAssignment 15 regs.now }
-    requires vars { length (program_of kernel.now).vars ≤ length regs.now.registers }
-    requires params { length (program_of kernel.now).params ≤ 8 }
-    requires kinds { VarsKinds (program_of kernel.now).vars }
-    requires few { items.size_of (program_of kernel.now) ≤ 1000 }
-    requires places { places.now ≡ registers.layout_of_kernel (register_in regs.now) (program_of kernel.now) }
-    ensures { OnOk result (Emits draft.old draft.new (draft.old.labels + kernels.begin_labels (program_of kernel.now))
-        (kernels.begin_code (register_in regs.now) (program_of kernel.now) draft.old.labels)) }
-{
-    let mut scope = empty(alloc, loop_index(&kernel.body));
-    let mut homes = Vec::new(alloc);
-    emit_first(draft, places, regs, &mut homes, &mut scope, kernel)
-}
-
 /// The code before the loop. It wraps the scalar arguments to their types, evaluates the accumulators in their order into
 /// their registers and sets X9 to zero.
 #[tactic(auto, unfolding(loop_form::specs::View::program))]
@@ -189,10 +167,20 @@ pub fn emit_begin(
     each_has_a_register(kernel, regs);
     let places = places_of(alloc, kernel, listing, regs)?;
     let tree = kernel.kernel();
-    emit_before(alloc, draft, &places, regs, tree)
+    let mut scope = empty(alloc, loop_index(&tree.body));
+    let mut homes = Vec::new(alloc);
+    emit_first(draft, &places, regs, &mut homes, &mut scope, tree)
 }
 
 // ---- the loop and the end
+
+/// Where scalar code is entered.
+#[derive(Clone, Copy)]
+pub struct ScalarEntry {
+    /// The label at the head of the loop, which is entered with the number of an iteration in X9; without a loop, the label
+    /// before the returned value.
+    pub at_iteration: Label,
+}
 
 // The end of a run, with its result in X0.
 fn emit_exit(draft: &mut Draft) -> Result<(), AllocError>
@@ -279,7 +267,7 @@ fn leave_loop(alloc: Global, places: &mut Places) -> Result<(), AllocError>
     Ok(())
 }
 
-// The loop of a kernel and what follows it, with the names before it; answers the label of its head.
+// The loop of a kernel and what follows it, with the names before it.
 fn emit_for_loop<'a>(
     alloc: Global,
     draft: &mut Draft,
@@ -290,7 +278,7 @@ fn emit_for_loop<'a>(
     kernel: &Kernel,
     for_loop: &'a Loop,
     item: usize,
-) -> Result<Label, AllocError>
+) -> Result<ScalarEntry, AllocError>
     requires params { length (program_of kernel.now).params ≤ 8 }
     requires for_loop { (program_of kernel.now).for_loop ≡ Some (for_loop_of for_loop.now) }
     requires kinds { KernelKinds (program_of kernel.now) }
@@ -299,7 +287,7 @@ fn emit_for_loop<'a>(
     requires start { item ≡ items.loop_start (program_of kernel.now) }
     requires scope { scope_of scope.old ≡ typing.var_scope (program_of kernel.now) }
     requires homes { homes_of homes.old.items ≡ registers.kernel_homes (register_in regs.now) (program_of kernel.now) }
-    ensures head { IfOk result (λ l. l ≡ draft.old.labels) }
+    ensures entry { IfOk result (λ e. e.at_iteration ≡ draft.old.labels) }
     ensures emits { OnOk result (Emits draft.old draft.new
         (draft.old.labels + kernels.scalar_labels (program_of kernel.now))
         (kernels.scalar_code (register_in regs.now) (program_of kernel.now) draft.old.labels)) }
@@ -307,14 +295,13 @@ fn emit_for_loop<'a>(
     let mut next = item;
     hold_numbers(alloc, places, regs, homes, scope, kernel, for_loop)?;
     loosen_names(alloc, places, scope, kernel, for_loop)?;
-    let head = emit_loop(draft, places, homes, scope, for_loop, &mut next)?;
+    let at_iteration = emit_loop(draft, places, homes, scope, for_loop, &mut next)?;
     leave_loop(alloc, places)?;
     emit_answer(draft, places, homes, scope, &kernel.answer, next)?;
-    Ok(head)
+    Ok(ScalarEntry { at_iteration })
 }
 
-// The code of a kernel's loop and of what follows it, with no name declared yet; answers the label of its head, or before
-// the returned value.
+// The code of a kernel's loop and of what follows it, with no name declared yet.
 fn emit_rest<'a>(
     alloc: Global,
     draft: &mut Draft,
@@ -324,7 +311,7 @@ fn emit_rest<'a>(
     scope: &mut Scope<'a>,
     kernel: &'a Kernel,
     item: usize,
-) -> Result<Label, AllocError>
+) -> Result<ScalarEntry, AllocError>
     requires assigned { IsAssignment 15 regs.now }
     requires vars { length (program_of kernel.now).vars ≤ length regs.now.registers }
     requires params { length (program_of kernel.now).params ≤ 8 }
@@ -334,7 +321,7 @@ fn emit_rest<'a>(
     requires start { item ≡ items.loop_start (program_of kernel.now) }
     requires scope { scope_of scope.old ≡ typing.empty (items.loop_index (program_of kernel.now)) }
     requires homes { homes.old.items ≡ [] }
-    ensures head { IfOk result (λ l. l ≡ draft.old.labels) }
+    ensures entry { IfOk result (λ e. e.at_iteration ≡ draft.old.labels) }
     ensures emits { OnOk result (Emits draft.old draft.new
         (draft.old.labels + kernels.scalar_labels (program_of kernel.now))
         (kernels.scalar_code (register_in regs.now) (program_of kernel.now) draft.old.labels)) }
@@ -342,50 +329,14 @@ fn emit_rest<'a>(
     declare_names(scope, homes, regs, kernel)?;
     match &kernel.body {
         None => {
-            let head = emit_head(draft)?;
+            let at_iteration = emit_head(draft)?;
             emit_answer(draft, places, homes, scope, &kernel.answer, item)?;
-            Ok(head)
+            Ok(ScalarEntry { at_iteration })
         }
         Some(for_loop) => emit_for_loop(
             alloc, draft, places, regs, homes, scope, kernel, for_loop, item,
         ),
     }
-}
-
-// The same, where no name is held yet.
-fn emit_after<'a>(
-    alloc: Global,
-    draft: &mut Draft,
-    places: &mut Places<'a>,
-    regs: &Assigned,
-    kernel: &'a Kernel,
-    item: usize,
-) -> Result<Label, AllocError>
-    requires assigned { IsAssignment 15 regs.now }
-    requires vars { length (program_of kernel.now).vars ≤ length regs.now.registers }
-    requires params { length (program_of kernel.now).params ≤ 8 }
-    requires kinds { KernelKinds (program_of kernel.now) }
-    requires few { items.size_of (program_of kernel.now) ≤ 1000 }
-    requires places { places.old ≡ registers.layout_of_kernel (register_in regs.now) (program_of kernel.now) }
-    requires start { item ≡ items.loop_start (program_of kernel.now) }
-    ensures head { IfOk result (λ l. l ≡ draft.old.labels) }
-    ensures emits { OnOk result (Emits draft.old draft.new
-        (draft.old.labels + kernels.scalar_labels (program_of kernel.now))
-        (kernels.scalar_code (register_in regs.now) (program_of kernel.now) draft.old.labels)) }
-{
-    let mut scope = empty(alloc, loop_index(&kernel.body));
-    let mut homes = Vec::new(alloc);
-    emit_rest(
-        alloc, draft, places, regs, &mut homes, &mut scope, kernel, item,
-    )
-}
-
-/// Where scalar code is entered.
-#[derive(Clone, Copy)]
-pub struct ScalarEntry {
-    /// The label at the head of the loop, which is entered with the number of an iteration in X9; without a loop, the label
-    /// before the returned value.
-    pub at_iteration: Label,
 }
 
 /// The code of the loop and of what follows it, up to the end of the run.
@@ -412,6 +363,16 @@ pub fn emit_scalar(
     let mut places = places_of(alloc, kernel, listing, regs)?;
     let tree = kernel.kernel();
     let item = tree.params.len() + vars_size_of(kernel, &tree.vars) as usize;
-    let at_iteration = emit_after(alloc, draft, &mut places, regs, tree, item)?;
-    Ok(ScalarEntry { at_iteration })
+    let mut scope = empty(alloc, loop_index(&tree.body));
+    let mut homes = Vec::new(alloc);
+    emit_rest(
+        alloc,
+        draft,
+        &mut places,
+        regs,
+        &mut homes,
+        &mut scope,
+        tree,
+        item,
+    )
 }

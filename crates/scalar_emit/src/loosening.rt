@@ -1,7 +1,7 @@
 //! Which names a loop holds loosely: its variable and its arrays where it counts to zero, and accumulators.
 
-ghost use Rattle.std.specs.Prelude.{◌≡◌, List, [], ◌++◌, Some, if◌then◌else◌, IfOk, OnOk, option_map, option_and_then};
-ghost use Rattle.kernel_tree.specs.Plain.{Define, Put, Update, Choose, Nothing, Else, name_of, term_of, action_of, block_of, for_loop_of, returned_of, program_of};
+ghost use Rattle.std.specs.Prelude.{◌≡◌, List, [], ◌∷◌, ◌++◌, ◌&&◌, Some, if◌then◌else◌, IfOk, OnOk, option_map, option_and_then};
+ghost use Rattle.kernel_tree.specs.Plain.{Define, Put, Update, name_of, term_of, action_of, block_of, for_loop_of, returned_of, program_of};
 ghost use Rattle.kernel_scope.specs.Scopes.{scope_of, in_body};
 ghost use Rattle.scalar_words.specs.View.{form_of, loose_of, looses_of};
 ghost use Rattle.scalar_words.specs.Layout.{with_loose};
@@ -17,7 +17,7 @@ use kernel_scope::{
     lookup, own_type, visible_count,
 };
 use kernel_tree::fault::Binding;
-use kernel_tree::{Answer, BinaryOp, Expr, Kernel, Loop, Name, Part, Stmt, Ty, UpdateOp, parts};
+use kernel_tree::{Answer, Expr, Kernel, Loop, Name, Part, Stmt, Ty, UpdateOp, parts};
 use scalar_values::covers::{covers, covers_index, covers_truth, held_extent, is_enough, is_whole};
 use scalar_values::extent::{Extent, binary_extent, extent_at};
 use scalar_words::instructions::is_narrow;
@@ -75,8 +75,15 @@ fn covers_stmt<'a>(
         (action_of stmt.now)) }
 {
     match parts(stmt) {
-        Part::If { cond, block } => covers_if(loose, scope, cond, block),
-        Part::IfElse { cond, block, other } => covers_if_else(loose, scope, cond, block, other),
+        Part::If { cond, block } => {
+            let truth = covers_truth(loose, scope, cond);
+            covers_inner(loose, scope, truth, block)
+        }
+        Part::IfElse { cond, block, other } => {
+            let truth = covers_truth(loose, scope, cond);
+            let first = covers_inner(loose, scope, truth, block)?;
+            covers_inner(loose, scope, first, other)
+        }
         Part::Let { name, ty, value } => covers_let(loose, scope, name, ty, value),
         Part::Store {
             array,
@@ -88,73 +95,38 @@ fn covers_stmt<'a>(
     }
 }
 
-#[cycle(statements)]
-fn covers_if<'a>(
-    loose: &[Loose],
-    scope: &mut Scope<'a>,
-    cond: &Expr,
-    block: &'a [Stmt],
-) -> Result<bool, AllocError>
-    ensures scope { OnOk result (scope_of scope.new
-        ≡ typing.after_action (scope_of scope.old) (Choose (term_of cond.now) (block_of block.now) Nothing)) }
-    ensures covers { IfOk result (λ t. t ≡ loosening.covers_action (looses_of loose.now) (scope_of scope.old)
-        (Choose (term_of cond.now) (block_of block.now) Nothing)) }
-{
-    let truth = covers_truth(loose, scope, cond);
-    let inner = covers_inner(loose, scope, block)?;
-    Ok(truth && inner)
-}
-
-#[cycle(statements)]
-fn covers_if_else<'a>(
-    loose: &[Loose],
-    scope: &mut Scope<'a>,
-    cond: &Expr,
-    block: &'a [Stmt],
-    other: &'a [Stmt],
-) -> Result<bool, AllocError>
-    ensures scope { OnOk result (scope_of scope.new
-        ≡ typing.after_action (scope_of scope.old)
-        (Choose (term_of cond.now) (block_of block.now) (Else (block_of other.now)))) }
-    ensures covers { IfOk result (λ t. t ≡ loosening.covers_action (looses_of loose.now) (scope_of scope.old)
-        (Choose (term_of cond.now) (block_of block.now) (Else (block_of other.now)))) }
-{
-    let truth = covers_truth(loose, scope, cond);
-    let inner = covers_inner(loose, scope, block)?;
-    let rest = covers_inner(loose, scope, other)?;
-    Ok(truth && (inner && rest))
-}
-
-// A block, after which its names are visible no more.
+// A block, after which its names are visible no more, and what stands before it.
 #[cycle(statements)]
 fn covers_inner<'a>(
     loose: &[Loose],
     scope: &mut Scope<'a>,
+    before: bool,
     block: &'a [Stmt],
 ) -> Result<bool, AllocError>
     ensures scope { OnOk result (scope_of scope.new
         ≡ typing.left (scope_of scope.old) (typing.after_block (scope_of scope.old) (block_of block.now))) }
-    ensures covers { IfOk result (λ t. t ≡ loosening.covers_block (looses_of loose.now) (scope_of scope.old)
-        (block_of block.now)) }
+    ensures covers { IfOk result (λ t. t ≡ (before && loosening.covers_block (looses_of loose.now) (scope_of scope.old)
+        (block_of block.now))) }
 {
     let visible = visible_count(scope);
-    let covered = covers_block(loose, scope, block)?;
+    let covered = covers_block(loose, scope, before, block)?;
     leave(scope, visible);
     Ok(covered)
 }
 
-// Statements, after which their names stay visible.
+// Statements, after which their names stay visible, and what stands before them.
 #[cycle(statements)]
 fn covers_block<'a>(
     loose: &[Loose],
     scope: &mut Scope<'a>,
+    before: bool,
     block: &'a [Stmt],
 ) -> Result<bool, AllocError>
     ensures scope { OnOk result (scope_of scope.new ≡ typing.after_block (scope_of scope.old) (block_of block.now)) }
-    ensures covers { IfOk result (λ t. t ≡ loosening.covers_block (looses_of loose.now) (scope_of scope.old)
-        (block_of block.now)) }
+    ensures covers { IfOk result (λ t. t ≡ (before && loosening.covers_block (looses_of loose.now) (scope_of scope.old)
+        (block_of block.now))) }
 {
-    let mut covered = true;
+    let mut covered = before;
     for stmt in block {
         let here = covers_stmt(loose, scope, stmt)?;
         covered = covered && here;
@@ -176,24 +148,13 @@ fn covers_body<'a>(
     let taken = declared_count(scope);
     let inside = scope.inside;
     scope.inside = true;
-    let covered = covers_block(loose, scope, body)?;
+    let covered = covers_block(loose, scope, true, body)?;
     close(scope, visible, taken);
     scope.inside = inside;
     Ok(covered)
 }
 
 // ---- the accumulators
-
-// The type of an accumulator that an update would have to extend.
-fn gained(loose: &[Loose], name: &Name, op: BinaryOp, want: Option<Ty>) -> Option<Ty>
-    ensures { result ≡ loosening.gained (looses_of loose.now) (name_of name.now) op want }
-{
-    if binary_leaves(op) && is_whole(loose, name) {
-        want.filter(|ty| is_narrow(*ty))
-    } else {
-        None
-    }
-}
 
 // One more, where the statements of the loop ask for no more of it.
 fn loosen_name<'a>(
@@ -218,7 +179,7 @@ fn loosen_name<'a>(
     Ok(())
 }
 
-// The accumulator of an update.
+// The accumulator of an update that would have to extend it.
 fn loosen_update<'a>(
     scope: &mut Scope<'a>,
     body: &'a [Stmt],
@@ -234,9 +195,10 @@ fn loosen_update<'a>(
         (looses_of loose.old.items)) }
 {
     let want = lookup(scope, name).and_then(accumulator_type);
-    match gained(loose, name, update_operator(op), want) {
-        None => Ok(()),
-        Some(ty) => loosen_name(scope, body, loose, name, ty),
+    match want {
+        Some(ty) if binary_leaves(update_operator(op)) && is_whole(loose, name) && is_narrow(ty) =>
+            { loosen_name(scope, body, loose, name, ty) }
+        _ => Ok(()),
     }
 }
 
@@ -284,25 +246,25 @@ fn loosen_block<'a>(
 
 // ---- counting to zero
 
-// The loop variable behind, and the arrays of the loop ahead.
+// The loop variable behind, and the arrays of the loop ahead, after others.
 fn moved_names<'a>(
-    alloc: Global,
     scope: &mut Scope<'a>,
     for_loop: &'a Loop,
-) -> Result<Vec<Loose<'a>>, AllocError>
+    loose: &mut Vec<Loose<'a>>,
+) -> Result<(), AllocError>
     ensures scope { OnOk result (scope_of scope.new ≡ scope_of scope.old) }
-    ensures loose { IfOk result (λ v. looses_of v.items
-        ≡ loosening.moved_names (in_body (scope_of scope.old)) (for_loop_of for_loop.now)) }
+    ensures loose { OnOk result (looses_of loose.new.items
+        ≡ loosening.block_arrays (in_body (scope_of scope.old)) (block_of for_loop.now.body.items)
+        (looses_of loose.old.items ++ record { name = name_of for_loop.now.index; form = layout.Behind } ∷ [])) }
 {
-    let mut loose = Vec::new(alloc);
     let name = for_loop.index.text();
     let form = Form::Behind;
     loose.push(Loose { name, form })?;
     let inside = scope.inside;
     scope.inside = true;
-    add_block(&mut loose, scope, &for_loop.body)?;
+    add_block(loose, scope, &for_loop.body)?;
     scope.inside = inside;
-    Ok(loose)
+    Ok(())
 }
 
 /// Those that stand ahead after the loop.
@@ -381,7 +343,8 @@ pub fn loosen_names<'a>(
     let visible = visible_count(scope);
     let taken = declared_count(scope);
     declare(scope, &for_loop.index, Binding::Index)?;
-    let mut loose = moved_names(alloc, scope, for_loop)?;
+    let mut loose = Vec::new(alloc);
+    moved_names(scope, for_loop, &mut loose)?;
     keep_moved(alloc, scope, kernel, for_loop, &mut loose)?;
     loosen_block(scope, &for_loop.body, &mut loose, &for_loop.body)?;
     places.loosen(loose);

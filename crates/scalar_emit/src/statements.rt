@@ -1,7 +1,7 @@
 //! Emits the code of statements.
 
 ghost use Rattle.std.specs.Prelude.{◌≡◌, ◌+◌, ◌<◌, ◌^◌, IfOk, OnOk};
-ghost use Rattle.kernel_tree.specs.Plain.{Define, Put, Update, Choose, Leave, Nothing, Else, name_of, term_of, action_of, block_of};
+ghost use Rattle.kernel_tree.specs.Plain.{Define, Put, Update, Choose, Nothing, Else, name_of, term_of, action_of, block_of};
 ghost use Rattle.kernel_tree.specs.Items.{term_size, action_size, block_size, stream_offset};
 ghost use Rattle.kernel_tree.specs.Kinds.{IsValue, IsTruth, ActionKinds, BlockKinds};
 ghost use Rattle.kernel_scope.specs.Scopes.{scope_of};
@@ -234,30 +234,6 @@ fn emit_update(
     want_operator(draft, op, side, leaves, want, register, register)
 }
 
-fn emit_break(
-    draft: &mut Draft,
-    places: &Places,
-    homes: &[Home],
-    scope: &Scope,
-    exit: Label,
-    cond: &Expr,
-    item: &mut usize,
-) -> Result<(), AllocError>
-    requires exit { exit < draft.old.labels }
-    requires kind { IsTruth (term_of cond.now) }
-    requires fits { item.old + action_size (scope_of scope.now).index (Leave (term_of cond.now)) < 2 ^ 32 }
-    ensures item { OnOk result (item.new ≡ item.old + action_size (scope_of scope.now).index
-        (Leave (term_of cond.now))) }
-    ensures emits { OnOk result (Emits draft.old draft.new
-        (draft.old.labels + statements.action_labels (scope_of scope.now).index (Leave (term_of cond.now)))
-        (statements.action_code places.now (homes_of homes.now) (scope_of scope.now) exit item.old draft.old.labels
-        (Leave (term_of cond.now)))) }
-{
-    emit_jump(draft, places, homes, scope, true, exit, cond, item)?;
-    *item += 1;
-    Ok(())
-}
-
 #[cycle(statements)]
 fn emit_stmt<'a>(
     draft: &mut Draft,
@@ -297,7 +273,11 @@ fn emit_stmt<'a>(
         Part::Update { name, op, value } => emit_update(
             draft, places, homes, scope, name, op, value, item,
         ),
-        Part::Break { cond } => emit_break(draft, places, homes, scope, exit, cond, item),
+        Part::Break { cond } => {
+            emit_jump(draft, places, homes, scope, true, exit, cond, item)?;
+            *item += 1;
+            Ok(())
+        }
     }
 }
 
