@@ -1,14 +1,20 @@
 -- The code of statements, put together from that of their parts.
 use Rattle.std.proofs.Common.{◌≡◌, ℕ, ◌+◌, false, List, ◌∷◌, Option, refl, ap, arith}
 use Rattle.kernel_tree.specs.declared.ops.Ty.{Ty}
-use Rattle.kernel_tree.specs.Plain.{Term, Define, Choose, Block, Nothing, Else}
+use Rattle.kernel_tree.specs.Plain.{Term, Action, Define, Choose, Block, Nothing, Else}
 use Rattle.kernel_tree.specs.Items.{term_size, block_size}
 use Rattle.kernel_tree.specs.Typing.{Scope, own, first, left, after_block}
+use Rattle.label_fix.specs.Draft.{Drafted}
+use Rattle.label_fix.specs.Emits.{Emits}
 use Rattle.label_fix.specs.DraftRun.{DraftEntry, Branch, Place, Always}
 use Rattle.scalar_words.specs.Layout.{Layout, Homes}
 use Rattle.scalar_values.specs.ValueRegisters.{home}
 use Rattle.scalar_values.specs.Code.{labels, value_code, jump_code}
-use Rattle.scalar_emit.specs.Statements.{let_code, block_labels, action_code, block_code}
+use Rattle.scalar_emit.specs.Statements.{let_code, action_labels, block_labels, action_code, block_code}
+
+-- the code of a statement that has been taken apart
+pub emits_as : (L : Layout) (hs hs1 : Homes) (s : Scope) (exit b : ℕ) (d d2 : Drafted) (a a2 : Action) → hs1 ≡ hs → a ≡ a2 → Emits d d2 (d.labels + action_labels s.index a) (action_code L hs1 s exit b d.labels a) → Emits d d2 (d.labels + action_labels s.index a2) (action_code L hs s exit b d.labels a2)
+emits_as L hs hs1 s exit b d d2 a a2 h e p = rw (h, e) at p
 
 pub let_is : (L : Layout) (hs hs1 : Homes) (s : Scope) (b n q from : ℕ) (x : List ℕ) (ty want : Option Ty) (e : Term) (rest : List DraftEntry) → hs1 ≡ hs → want ≡ first ty (own s e) → q ≡ b + term_size s.index e → from ≡ home L hs1 s.index b e
     → value_code L hs1 s want b n e (let_code L q from rest) ≡ action_code L hs s 0 b n (Define x ty e) rest

@@ -1,6 +1,6 @@
-use Rattle.std.proofs.Common.{◌+◌, ◌++◌, List, drop, subst, ap, ◌∙◌, arith}
+use Rattle.std.proofs.Common.{◌+◌, ◌++◌, List, drop, refl, subst, ap, ◌∙◌, arith}
 use Rattle.std.proofs.lemmas.Result.{on_ok_weaker}
-use Rattle.kernel_tree.specs.Plain.{Choose, Nothing, Else, term_of, action_of, block_of}
+use Rattle.kernel_tree.specs.Plain.{Choose, Leave, Nothing, Else, term_of, action_of, block_of}
 use Rattle.kernel_tree.specs.Kinds.{BlockKinds}
 use Rattle.kernel_tree.specs.Limits.{block_depth}
 use Rattle.kernel_tree.specs.Typing.{after_block}
@@ -11,7 +11,7 @@ use Rattle.label_fix.specs.DraftRun.{DraftEntry}
 use Rattle.scalar_emit.specs.Statements.{action_code}
 use Rattle.scalar_emit.proofs.Emission.{homes_back}
 use Rattle.scalar_emit.proofs.StatementWalks.{next_statement, emits_on}
-use Rattle.scalar_emit.proofs.StatementCode.{if_is, if_count, if_else_is, if_else_count}
+use Rattle.scalar_emit.proofs.StatementCode.{emits_as, if_is, if_count, if_else_is, if_else_count}
 use Rattle.scalar_emit.proofs.statements.+statements.Goals as goal
 
 pub emit_inner-returns-clause-scope : goal.emit_inner-returns-clause-scope
@@ -81,3 +81,27 @@ emit_block-loop-stmt-preserved t c =
       labels = step.labels ∙ l.invariant.labels;
       code = λ rest. step.code rest ∙ l.invariant.code rest;
     }
+
+pub emit_stmt-returns-in-If-clause-emits : goal.emit_stmt-returns-in-If-clause-emits
+emit_stmt-returns-in-If-clause-emits t c =
+    on_ok_weaker c.emit_if.result (λ p. emits_as c.args.places.now (homes_of c.args.homes.now.items) (homes_of c.args.homes.now.items) (scope_of c.args.scope.now) c.args.exit c.args.item.now c.args.draft.now c.emit_if.new.draft _ _ refl c.in-If.ensures p) c.emit_if.ensures.emits
+
+pub emit_stmt-returns-in-IfElse-clause-emits : goal.emit_stmt-returns-in-IfElse-clause-emits
+emit_stmt-returns-in-IfElse-clause-emits t c =
+    on_ok_weaker c.emit_if_else.result (λ p. emits_as c.args.places.now (homes_of c.args.homes.now.items) (homes_of c.args.homes.now.items) (scope_of c.args.scope.now) c.args.exit c.args.item.now c.args.draft.now c.emit_if_else.new.draft _ _ refl c.in-IfElse.ensures p) c.emit_if_else.ensures.emits
+
+pub emit_stmt-returns-in-Let-clause-emits : goal.emit_stmt-returns-in-Let-clause-emits
+emit_stmt-returns-in-Let-clause-emits t c =
+    on_ok_weaker c.emit_let.result (λ p. emits_as c.args.places.now (homes_of c.args.homes.now.items) (homes_of c.args.homes.now.items) (scope_of c.args.scope.now) c.args.exit c.args.item.now c.args.draft.now c.emit_let.new.draft _ _ refl c.in-Let.ensures p) c.emit_let.ensures.emits
+
+pub emit_stmt-returns-in-Store-clause-emits : goal.emit_stmt-returns-in-Store-clause-emits
+emit_stmt-returns-in-Store-clause-emits t c =
+    on_ok_weaker c.emit_store.result (λ p. emits_as c.args.places.now (homes_of c.args.homes.now.items) (homes_of c.deref.result.now) (scope_of c.args.scope.now) c.args.exit c.args.item.now c.args.draft.now c.emit_store.new.draft _ _ (ap homes_of c.deref.ensures.value) c.in-Store.ensures p) c.emit_store.ensures.emits
+
+pub emit_stmt-returns-in-Update-clause-emits : goal.emit_stmt-returns-in-Update-clause-emits
+emit_stmt-returns-in-Update-clause-emits t c =
+    on_ok_weaker c.emit_update.result (λ p. emits_as c.args.places.now (homes_of c.args.homes.now.items) (homes_of c.deref-in-Update.result.now) (scope_of c.args.scope.now) c.args.exit c.args.item.now c.args.draft.now c.emit_update.new.draft _ _ (ap homes_of c.deref-in-Update.ensures.value) c.in-Update.ensures p) c.emit_update.ensures.emits
+
+pub emit_stmt-returns-in_ok-emit_jump-in-Break-clause-emits : goal.emit_stmt-returns-in_ok-emit_jump-in-Break-clause-emits
+emit_stmt-returns-in_ok-emit_jump-in-Break-clause-emits t c =
+    emits_as c.args.places.now (homes_of c.args.homes.now.items) (homes_of c.deref-in-Break.result.now) (scope_of c.args.scope.now) c.args.exit c.args.item.now c.args.draft.now c.emit_jump.new.draft (Leave (term_of c.in-Break.cond.now)) _ (ap homes_of c.deref-in-Break.ensures.value) c.in-Break.ensures c.in_ok-emit_jump-in-Break.ensures.emits
