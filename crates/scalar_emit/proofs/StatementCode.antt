@@ -1,8 +1,8 @@
 -- The code of statements, put together from that of their parts.
-use Rattle.std.proofs.Common.{◌≡◌, ℕ, ◌+◌, false, List, ◌∷◌, Option, refl, ap, arith}
+use Rattle.std.proofs.Common.{◌≡◌, ℕ, ◌+◌, ◌<◌, ◌^◌, false, List, ◌∷◌, Option, refl, ap, arith}
 use Rattle.kernel_tree.specs.declared.ops.Ty.{Ty}
 use Rattle.kernel_tree.specs.Plain.{Term, Action, Define, Choose, Block, Nothing, Else}
-use Rattle.kernel_tree.specs.Items.{term_size, block_size}
+use Rattle.kernel_tree.specs.Items.{term_size, action_size, block_size}
 use Rattle.kernel_tree.specs.Typing.{Scope, own, first, left, after_block}
 use Rattle.label_fix.specs.Draft.{Drafted}
 use Rattle.label_fix.specs.Emits.{Emits}
@@ -35,3 +35,19 @@ pub if_else_count : (s s2 t : Scope) (n given given2 given3 given4 given5 given6
 if_else_count s s2 t n given given2 given3 given4 given5 given6 p q blk is e f g h k l =
     let i : block_labels s2.index blk ≡ block_labels s.index blk = ap (λ (r : Scope). block_labels r.index blk) is in
     omega (arith, e, f, g, h, k, l, i)
+
+-- the labels are given before they are placed
+pub first_given : (other n a b c d p q : ℕ) → other ≡ n → a ≡ n + 1 → b ≡ a + p → c ≡ b + q → d ≡ c + 1 → other < d
+first_given other n a b c d p q e f g h i = omega arith
+
+pub second_given : (end n a b c p : ℕ) → end ≡ n → a ≡ n + 1 → b ≡ a → c ≡ b + p → end < c
+second_given end n a b c p e f g h = omega arith
+
+-- the items of both blocks have room
+pub first_room : (i : Option (List ℕ)) (c : Term) (blk second : Block) (b item item2 : ℕ) → b + action_size i (Choose c blk (Else second)) < 2 ^ 32 → item ≡ b + term_size i c → item2 ≡ item + 1 + block_size i blk → item2 < 2 ^ 32
+first_room i c blk second b item item2 h e f = omega arith
+
+pub second_room : (s s2 : Scope) (c : Term) (blk second : Block) (b item item2 item3 : ℕ) → b + action_size s.index (Choose c blk (Else second)) < 2 ^ 32 → item ≡ b + term_size s.index c → item2 ≡ item + 1 + block_size s.index blk → item3 ≡ item2 + 1 → s2 ≡ left s (after_block s blk) → item3 + block_size s2.index second < 2 ^ 32
+second_room s s2 c blk second b item item2 item3 h e f g is =
+    let k : block_size s2.index second ≡ block_size s.index second = ap (λ (r : Scope). block_size r.index second) is in
+    omega arith

@@ -173,9 +173,10 @@ fn loosen_name<'a>(
     let name = name.text();
     let form = Form::LowBits(ty);
     loose.push(Loose { name, form })?;
-    if !covers_body(loose, scope, body)? {
-        loose.truncate(count);
+    if covers_body(loose, scope, body)? {
+        return Ok(());
     }
+    loose.truncate(count);
     Ok(())
 }
 

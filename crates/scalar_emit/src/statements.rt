@@ -12,14 +12,14 @@ ghost use Rattle.scalar_values.specs.Code as code;
 ghost use Rattle.scalar_values.specs.ItemWords as words;
 ghost use Rattle.scalar_emit.specs.Statements as statements;
 
-use crate::branches::{land, switch_over};
+use crate::branches::{branch_ahead, land};
 use a64_code::Reg;
 use kernel_meaning::binary_leaves;
 use kernel_scope::{
     Scope, accumulator_type, array_type, define, first, leave, lookup, own_type, visible_count,
 };
 use kernel_tree::{Expr, Name, Part, Stmt, Ty, UpdateOp, parts};
-use label_fix::{Draft, Label};
+use label_fix::{BranchKind, Draft, Label};
 use scalar_values::covers::held_extent;
 use scalar_values::extent::{
     Extent, binary_extent, binary_joins, converted_extent, extent_at, fits_at, settles, within,
@@ -349,7 +349,8 @@ fn emit_if_else<'a>(
     emit_jump(draft, places, homes, scope, false, other, cond, item)?;
     *item += 1;
     emit_inner(draft, places, homes, scope, exit, block, item)?;
-    let end = switch_over(draft, other, item)?;
+    let end = branch_ahead(draft, BranchKind::Always)?;
+    land(draft, other, item)?;
     emit_inner(draft, places, homes, scope, exit, second, item)?;
     land(draft, end, item)
 }

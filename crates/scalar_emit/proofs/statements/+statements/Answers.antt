@@ -1,4 +1,4 @@
-use Rattle.std.proofs.Common.{◌+◌, ◌++◌, List, drop, refl, subst, ap, ◌∙◌, arith}
+use Rattle.std.proofs.Common.{◌+◌, ◌<◌, ◌^◌, ◌++◌, List, drop, refl, sym, subst, ap, ◌∙◌, arith}
 use Rattle.std.proofs.lemmas.Result.{on_ok_weaker}
 use Rattle.kernel_tree.specs.Plain.{Choose, Leave, Nothing, Else, term_of, action_of, block_of}
 use Rattle.kernel_tree.specs.Kinds.{BlockKinds}
@@ -11,7 +11,7 @@ use Rattle.label_fix.specs.DraftRun.{DraftEntry}
 use Rattle.scalar_emit.specs.Statements.{action_code}
 use Rattle.scalar_emit.proofs.Emission.{homes_back}
 use Rattle.scalar_emit.proofs.StatementWalks.{next_statement, emits_on}
-use Rattle.scalar_emit.proofs.StatementCode.{emits_as, if_is, if_count, if_else_is, if_else_count}
+use Rattle.scalar_emit.proofs.StatementCode.{emits_as, if_is, if_count, if_else_is, if_else_count, first_given, second_given, first_room, second_room}
 use Rattle.scalar_emit.proofs.statements.+statements.Goals as goal
 
 pub emit_inner-returns-clause-scope : goal.emit_inner-returns-clause-scope
@@ -52,18 +52,19 @@ emit_if_else-returns-clause-emits t c =
     let e = term_of c.args.cond.now in
     let blk = block_of c.args.block.now in
     let second = block_of c.args.second.now in
-    on_ok_weaker c.land.result (λ p. record {
-      labels = if_else_count s (scope_of c.emit_inner.new.scope) (after_block s blk) n c.label.new.self.labels c.emit_jump.new.draft.labels c.emit_inner.new.draft.labels c.switch_over.new.draft.labels c.emit_inner-2.new.draft.labels c.land.new.draft.labels _ _ second c.in_ok-emit_inner.ensures.scope c.in_ok-other.ensures.count c.in_ok-emit_jump.ensures.emits.labels c.in_ok-emit_inner.ensures.emits.labels c.in_ok-end.ensures.emits.labels c.in_ok-emit_inner-2.ensures.emits.labels p.labels;
+    on_ok_weaker c.land-2.result (λ p. record {
+      labels = if_else_count s (scope_of c.emit_inner.new.scope) (after_block s blk) n c.label.new.self.labels c.emit_jump.new.draft.labels c.emit_inner.new.draft.labels c.land.new.draft.labels c.emit_inner-2.new.draft.labels c.land-2.new.draft.labels _ _ second c.in_ok-emit_inner.ensures.scope c.in_ok-other.ensures.count c.in_ok-emit_jump.ensures.emits.labels c.in_ok-emit_inner.ensures.emits.labels (c.in_ok-land.ensures.emits.labels ∙ c.in_ok-end.ensures.emits.labels) c.in_ok-emit_inner-2.ensures.emits.labels p.labels;
       code = λ rest. p.code rest
           ∙ c.in_ok-emit_inner-2.ensures.emits.code _
+          ∙ c.in_ok-land.ensures.emits.code _
           ∙ c.in_ok-end.ensures.emits.code _
           ∙ c.in_ok-emit_inner.ensures.emits.code _
           ∙ c.in_ok-emit_jump.ensures.emits.code _
           ∙ ap (λ (l : List DraftEntry). c.label.new.self.entries ++ l)
-          (if_else_is L hs (homes_of c.deref.result.now) (homes_of c.emit_inner.new.homes.items) s (scope_of c.emit_inner.new.scope) c.args.exit c.in_ok-other.other c.in_ok-end.end c.args.item.now n c.emit_jump.new.item c.emit_inner.new.item c.switch_over.new.item c.label.new.self.labels c.emit_jump.new.draft.labels c.emit_inner.new.draft.labels c.switch_over.new.draft.labels e blk second rest
-          (ap homes_of c.deref.ensures.value) c.in_ok-emit_inner.ensures.homes c.in_ok-emit_inner.ensures.scope c.in_ok-other.ensures.next c.in_ok-other.ensures.count c.in_ok-emit_jump.ensures.item c.in_ok-emit_jump.ensures.emits.labels c.in_ok-emit_inner.ensures.item c.in_ok-emit_inner.ensures.emits.labels c.in_ok-end.ensures.label c.in_ok-end.ensures.item c.in_ok-end.ensures.emits.labels)
+          (if_else_is L hs (homes_of c.deref.result.now) (homes_of c.emit_inner.new.homes.items) s (scope_of c.emit_inner.new.scope) c.args.exit c.in_ok-other.other c.in_ok-end.end c.args.item.now n c.emit_jump.new.item c.emit_inner.new.item c.land.new.item c.label.new.self.labels c.emit_jump.new.draft.labels c.emit_inner.new.draft.labels c.land.new.draft.labels e blk second rest
+          (ap homes_of c.deref.ensures.value) c.in_ok-emit_inner.ensures.homes c.in_ok-emit_inner.ensures.scope c.in_ok-other.ensures.next c.in_ok-other.ensures.count c.in_ok-emit_jump.ensures.item c.in_ok-emit_jump.ensures.emits.labels c.in_ok-emit_inner.ensures.item c.in_ok-emit_inner.ensures.emits.labels c.in_ok-end.ensures.label c.in_ok-land.ensures.item (c.in_ok-land.ensures.emits.labels ∙ c.in_ok-end.ensures.emits.labels))
           ∙ ap (λ (l : List DraftEntry). l ++ action_code L hs s c.args.exit c.args.item.now n (Choose e blk (Else second)) rest) c.in_ok-other.ensures.entries;
-    }) c.land.ensures.emits
+    }) c.land-2.ensures.emits
 
 pub emit_block-loop-stmt-preserved : goal.emit_block-loop-stmt-preserved
 emit_block-loop-stmt-preserved t c =
@@ -105,3 +106,15 @@ emit_stmt-returns-in-Update-clause-emits t c =
 pub emit_stmt-returns-in_ok-emit_jump-in-Break-clause-emits : goal.emit_stmt-returns-in_ok-emit_jump-in-Break-clause-emits
 emit_stmt-returns-in_ok-emit_jump-in-Break-clause-emits t c =
     emits_as c.args.places.now (homes_of c.args.homes.now.items) (homes_of c.deref-in-Break.result.now) (scope_of c.args.scope.now) c.args.exit c.args.item.now c.args.draft.now c.emit_jump.new.draft (Leave (term_of c.in-Break.cond.now)) _ (ap homes_of c.deref-in-Break.ensures.value) c.in-Break.ensures c.in_ok-emit_jump-in-Break.ensures.emits
+
+pub emit_if_else-land-requires-clause-given : goal.emit_if_else-land-requires-clause-given
+emit_if_else-land-requires-clause-given t c = first_given c.in_ok-other.other c.args.draft.now.labels c.label.new.self.labels c.emit_jump.new.draft.labels c.emit_inner.new.draft.labels c.branch_ahead.new.draft.labels _ _ c.in_ok-other.ensures.next c.in_ok-other.ensures.count c.in_ok-emit_jump.ensures.emits.labels c.in_ok-emit_inner.ensures.emits.labels c.in_ok-end.ensures.emits.labels
+
+pub emit_if_else-land-requires-clause-room : goal.emit_if_else-land-requires-clause-room
+emit_if_else-land-requires-clause-room t c = first_room (scope_of c.args.scope.now).index (term_of c.args.cond.now) (block_of c.args.block.now) (block_of c.args.second.now) c.args.item.now c.emit_jump.new.item c.emit_inner.new.item c.requires.fits c.in_ok-emit_jump.ensures.item c.in_ok-emit_inner.ensures.item
+
+pub emit_if_else-land-requires-2-clause-given : goal.emit_if_else-land-requires-2-clause-given
+emit_if_else-land-requires-2-clause-given t c = second_given c.in_ok-end.end c.emit_inner.new.draft.labels c.branch_ahead.new.draft.labels c.land.new.draft.labels c.emit_inner-2.new.draft.labels _ c.in_ok-end.ensures.label c.in_ok-end.ensures.emits.labels c.in_ok-land.ensures.emits.labels c.in_ok-emit_inner-2.ensures.emits.labels
+
+pub emit_if_else-land-requires-2-clause-room : goal.emit_if_else-land-requires-2-clause-room
+emit_if_else-land-requires-2-clause-room t c = subst (λ n. n < 2 ^ 32) (sym c.in_ok-emit_inner-2.ensures.item) (second_room (scope_of c.args.scope.now) (scope_of c.emit_inner.new.scope) (term_of c.args.cond.now) (block_of c.args.block.now) (block_of c.args.second.now) c.args.item.now c.emit_jump.new.item c.emit_inner.new.item c.land.new.item c.requires.fits c.in_ok-emit_jump.ensures.item c.in_ok-emit_inner.ensures.item c.in_ok-land.ensures.item c.in_ok-emit_inner.ensures.scope)
