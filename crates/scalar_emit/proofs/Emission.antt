@@ -21,15 +21,15 @@ use Rattle.label_fix.specs.DraftRun.{DraftEntry, Place}
 use Rattle.scalar_words.specs.declared.home.Home.{Home as Kept}
 use Rattle.scalar_words.specs.declared.constant.Constant.{Constant as Number}
 use Rattle.scalar_words.specs.declared.loose.Loose.{Loose as LooseName}
-use Rattle.scalar_words.specs.Layout.{Constant, Loose, Layout, Homes, with_constants, with_loose, register_at}
+use Rattle.scalar_words.specs.Layout.{Constant, LowBits, Loose, Layout, Homes, with_constants, with_loose, register_at}
 use Rattle.scalar_emit.specs.Statements.{block_homes, block_labels, update_extent, update_settles, action_code}
-use Rattle.scalar_emit.specs.Loosening.{for_loop_loose, after_loop, held_loosely}
-use Rattle.scalar_emit.specs.LoopNumbers.{held_numbers, loop_layout}
+use Rattle.scalar_emit.specs.Loosening.{covers_block, loosened, for_loop_loose, after_loop, held_loosely}
+use Rattle.scalar_emit.specs.LoopNumbers.{hold_block, for_loop_numbers, held_numbers, loop_layout}
 use Rattle.scalar_emit.specs.Loop.{bare, index_home, with_index, answer_code, answer_labels, key_code, numbers_code, enter_word, enter_code, settle_form, settle_code, iterations_code, leave_code}
 use Rattle.scalar_words.specs.KernelRegisters.{layout_of_kernel, param_homes, kernel_homes}
 use Rattle.scalar_emit.specs.Kernel.{arguments_code, vars_code, vars_labels, zero_index, begin_code, begin_labels, straight_code, for_loop_code, for_loop_labels, scalar_code, scalar_labels}
 use Rattle.kernel_scope.specs.Scopes.{lent_text, closed}
-use Rattle.scalar_words.specs.View.{form_of, key_of, constants_of, looses_of, home_of, homes_of}
+use Rattle.scalar_words.specs.View.{form_of, key_of, constants_of, loose_of, looses_of, home_of, homes_of}
 use Rattle.scalar_emit.proofs.StmtRuns.{homes_block}
 
 -- ---- after a block
@@ -178,6 +178,9 @@ update_is L hs s exit b n x by op want asked e side leaves d rest o w e1 e2 e3 e
 pub number_step : (cs ds : List Number) (c : Number) (rest : List DraftEntry) → cs ≡ c ∷ ds → key_code (key_of c.key) c.register.number (numbers_code (constants_of ds) rest) ≡ numbers_code (constants_of cs) rest
 number_step cs ds c rest e = ap (λ (xs : List Number). numbers_code (constants_of xs) rest) (sym e)
 
+pub numbers_are : (R : ℕ → ℕ) (k : Program) (l : PlainLoop) (p : ℕ) (hs : Homes) (s : Scope) → p ≡ length k.params → hs ≡ kernel_homes R k → s ≡ var_scope k → k.for_loop ≡ Some l → hold_block p hs s l.body [] ≡ held_numbers R k
+numbers_are R k l p hs s e f g h = rw (e, f, g) (ap (for_loop_numbers (length k.params) (kernel_homes R k) (var_scope k)) (sym h))
+
 pub held_is : (R : ℕ → ℕ) (k : Program) (N M L : Layout) → N ≡ with_loose M (held_loosely k) → M ≡ with_constants L (held_numbers R k) → L ≡ layout_of_kernel R k → N ≡ loop_layout R k
 held_is R k N M L d e f = d ∙ ap (λ (K : Layout). with_loose K (held_loosely k)) (e ∙ ap (λ (K : Layout). with_constants K (held_numbers R k)) f)
 
@@ -201,3 +204,21 @@ pub settle_step : (r : ℕ) (hs : Homes) (ls : List LooseName) (i : ℕ) (l : Lo
 settle_step r hs ls i l d rest lt f =
     ap (λ q. word_code (settle_form r q (form_of (get_or ls i l).form)) (settle_code r hs (looses_of (drop (i + 1) ls)) rest)) f
     ∙ ap (λ (xs : List LooseName). settle_code r hs (looses_of xs) rest) (sym (here ls i l lt))
+
+-- one name more, if the statements ask for no more of it
+looses_push : (ls : List LooseName) (l : LooseName) → looses_of (ls ++ l ∷ []) ≡ looses_of ls ++ loose_of l ∷ []
+looses_push [] l = refl
+looses_push (k ∷ ls) l = ap (λ m. loose_of k ∷ m) (looses_push ls l)
+
+module _ (s : Scope) (all : Block) (x : List ℕ) (t : Ty) (old new given : List LooseName) (l : LooseName) (v : Bool) (e : new ≡ old ++ l ∷ []) (f : loose_of l ≡ record { name = x; form = LowBits t }) (g : given ≡ new) (h : v ≡ covers_block (looses_of given) s all) where
+  more : looses_of new ≡ looses_of old ++ record { name = x; form = LowBits t } ∷ []
+  more = ap looses_of e ∙ looses_push old l ∙ ap (λ y. looses_of old ++ y ∷ []) f
+
+  told : covers_block (looses_of old ++ record { name = x; form = LowBits t } ∷ []) s all ≡ v
+  told = sym (ap (λ ls. covers_block ls s all) (ap looses_of g ∙ more)) ∙ sym h
+
+  pub loosened_kept : v ≡ true → looses_of new ≡ loosened s all x (Some t) (looses_of old)
+  loosened_kept i = more ∙ sym (ap (λ b. if b then looses_of old ++ record { name = x; form = LowBits t } ∷ [] else looses_of old) (told ∙ i))
+
+  pub loosened_left : (last : List LooseName) (n : ℕ) → v ≡ false → last ≡ take n new → n ≡ length old → looses_of last ≡ loosened s all x (Some t) (looses_of old)
+  loosened_left last n i cut len = ap looses_of (cut ∙ back n old new (l ∷ []) len e) ∙ sym (ap (λ b. if b then looses_of old ++ record { name = x; form = LowBits t } ∷ [] else looses_of old) (told ∙ i))

@@ -1,7 +1,7 @@
 //! Emits the code of a kernel: what stands before its loop, the loop, and the end.
 
 ghost use Rattle.std.specs.Prelude.{◌≡◌, ◌+◌, ◌*◌, ◌<◌, ◌≤◌, ◌^◌, Some, [], ◌∷◌, ◌++◌, OnOk, IfOk, length, option_map};
-ghost use Rattle.kernel_tree.specs.Plain.{term_of, parameters_of, accumulator_of, accumulators_of, for_loop_of, returned_of, program_of};
+ghost use Rattle.kernel_tree.specs.Plain.{term_of, block_of, parameters_of, accumulator_of, accumulators_of, for_loop_of, returned_of, program_of};
 ghost use Rattle.kernel_tree.specs.Kinds.{IsValue, VarsKinds, AnswerKinds, KernelKinds};
 ghost use Rattle.kernel_scope.specs.Scopes.{scope_of, after_var};
 ghost use Rattle.reg_assign.specs.declared.interval.RegClass.TheVariants.{X};
@@ -228,31 +228,21 @@ fn emit_answer(
     }
 }
 
-// What a loop holds, with the names before it.
+// What a loop holds, with so many parameters and the names before it.
 fn hold_numbers(
     alloc: Global,
     places: &mut Places,
-    regs: &Assigned,
+    params: usize,
     homes: &[Home],
     scope: &Scope,
-    kernel: &Kernel,
     for_loop: &Loop,
 ) -> Result<(), AllocError>
-    requires params { length (program_of kernel.now).params ≤ 8 }
-    requires for_loop { (program_of kernel.now).for_loop ≡ Some (for_loop_of for_loop.now) }
-    requires scope { scope_of scope.now ≡ typing.var_scope (program_of kernel.now) }
-    requires homes { homes_of homes.now ≡ registers.kernel_homes (register_in regs.now) (program_of kernel.now) }
-    ensures { OnOk result (places.new
-        ≡ with_constants places.old (numbers.held_numbers (register_in regs.now) (program_of kernel.now))) }
+    requires { params ≤ 8 }
+    ensures { OnOk result (places.new ≡ with_constants places.old
+        (numbers.hold_block params (homes_of homes.now) (scope_of scope.now) (block_of for_loop.now.body.items) [])) }
 {
     let mut constants = Vec::new(alloc);
-    hold_block(
-        &mut constants,
-        kernel.params.len(),
-        homes,
-        scope,
-        &for_loop.body,
-    )?;
+    hold_block(&mut constants, params, homes, scope, &for_loop.body)?;
     places.hold(constants);
     Ok(())
 }
@@ -293,7 +283,8 @@ fn emit_for_loop<'a>(
         (kernels.scalar_code (register_in regs.now) (program_of kernel.now) draft.old.labels)) }
 {
     let mut next = item;
-    hold_numbers(alloc, places, regs, homes, scope, kernel, for_loop)?;
+    let params = kernel.params.len();
+    hold_numbers(alloc, places, params, homes, scope, for_loop)?;
     loosen_names(alloc, places, scope, kernel, for_loop)?;
     let at_iteration = emit_loop(draft, places, homes, scope, for_loop, &mut next)?;
     leave_loop(alloc, places)?;

@@ -1,13 +1,15 @@
-use Rattle.std.proofs.Common.{◌++◌, List, ap, ◌∙◌, subst}
+use Rattle.std.proofs.Common.{◌++◌, List, sym, ap, ◌∙◌, subst}
 use Rattle.kernel_tree.specs.Plain.{for_loop_of, program_of}
 use Rattle.kernel_tree.specs.Kinds.{ForLoopKinds}
 use Rattle.kernel_tree.specs.Typing.{Scope}
 use Rattle.kernel_scope.specs.Scopes.{scope_of}
 use Rattle.label_fix.specs.DraftRun.{DraftEntry}
+use Rattle.scalar_words.specs.Layout.{with_constants}
 use Rattle.scalar_words.specs.KernelRegisters.{register_in}
+use Rattle.scalar_words.proofs.Layouts.{count_params}
 use Rattle.scalar_words.specs.View.{homes_of}
 use Rattle.scalar_emit.specs.Loop.{bare}
-use Rattle.scalar_emit.proofs.Emission.{known_index, for_loop_is, for_loop_count, held_is, loop_ends, loop_room, answer_room, at_end}
+use Rattle.scalar_emit.proofs.Emission.{known_index, numbers_are, for_loop_is, for_loop_count, held_is, loop_ends, loop_room, answer_room, at_end}
 use Rattle.scalar_emit.proofs.kernel.emit_for_loop.Goals as goal
 
 pub emit_loop-requires-clause-kinds : goal.emit_loop-requires-clause-kinds
@@ -37,7 +39,10 @@ returns-clause-emits c =
     let t = scope_of c.emit_loop.new.scope in
     let scope = c.in_ok-loosen_names.ensures.scope ∙ c.requires.scope in
     let homes = ap homes_of c.deref-2.ensures.value ∙ c.in_ok-at_iteration.ensures.homes in
-    let held = held_is R k c.loosen_names.new.places c.hold_numbers.new.places c.args.places.now c.in_ok-loosen_names.ensures.places c.in_ok-hold_numbers.ensures c.requires.places in
+    let tree = c.args.kernel.now in
+    let params = c.len-params.ensures ∙ tree.params.ok.0 ∙ sym (count_params tree.params.items) in
+    let numbers = c.in_ok-hold_numbers.ensures ∙ ap (with_constants c.args.places.now) (numbers_are R k l c.len-params.result (homes_of c.deref.result.now) (scope_of c.args.scope.now) params (ap homes_of c.deref.ensures.value ∙ c.requires.homes) c.requires.scope c.requires.for_loop) in
+    let held = held_is R k c.loosen_names.new.places c.hold_numbers.new.places c.args.places.now c.in_ok-loosen_names.ensures.places numbers c.requires.places in
     let left = c.in_ok-leave_loop.ensures ∙ ap bare held in
     let end = loop_ends k l s c.args.item c.emit_loop.new.item scope c.requires.for_loop c.requires.start c.in_ok-at_iteration.ensures.item in
     record {

@@ -1,4 +1,4 @@
-use Rattle.std.proofs.Common.{◌+◌, refl, subst, ap, ◌∙◌, drop}
+use Rattle.std.proofs.Common.{◌+◌, subst, ap, ◌∙◌, drop}
 use Rattle.kernel_tree.specs.Plain.{accumulator_of, accumulators_of}
 use Rattle.kernel_tree.specs.Kinds.{VarsKinds}
 use Rattle.kernel_scope.specs.Scopes.{scope_of}
