@@ -2,32 +2,34 @@
 use Rattle.std.proofs.Common.{◌≡◌, Bool, true, false, if◌then◌else◌, ℕ, zero, suc, ◌+◌, ◌<◌, ◌≤◌, ◌^◌, List, [], ◌∷◌, ◌++◌, length, take, drop, get_or, drop-cons, add-one, Option, Some, None, refl, sym, ap, ◌∙◌, arith}
 use Rattle.std.proofs.lemmas.List.{append-nil}
 use Rattle.std.proofs.Math.Seq.{take-append_seam}
-use Rattle.std.specs.Prelude.{option_map}
+use Rattle.std.specs.Prelude.{MatchOption, option_map, option_and_then}
 use Rattle.kernel_tree.specs.declared.fault.Binding.{Binding}
-use Rattle.kernel_tree.specs.Plain.{Term, Block, Parameter, Accumulator, PlainLoop, Program}
+use Rattle.kernel_tree.specs.Plain.{Term, Update, Block, Parameter, Accumulator, PlainLoop, Program}
 use Rattle.kernel_tree.specs.Items.{block_size, answer_size, for_loop_size, index_of, loop_index, loop_start, loop_end, size_of}
-use Rattle.kernel_tree.specs.Typing.{Local, Scope, local, declared, is_taken, first, after_block, after_for_loop, param_scope, var_scope}
+use Rattle.kernel_tree.specs.Typing.{Local, Scope, local, declared, is_taken, lookup, accumulator_type, first, after_block, after_for_loop, param_scope, var_scope}
 use Rattle.kernel_scope.proofs.Growth.{grows_by_block}
 use Rattle.kernel_tree.proofs.Scopes.{scope_index}
 use Rattle.kernel_tree.specs.declared.ops.Ty.{Ty}
 use Rattle.kernel_tree.specs.declared.ops.BinaryOp.{BinaryOp}
+use Rattle.kernel_tree.specs.declared.ops.UpdateOp.{UpdateOp}
+use Rattle.kernel_meaning.specs.Operators.{operator_of}
 use Rattle.scalar_words.specs.Words.{word_code, at_type}
 use Rattle.scalar_values.specs.declared.extent.Extent.{Extent}
 use Rattle.scalar_values.specs.ItemWords.{Side, operator_code}
 use Rattle.scalar_values.specs.Code.{added_number, is_fused, right_side, side_code, parts_code, loose_code}
-use Rattle.label_fix.specs.DraftRun.{DraftEntry}
+use Rattle.label_fix.specs.DraftRun.{DraftEntry, Place}
 use Rattle.scalar_words.specs.declared.home.Home.{Home as Kept}
 use Rattle.scalar_words.specs.declared.constant.Constant.{Constant as Number}
 use Rattle.scalar_words.specs.declared.loose.Loose.{Loose as LooseName}
-use Rattle.scalar_words.specs.Layout.{Constant, Loose, Layout, Homes, with_constants, with_loose, register_at}
-use Rattle.scalar_emit.specs.Statements.{block_homes, block_labels, update_extent, update_settles, update_code}
-use Rattle.scalar_emit.specs.Loosening.{for_loop_loose, after_loop, held_loosely}
-use Rattle.scalar_emit.specs.LoopNumbers.{held_numbers, loop_layout}
-use Rattle.scalar_emit.specs.Loop.{bare, with_index, answer_code, answer_labels, key_code, numbers_code, enter_word, enter_code, settle_form, settle_code, iterations_code, leave_code}
+use Rattle.scalar_words.specs.Layout.{Constant, LowBits, Loose, Layout, Homes, with_constants, with_loose, register_at}
+use Rattle.scalar_emit.specs.Statements.{block_homes, block_labels, update_extent, update_settles, action_code}
+use Rattle.scalar_emit.specs.Loosening.{covers_block, loosened, for_loop_loose, after_loop, held_loosely}
+use Rattle.scalar_emit.specs.LoopNumbers.{hold_block, for_loop_numbers, held_numbers, loop_layout}
+use Rattle.scalar_emit.specs.Loop.{bare, index_home, with_index, answer_code, answer_labels, key_code, numbers_code, enter_word, enter_code, settle_form, settle_code, iterations_code, leave_code}
 use Rattle.scalar_words.specs.KernelRegisters.{layout_of_kernel, param_homes, kernel_homes}
-use Rattle.scalar_emit.specs.Kernel.{arguments_code, vars_code, zero_index, begin_code, straight_code, for_loop_code, for_loop_labels, scalar_code, scalar_labels}
+use Rattle.scalar_emit.specs.Kernel.{arguments_code, vars_code, vars_labels, zero_index, begin_code, begin_labels, straight_code, for_loop_code, for_loop_labels, scalar_code, scalar_labels}
 use Rattle.kernel_scope.specs.Scopes.{lent_text, closed}
-use Rattle.scalar_words.specs.View.{form_of, key_of, constants_of, looses_of, home_of, homes_of}
+use Rattle.scalar_words.specs.View.{form_of, key_of, constants_of, loose_of, looses_of, home_of, homes_of}
 use Rattle.scalar_emit.proofs.StmtRuns.{homes_block}
 
 -- ---- after a block
@@ -73,10 +75,21 @@ back_name m false names x e = back m names (names ++ x ∷ []) (x ∷ []) e refl
 pub undeclared : (s : Scope) (x : List ℕ) (b : Binding) (n m : ℕ) → n ≡ length s.visible → m ≡ length s.taken → s.inside ≡ false → closed n m (declared s x b) ≡ s
 undeclared s x b n m e f o = same_scope s _ _ _ _ (back n s.visible (s.visible ++ local x b ∷ []) (local x b ∷ []) e refl) (back_name m (is_taken s x) s.taken x f) refl (sym o)
 
+-- the loop variable has a home
+homes_push : (hs : List Kept) (h : Kept) → homes_of (hs ++ h ∷ []) ≡ homes_of hs ++ home_of h ∷ []
+homes_push [] h = refl
+homes_push (k ∷ hs) h = ap (λ l. home_of k ∷ l) (homes_push hs h)
+
+pub index_named : (old new : List Kept) (h : Kept) (l : PlainLoop) → new ≡ old ++ h ∷ [] → home_of h ≡ index_home l.index → homes_of new ≡ with_index (homes_of old) l
+index_named old new h l e f = ap homes_of e ∙ homes_push old h ∙ ap (λ x. homes_of old ++ x ∷ []) f
+
 -- ---- the code before the loop
 
 pub begin_is : (R : ℕ → ℕ) (k : Program) (L : Layout) (hs : Homes) (s : Scope) (first n m : ℕ) (ps : List Parameter) (vs : List Accumulator) (rest : List DraftEntry) → L ≡ layout_of_kernel R k → hs ≡ param_homes 0 ps → s ≡ param_scope k → first ≡ length k.params → n ≡ m → ps ≡ k.params → vs ≡ k.vars → arguments_code 0 ps (vars_code L R hs s 0 first n vs (zero_index rest)) ≡ begin_code R k m rest
 begin_is R k L hs s first n m ps vs rest d e f g h i j = rw (d, e, f, g, h, i, j) refl
+
+pub begin_count : (k : Program) (s : Scope) (n m o : ℕ) (vs : List Accumulator) → s.index ≡ loop_index k → vs ≡ k.vars → m ≡ n → o ≡ m + vars_labels s.index vs → o ≡ n + begin_labels k
+begin_count k s n m o vs e f g h = h ∙ rw (e, f, g) refl
 
 -- ---- the loop and what follows it
 
@@ -115,14 +128,14 @@ for_loop_count k l s s2 n n2 n3 t t2 f c d =
     let q : n3 ≡ n2 + answer_labels (loop_index k) k.answer = d ∙ ap (λ o. n2 + answer_labels o k.answer) j in
     omega (arith, g, p, q)
 
-pub bare_code : (R : ℕ → ℕ) (k : Program) (L : Layout) (hs : Homes) (s : Scope) (b n : ℕ) (rest : List DraftEntry) → L ≡ layout_of_kernel R k → hs ≡ kernel_homes R k → s ≡ var_scope k → k.for_loop ≡ None → b ≡ loop_start k → straight_code L hs s n b k.answer rest ≡ scalar_code R k n rest
-bare_code R k L hs s b n rest d h t f g = rw (h, t) (straight_is R k L b n rest d f g)
+pub bare_code : (R : ℕ → ℕ) (k : Program) (L : Layout) (hs : Homes) (s : Scope) (b n given : ℕ) (rest : List DraftEntry) → L ≡ layout_of_kernel R k → hs ≡ kernel_homes R k → s ≡ var_scope k → k.for_loop ≡ None → b ≡ loop_start k → given ≡ n + 1 → Place n ∷ answer_code L hs s b given k.answer rest ≡ scalar_code R k n rest
+bare_code R k L hs s b n given rest d h t f g e = rw (h, t, e) (straight_is R k L b n rest d f g)
 
-pub bare_count : (k : Program) (s : Scope) (n n2 : ℕ) → s.index ≡ loop_index k → k.for_loop ≡ None → n2 ≡ n + (1 + answer_labels s.index k.answer) → n2 ≡ n + scalar_labels k
-bare_count k s n n2 i f c =
+pub bare_count : (k : Program) (s : Scope) (n given n2 : ℕ) → s.index ≡ loop_index k → k.for_loop ≡ None → given ≡ n + 1 → n2 ≡ given + answer_labels s.index k.answer → n2 ≡ n + scalar_labels k
+bare_count k s n given n2 i f e c =
     let g : scalar_labels k ≡ 1 + answer_labels (loop_index k) k.answer = ap (λ o. for_loop_labels (loop_index k) o k.answer) f in
-    let d : n2 ≡ n + (1 + answer_labels (loop_index k) k.answer) = c ∙ ap (λ o. n + (1 + answer_labels o k.answer)) i in
-    omega (arith, g, d)
+    let d : n2 ≡ given + answer_labels (loop_index k) k.answer = c ∙ ap (λ o. given + answer_labels o k.answer) i in
+    omega (arith, g, e, d)
 
 -- ---- items
 
@@ -151,14 +164,22 @@ answer_room k s b few i le =
 
 -- ---- updates
 
-pub update_is : (L : Layout) (hs : Homes) (s : Scope) (b n : ℕ) (x : List ℕ) (op : BinaryOp) (want : Option Ty) (asked : Extent) (e : Term) (side : Side) (leaves : Bool) (d : ℕ) (rest : List DraftEntry) → asked ≡ update_extent L.loose x op want → side ≡ right_side L hs s op asked want b e → leaves ≡ update_settles L.loose x op want → d ≡ register_at hs x
-    → side_code (added_number op want e) (is_fused s op asked want e) (loose_code L hs s asked want b n e) (parts_code L hs s asked want b n e) (at_type want (λ t. operator_code side leaves op t d d rest) rest) ≡ update_code L hs s b n x op want e rest
-update_is L hs s b n x op want asked e side leaves d rest e1 e2 e3 e4 = rw (e2, e3, e4, e1) refl
+-- the type of an accumulator that is looked up
+pub update_type : (o : Option Binding) (want : Option Ty) → MatchOption o (want ≡ None) (λ x. want ≡ accumulator_type x) → want ≡ option_and_then accumulator_type o
+update_type (Some x) want h = h
+update_type None want h = h
+
+pub update_is : (L : Layout) (hs : Homes) (s : Scope) (exit b n : ℕ) (x : List ℕ) (by : UpdateOp) (op : BinaryOp) (want : Option Ty) (asked : Extent) (e : Term) (side : Side) (leaves : Bool) (d : ℕ) (rest : List DraftEntry) → op ≡ operator_of by → want ≡ option_and_then accumulator_type (lookup s x) → asked ≡ update_extent L.loose x op want → side ≡ right_side L hs s op asked want b e → leaves ≡ update_settles L.loose x op want → d ≡ register_at hs x
+    → side_code (added_number op want e) (is_fused s op asked want e) (loose_code L hs s asked want b n e) (parts_code L hs s asked want b n e) (at_type want (λ t. operator_code side leaves op t d d rest) rest) ≡ action_code L hs s exit b n (Update x by e) rest
+update_is L hs s exit b n x by op want asked e side leaves d rest o w e1 e2 e3 e4 = rw (e2, e3, e4, e1, w, o) refl
 
 -- ---- numbers that are held
 
 pub number_step : (cs ds : List Number) (c : Number) (rest : List DraftEntry) → cs ≡ c ∷ ds → key_code (key_of c.key) c.register.number (numbers_code (constants_of ds) rest) ≡ numbers_code (constants_of cs) rest
 number_step cs ds c rest e = ap (λ (xs : List Number). numbers_code (constants_of xs) rest) (sym e)
+
+pub numbers_are : (R : ℕ → ℕ) (k : Program) (l : PlainLoop) (p : ℕ) (hs : Homes) (s : Scope) → p ≡ length k.params → hs ≡ kernel_homes R k → s ≡ var_scope k → k.for_loop ≡ Some l → hold_block p hs s l.body [] ≡ held_numbers R k
+numbers_are R k l p hs s e f g h = rw (e, f, g) (ap (for_loop_numbers (length k.params) (kernel_homes R k) (var_scope k)) (sym h))
 
 pub held_is : (R : ℕ → ℕ) (k : Program) (N M L : Layout) → N ≡ with_loose M (held_loosely k) → M ≡ with_constants L (held_numbers R k) → L ≡ layout_of_kernel R k → N ≡ loop_layout R k
 held_is R k N M L d e f = d ∙ ap (λ (K : Layout). with_loose K (held_loosely k)) (e ∙ ap (λ (K : Layout). with_constants K (held_numbers R k)) f)
@@ -183,3 +204,21 @@ pub settle_step : (r : ℕ) (hs : Homes) (ls : List LooseName) (i : ℕ) (l : Lo
 settle_step r hs ls i l d rest lt f =
     ap (λ q. word_code (settle_form r q (form_of (get_or ls i l).form)) (settle_code r hs (looses_of (drop (i + 1) ls)) rest)) f
     ∙ ap (λ (xs : List LooseName). settle_code r hs (looses_of xs) rest) (sym (here ls i l lt))
+
+-- one name more, if the statements ask for no more of it
+looses_push : (ls : List LooseName) (l : LooseName) → looses_of (ls ++ l ∷ []) ≡ looses_of ls ++ loose_of l ∷ []
+looses_push [] l = refl
+looses_push (k ∷ ls) l = ap (λ m. loose_of k ∷ m) (looses_push ls l)
+
+module _ (s : Scope) (all : Block) (x : List ℕ) (t : Ty) (old new given : List LooseName) (l : LooseName) (v : Bool) (e : new ≡ old ++ l ∷ []) (f : loose_of l ≡ record { name = x; form = LowBits t }) (g : given ≡ new) (h : v ≡ covers_block (looses_of given) s all) where
+  more : looses_of new ≡ looses_of old ++ record { name = x; form = LowBits t } ∷ []
+  more = ap looses_of e ∙ looses_push old l ∙ ap (λ y. looses_of old ++ y ∷ []) f
+
+  told : covers_block (looses_of old ++ record { name = x; form = LowBits t } ∷ []) s all ≡ v
+  told = sym (ap (λ ls. covers_block ls s all) (ap looses_of g ∙ more)) ∙ sym h
+
+  pub loosened_kept : v ≡ true → looses_of new ≡ loosened s all x (Some t) (looses_of old)
+  loosened_kept i = more ∙ sym (ap (λ b. if b then looses_of old ++ record { name = x; form = LowBits t } ∷ [] else looses_of old) (told ∙ i))
+
+  pub loosened_left : (last : List LooseName) (n : ℕ) → v ≡ false → last ≡ take n new → n ≡ length old → looses_of last ≡ loosened s all x (Some t) (looses_of old)
+  loosened_left last n i cut len = ap looses_of (cut ∙ back n old new (l ∷ []) len e) ∙ sym (ap (λ b. if b then looses_of old ++ record { name = x; form = LowBits t } ∷ [] else looses_of old) (told ∙ i))

@@ -1,26 +1,41 @@
 -- The code of a loop and of what stands before it, put together from that of its parts.
-use Rattle.std.proofs.Common.{◌≡◌, ℕ, ◌+◌, List, [], ◌∷◌, Option, Some, refl, arith}
+use Rattle.std.proofs.Common.{◌≡◌, ℕ, ◌+◌, List, [], ◌∷◌, ◌++◌, Option, Some, refl, arith}
 use Rattle.machine_model.specs.InstructionTable.{Listed}
-use Rattle.a64_code.specs.Table.{add_imm}
+use Rattle.a64_code.specs.Table.{subs, add_imm}
 use Rattle.kernel_tree.specs.Plain.{Accumulator, PlainLoop}
+use Rattle.kernel_tree.specs.Items.{term_size, vars_size}
 use Rattle.kernel_tree.specs.Typing.{Scope, after_for_loop}
+use Rattle.kernel_scope.specs.Scopes.{after_var}
 use Rattle.label_fix.specs.DraftRun.{DraftEntry, Put, Branch, Place, If, word_of}
 use Rattle.scalar_words.specs.Layout.{Constant, Form, Loose, loose_in, Layout, Homes, register_at}
 use Rattle.scalar_words.specs.Words.{copy_word, word_code}
-use Rattle.scalar_words.specs.KernelRegisters.{counted_x}
+use Rattle.scalar_words.specs.KernelRegisters.{counted_x, var_home}
 use Rattle.scalar_values.specs.ValueRegisters.{home}
 use Rattle.scalar_values.specs.Code.{value_code}
 use Rattle.scalar_emit.specs.Statements.{block_code}
-use Rattle.scalar_emit.specs.Loop.{with_index, inside_of, bound_code, enter_code, settle_code, back_code, again_code, numbers_code, entry_code, iterations_code}
-use Rattle.scalar_emit.specs.Kernel.{var_code}
+use Rattle.scalar_emit.specs.Loop.{with_index, inside_of, enter_code, settle_code, back_code, again_code, numbers_code, entry_code, iterations_code}
+use Rattle.scalar_emit.specs.Kernel.{var_code, var_labels, vars_code, vars_labels}
 
 pub var_is : (L : Layout) (R : ℕ → ℕ) (hs hs1 : Homes) (s : Scope) (j b n d from : ℕ) (v : Accumulator) (rest : List DraftEntry) → hs1 ≡ hs → d ≡ counted_x (R j) → from ≡ home L hs1 s.index b v.init
     → value_code L hs1 s (Some v.type) b n v.init (word_code (copy_word d from) rest) ≡ var_code L R hs s j b n v rest
 var_is L R hs hs1 s j b n d from v rest h e1 e2 = rw (e1, e2, h) refl
 
-pub entry_is : (r n x top : ℕ) (hs : Homes) (L : Layout) (ls : List Loose) (cs : List Constant) (rest : List DraftEntry) → x ≡ n + 1 → ls ≡ L.loose → cs ≡ L.constants → top ≡ n + 2
-    → Place n ∷ bound_code r (Branch (If 2) x ∷ enter_code r hs ls (numbers_code cs (Place top ∷ rest))) ≡ entry_code r n hs L rest
-entry_is r n x top hs L ls cs rest e1 e2 e3 e4 = rw (e1, e2, e3, e4) refl
+pub record VarsOn (L : Layout) (R : ℕ → ℕ) (hs hs2 : Homes) (s t : Scope) (j b b2 n n2 : ℕ) (ds ds2 : List DraftEntry) (more x : List Accumulator) : Type 0 where
+  pub item : b2 + vars_size t.index more ≡ b + vars_size s.index x
+  pub labels : n2 + vars_labels t.index more ≡ n + vars_labels s.index x
+  pub code : (rest : List DraftEntry) → ds2 ++ vars_code L R hs2 t (j + 1) b2 n2 more rest ≡ ds ++ vars_code L R hs s j b n x rest
+
+-- after an accumulator the code goes on at the next
+pub vars_on : (L : Layout) (R : ℕ → ℕ) (hs hs2 : Homes) (s t : Scope) (j b b2 n n2 : ℕ) (ds ds2 : List DraftEntry) (v : Accumulator) (more x : List Accumulator) → x ≡ v ∷ more → t ≡ after_var s v → hs2 ≡ hs ++ var_home R j v ∷ [] → b2 ≡ b + term_size s.index v.init + 1 → n2 ≡ n + var_labels s.index v → ((rest : List DraftEntry) → ds2 ++ rest ≡ ds ++ var_code L R hs s j b n v rest) → VarsOn L R hs hs2 s t j b b2 n n2 ds ds2 more x
+vars_on L R hs hs2 s t j b b2 n n2 ds ds2 v more x e f h i k g = record {
+  item = rw (e, f, i) (omega arith);
+  labels = rw (e, f, k) (omega arith);
+  code = λ rest. rw (e, f, h, i, k) (g _);
+}
+
+pub entry_is : (r n x top : ℕ) (hs : Homes) (L : Layout) (ls : List Loose) (cs : List Constant) (w : Listed) (rest : List DraftEntry) → w ≡ word_of subs (31 ∷ 9 ∷ 0 ∷ r ∷ 0 ∷ []) → x ≡ n + 1 → ls ≡ L.loose → cs ≡ L.constants → top ≡ n + 2
+    → Place n ∷ Put w ∷ Branch (If 2) x ∷ enter_code r hs ls (numbers_code cs (Place top ∷ rest)) ≡ entry_code r n hs L rest
+entry_is r n x top hs L ls cs w rest e e1 e2 e3 e4 = rw (e, e1, e2, e3, e4) refl
 
 pub entry_top : (n a b c d e : ℕ) → a ≡ n + 1 → b ≡ a → c ≡ b + 1 → d ≡ c → e ≡ d → e ≡ n + 2
 entry_top n a b c d e p q r s t = omega arith

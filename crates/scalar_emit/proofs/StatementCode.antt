@@ -1,14 +1,20 @@
 -- The code of statements, put together from that of their parts.
-use Rattle.std.proofs.Common.{◌≡◌, ℕ, ◌+◌, false, List, ◌∷◌, Option, refl, ap, arith}
+use Rattle.std.proofs.Common.{◌≡◌, ℕ, ◌+◌, ◌<◌, ◌^◌, false, List, ◌∷◌, Option, refl, ap, arith}
 use Rattle.kernel_tree.specs.declared.ops.Ty.{Ty}
-use Rattle.kernel_tree.specs.Plain.{Term, Define, Choose, Block, Otherwise, Nothing, Else}
-use Rattle.kernel_tree.specs.Items.{term_size, block_size}
+use Rattle.kernel_tree.specs.Plain.{Term, Action, Define, Choose, Block, Nothing, Else}
+use Rattle.kernel_tree.specs.Items.{term_size, action_size, block_size}
 use Rattle.kernel_tree.specs.Typing.{Scope, own, first, left, after_block}
+use Rattle.label_fix.specs.Draft.{Drafted}
+use Rattle.label_fix.specs.Emits.{Emits}
 use Rattle.label_fix.specs.DraftRun.{DraftEntry, Branch, Place, Always}
 use Rattle.scalar_words.specs.Layout.{Layout, Homes}
 use Rattle.scalar_values.specs.ValueRegisters.{home}
 use Rattle.scalar_values.specs.Code.{labels, value_code, jump_code}
-use Rattle.scalar_emit.specs.Statements.{let_code, block_labels, otherwise_labels, action_code, block_code, otherwise_code}
+use Rattle.scalar_emit.specs.Statements.{let_code, action_labels, block_labels, action_code, block_code}
+
+-- the code of a statement that has been taken apart
+pub emits_as : (L : Layout) (hs hs1 : Homes) (s : Scope) (exit b : ℕ) (d d2 : Drafted) (a a2 : Action) → hs1 ≡ hs → a ≡ a2 → Emits d d2 (d.labels + action_labels s.index a) (action_code L hs1 s exit b d.labels a) → Emits d d2 (d.labels + action_labels s.index a2) (action_code L hs s exit b d.labels a2)
+emits_as L hs hs1 s exit b d d2 a a2 h e p = rw (h, e) at p
 
 pub let_is : (L : Layout) (hs hs1 : Homes) (s : Scope) (b n q from : ℕ) (x : List ℕ) (ty want : Option Ty) (e : Term) (rest : List DraftEntry) → hs1 ≡ hs → want ≡ first ty (own s e) → q ≡ b + term_size s.index e → from ≡ home L hs1 s.index b e
     → value_code L hs1 s want b n e (let_code L q from rest) ≡ action_code L hs s 0 b n (Define x ty e) rest
@@ -21,18 +27,27 @@ if_is L hs hs1 s exit other b n item given given2 c blk rest h e1 e2 e3 e4 = rw 
 pub if_count : (n given given2 given3 given4 p q : ℕ) → given ≡ n + 1 → given2 ≡ given + p → given3 ≡ given2 + q → given4 ≡ given3 → given4 ≡ n + (1 + p + q + 0)
 if_count n given given2 given3 given4 p q e f g h = omega arith
 
-pub if_else_is : (L : Layout) (hs hs1 hs2 : Homes) (s s2 : Scope) (exit other b n item item2 given given2 given3 : ℕ) (c : Term) (blk second : Block) (rest : List DraftEntry) → hs1 ≡ hs → hs2 ≡ hs → s2 ≡ left s (after_block s blk) → other ≡ n → given ≡ n + 1 → item ≡ b + term_size s.index c → given2 ≡ given + labels s.index c → item2 ≡ item + 1 + block_size s.index blk → given3 ≡ given2 + block_labels s.index blk
-    → jump_code L hs1 s false other b given c (block_code L hs s exit (item + 1) given2 blk (otherwise_code L hs2 s2 exit other item2 given3 (Else second) rest)) ≡ action_code L hs s exit b n (Choose c blk (Else second)) rest
-if_else_is L hs hs1 hs2 s s2 exit other b n item item2 given given2 given3 c blk second rest h h2 t e1 e2 e3 e4 e5 e6 = rw (h, h2, t, e1, e5, e6, e3, e4, e2) refl
+pub if_else_is : (L : Layout) (hs hs1 hs2 : Homes) (s s2 : Scope) (exit other end b n item item2 item3 given given2 given3 given4 : ℕ) (c : Term) (blk second : Block) (rest : List DraftEntry) → hs1 ≡ hs → hs2 ≡ hs → s2 ≡ left s (after_block s blk) → other ≡ n → given ≡ n + 1 → item ≡ b + term_size s.index c → given2 ≡ given + labels s.index c → item2 ≡ item + 1 + block_size s.index blk → given3 ≡ given2 + block_labels s.index blk → end ≡ given3 → item3 ≡ item2 + 1 → given4 ≡ given3 + 1
+    → jump_code L hs1 s false other b given c (block_code L hs s exit (item + 1) given2 blk (Branch Always given3 ∷ Place other ∷ block_code L hs2 s2 exit item3 given4 second (Place end ∷ rest))) ≡ action_code L hs s exit b n (Choose c blk (Else second)) rest
+if_else_is L hs hs1 hs2 s s2 exit other end b n item item2 item3 given given2 given3 given4 c blk second rest h h2 t e1 e2 e3 e4 e5 e6 e7 e8 e9 = rw (h, h2, t, e1, e7, e8, e9, e5, e6, e3, e4, e2) refl
 
-pub if_else_count : (s s2 t : Scope) (n given given2 given3 given4 p q : ℕ) (d : Otherwise) → s2 ≡ left s t → given ≡ n + 1 → given2 ≡ given + p → given3 ≡ given2 + q → given4 ≡ given3 + otherwise_labels s2.index d → given4 ≡ n + (1 + p + q + otherwise_labels s.index d)
-if_else_count s s2 t n given given2 given3 given4 p q d is e f g h =
-    let i : otherwise_labels s2.index d ≡ otherwise_labels s.index d = ap (λ (r : Scope). otherwise_labels r.index d) is in
-    omega (arith, e, f, g, h, i)
+pub if_else_count : (s s2 t : Scope) (n given given2 given3 given4 given5 given6 p q : ℕ) (blk : Block) → s2 ≡ left s t → given ≡ n + 1 → given2 ≡ given + p → given3 ≡ given2 + q → given4 ≡ given3 + 1 → given5 ≡ given4 + block_labels s2.index blk → given6 ≡ given5 → given6 ≡ n + (1 + p + q + (1 + block_labels s.index blk))
+if_else_count s s2 t n given given2 given3 given4 given5 given6 p q blk is e f g h k l =
+    let i : block_labels s2.index blk ≡ block_labels s.index blk = ap (λ (r : Scope). block_labels r.index blk) is in
+    omega (arith, e, f, g, h, k, l, i)
 
-pub else_is : (L : Layout) (hs : Homes) (s : Scope) (exit other end b n item given : ℕ) (blk : Block) (rest : List DraftEntry) → end ≡ n → item ≡ b + 1 → given ≡ n + 1
-    → Branch Always n ∷ Place other ∷ block_code L hs s exit item given blk (Place end ∷ rest) ≡ otherwise_code L hs s exit other b n (Else blk) rest
-else_is L hs s exit other end b n item given blk rest e1 e2 e3 = rw (e1, e2, e3) refl
+-- the labels are given before they are placed
+pub first_given : (other n a b c d p q : ℕ) → other ≡ n → a ≡ n + 1 → b ≡ a + p → c ≡ b + q → d ≡ c + 1 → other < d
+first_given other n a b c d p q e f g h i = omega arith
 
-pub else_count : (n given given2 given3 p : ℕ) → given ≡ n + 1 → given2 ≡ given + p → given3 ≡ given2 → given3 ≡ n + (1 + p)
-else_count n given given2 given3 p e f g = omega arith
+pub second_given : (end n a b c p : ℕ) → end ≡ n → a ≡ n + 1 → b ≡ a → c ≡ b + p → end < c
+second_given end n a b c p e f g h = omega arith
+
+-- the items of both blocks have room
+pub first_room : (i : Option (List ℕ)) (c : Term) (blk second : Block) (b item item2 : ℕ) → b + action_size i (Choose c blk (Else second)) < 2 ^ 32 → item ≡ b + term_size i c → item2 ≡ item + 1 + block_size i blk → item2 < 2 ^ 32
+first_room i c blk second b item item2 h e f = omega arith
+
+pub second_room : (s s2 : Scope) (c : Term) (blk second : Block) (b item item2 item3 : ℕ) → b + action_size s.index (Choose c blk (Else second)) < 2 ^ 32 → item ≡ b + term_size s.index c → item2 ≡ item + 1 + block_size s.index blk → item3 ≡ item2 + 1 → s2 ≡ left s (after_block s blk) → item3 + block_size s2.index second < 2 ^ 32
+second_room s s2 c blk second b item item2 item3 h e f g is =
+    let k : block_size s2.index second ≡ block_size s.index second = ap (λ (r : Scope). block_size r.index second) is in
+    omega arith

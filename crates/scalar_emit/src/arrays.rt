@@ -1,38 +1,20 @@
 //! The arrays of a loop, whose registers stand ahead where it counts to zero.
 
-ghost use Rattle.std.specs.Prelude.{◌≡◌, true, OnOk};
+ghost use Rattle.std.specs.Prelude.{◌≡◌, OnOk};
 ghost use Rattle.kernel_tree.specs.Plain.{name_of, term_of, action_of, block_of};
 ghost use Rattle.kernel_scope.specs.Scopes.{scope_of};
 ghost use Rattle.scalar_words.specs.View.{looses_of};
 ghost use Rattle.kernel_tree.specs.Items as items;
 ghost use Rattle.scalar_emit.specs.Loosening as loosening;
 
-use kernel_scope::{Scope, element_type, lookup};
-use kernel_tree::{Expr, Name, Part, Stmt, Ty, parts};
+use kernel_scope::{Scope, array_type};
+use kernel_tree::{Expr, Name, Part, Stmt, parts};
 use scalar_values::covers::is_whole;
 use scalar_values::instructions::index_word;
 use scalar_words::{Form, Loose};
 use std::alloc::AllocError;
 
-// One more, which is not among them.
-fn put_ahead<'a>(
-    loose: &mut Vec<Loose<'a>>,
-    array: &'a Name,
-    want: Option<Ty>,
-) -> Result<(), AllocError>
-    ensures { OnOk result (looses_of loose.new.items
-        ≡ loosening.put_ahead true (name_of array.now) want (looses_of loose.old.items)) }
-{
-    match want {
-        None => Ok(()),
-        Some(ty) => {
-            let name = array.text();
-            let form = Form::Ahead(ty);
-            loose.push(Loose { name, form })
-        }
-    }
-}
-
+// An array, where nothing else is held of its name.
 fn add_array<'a>(
     loose: &mut Vec<Loose<'a>>,
     scope: &Scope,
@@ -41,11 +23,14 @@ fn add_array<'a>(
     ensures { OnOk result (looses_of loose.new.items
         ≡ loosening.with_array (scope_of scope.now) (name_of array.now) (looses_of loose.old.items)) }
 {
-    if is_whole(loose, array) {
-        let want = lookup(scope, array).and_then(element_type);
-        put_ahead(loose, array, want)
-    } else {
-        Ok(())
+    match array_type(scope, array) {
+        Some(ty) if is_whole(loose, array) => {
+            let name = array.text();
+            let form = Form::Ahead(ty);
+            loose.push(Loose { name, form })?;
+            Ok(())
+        }
+        _ => Ok(()),
     }
 }
 
@@ -109,21 +94,6 @@ fn add_both<'a>(
     add_term(loose, scope, right)
 }
 
-// The arrays of a value, and then the one to which it goes.
-fn add_store<'a>(
-    loose: &mut Vec<Loose<'a>>,
-    scope: &Scope,
-    array: &'a Name,
-    value: &'a Expr,
-) -> Result<(), AllocError>
-    ensures { OnOk result (looses_of loose.new.items
-        ≡ loosening.with_array (scope_of scope.now) (name_of array.now)
-        (loosening.term_arrays (scope_of scope.now) (term_of value.now) (looses_of loose.old.items))) }
-{
-    add_term(loose, scope, value)?;
-    add_array(loose, scope, array)
-}
-
 #[cycle(statements)]
 fn add_stmt<'a>(loose: &mut Vec<Loose<'a>>, scope: &Scope, stmt: &'a Stmt) -> Result<(), AllocError>
     ensures { OnOk result (looses_of loose.new.items
@@ -139,7 +109,10 @@ fn add_stmt<'a>(loose: &mut Vec<Loose<'a>>, scope: &Scope, stmt: &'a Stmt) -> Re
             add_block(loose, scope, block)?;
             add_block(loose, scope, other)
         }
-        Part::Store { array, value, .. } => add_store(loose, scope, array, value),
+        Part::Store { array, value, .. } => {
+            add_term(loose, scope, value)?;
+            add_array(loose, scope, array)
+        }
         Part::Let { value, .. } | Part::Update { value, .. } | Part::Break { cond: value } => {
             add_term(loose, scope, value)
         }

@@ -28,21 +28,6 @@ pub fn land(draft: &mut Draft, label: Label, item: &mut usize) -> Result<(), All
     ensures item { OnOk result (item.new ≡ item.old + 1) }
     ensures emits { OnOk result (Emits draft.old draft.new draft.old.labels (λ rest. plain.Place label ∷ rest)) }
 {
-    draft.place(label)?;
     *item += 1;
-    Ok(())
-}
-
-/// A branch over what follows to a new label, and the place of a label to which what went before branches, which is an item.
-pub fn switch_over(draft: &mut Draft, label: Label, item: &mut usize) -> Result<Label, AllocError>
-    requires given { label < draft.old.labels }
-    requires room { item.old < 2 ^ 32 }
-    ensures label { IfOk result (λ l. l ≡ draft.old.labels) }
-    ensures item { OnOk result (item.new ≡ item.old + 1) }
-    ensures emits { OnOk result (Emits draft.old draft.new (draft.old.labels + 1)
-        (λ rest. plain.Branch plain.Always draft.old.labels ∷ plain.Place label ∷ rest)) }
-{
-    let end = branch_ahead(draft, BranchKind::Always)?;
-    land(draft, label, item)?;
-    Ok(end)
+    draft.place(label)
 }

@@ -6,7 +6,7 @@ ghost use Rattle.a64_code.specs.Table as table;
 ghost use Rattle.kernel_tree.specs.Plain.{name_of, for_loop_of, block_of};
 ghost use Rattle.kernel_tree.specs.Kinds.{BlockKinds};
 ghost use Rattle.kernel_scope.specs.Scopes.{scope_of};
-ghost use Rattle.scalar_emit.specs.Statements.{block_labels, block_code, block_homes};
+ghost use Rattle.scalar_emit.specs.Statements.{block_labels, block_code};
 ghost use Rattle.label_fix.specs.Emits.{Emits};
 ghost use Rattle.scalar_words.specs.View.{form_of, homes_of, looses_of};
 ghost use Rattle.scalar_words.specs.Words.{word_code};
@@ -19,9 +19,9 @@ ghost use Rattle.scalar_emit.specs.Loop as loops;
 use crate::branches::branch_ahead;
 use crate::numbers::emit_numbers;
 use crate::statements::emit_block;
-use crate::variable::declare_index;
 use a64_code::{A64, AddSubOp, AddSubShift, Cond, Reg, zero};
-use kernel_scope::{Scope, close, declared_count, visible_count};
+use kernel_scope::{Scope, close, declare, declared_count, visible_count};
+use kernel_tree::fault::Binding;
 use kernel_tree::{Loop, Ty};
 use label_fix::{BranchKind, Draft, Label, Word};
 use scalar_values::instructions::{index, next_iteration};
@@ -32,36 +32,7 @@ use scalar_words::{Form, Home, Loose, register_at, register_named};
 use std::alloc::AllocError;
 use word_rows::Bits;
 
-// The statements of a loop whose variable is declared.
-fn emit_body<'a>(
-    draft: &mut Draft,
-    places: &Places,
-    homes: &mut Vec<Home<'a>>,
-    scope: &mut Scope<'a>,
-    last: Label,
-    for_loop: &'a Loop,
-    item: &mut usize,
-) -> Result<(), AllocError>
-    requires last { last < draft.old.labels }
-    requires kinds { BlockKinds (block_of for_loop.now.body.items) }
-    requires fits { item.old + items.block_size (scope_of scope.old).index (block_of for_loop.now.body.items) < 2 ^ 32 }
-    ensures scope { OnOk result (scope_of scope.new
-        ≡ typing.after_block (loops.inside_of (scope_of scope.old)) (block_of for_loop.now.body.items)) }
-    ensures homes { OnOk result (homes_of homes.new.items
-        ≡ block_homes places.now (homes_of homes.old.items) (loops.inside_of (scope_of scope.old)) item.old
-        (block_of for_loop.now.body.items)) }
-    ensures item { OnOk result (item.new ≡ item.old + items.block_size (scope_of scope.old).index
-        (block_of for_loop.now.body.items)) }
-    ensures emits { OnOk result (Emits draft.old draft.new
-        (draft.old.labels + block_labels (scope_of scope.old).index (block_of for_loop.now.body.items))
-        (block_code places.now (homes_of homes.old.items) (loops.inside_of (scope_of scope.old)) last item.old
-        draft.old.labels (block_of for_loop.now.body.items))) }
-{
-    scope.inside = true;
-    emit_block(draft, places, homes, scope, last, &for_loop.body, item)
-}
-
-// The same, after which the scope and the names are those before them.
+// The statements of a loop whose variable is declared, after which the scope and the names are those before them.
 fn emit_inside<'a>(
     draft: &mut Draft,
     places: &Places,
@@ -87,7 +58,8 @@ fn emit_inside<'a>(
     let visible = visible_count(scope);
     let taken = declared_count(scope);
     let inside = scope.inside;
-    emit_body(draft, places, homes, scope, last, for_loop, item)?;
+    scope.inside = true;
+    emit_block(draft, places, homes, scope, last, &for_loop.body, item)?;
     homes.truncate(known);
     close(scope, visible, taken);
     scope.inside = inside;
@@ -103,8 +75,8 @@ struct LoopLabels {
     last: Label,
 }
 
-// The head of a loop.
-fn emit_head(draft: &mut Draft) -> Result<Label, AllocError>
+/// A new label at its place.
+pub fn emit_head(draft: &mut Draft) -> Result<Label, AllocError>
     ensures head { IfOk result (λ l. l ≡ draft.old.labels) }
     ensures emits { OnOk result (Emits draft.old draft.new (draft.old.labels + 1)
         (λ rest. plain.Place draft.old.labels ∷ rest)) }
@@ -115,10 +87,10 @@ fn emit_head(draft: &mut Draft) -> Result<Label, AllocError>
 }
 
 // The comparison of a loop's variable with the register of its bound.
-fn emit_bound(draft: &mut Draft, bound: Reg) -> Result<(), AllocError>
-    ensures { OnOk result (Emits draft.old draft.new draft.old.labels (loops.bound_code bound.number)) }
+fn bound_word(bound: Reg) -> Word
+    ensures { word_view result ≡ plain.word_of table.subs (31 ∷ 9 ∷ 0 ∷ bound.number ∷ 0 ∷ []) }
 {
-    draft.put(add_sub(AddSubOp::Subs, zero(), index(), bound))
+    add_sub(AddSubOp::Subs, zero(), index(), bound)
 }
 
 // How far an element of a type shifts its number.
@@ -191,7 +163,7 @@ fn emit_entry(
         (loops.entry_code bound.number draft.old.labels (homes_of homes.now) places.now)) }
 {
     let head = emit_head(draft)?;
-    emit_bound(draft, bound)?;
+    draft.put(bound_word(bound))?;
     let exit = branch_ahead(draft, BranchKind::If(Cond::Hs))?;
     emit_moves(draft, bound, homes, places.loose())?;
     emit_numbers(draft, places.constants())?;
@@ -249,7 +221,7 @@ fn emit_back(
     match form {
         Some(Form::Behind) => draft.branch(BranchKind::NotZero(9), top),
         _ => {
-            emit_bound(draft, bound)?;
+            draft.put(bound_word(bound))?;
             draft.branch(BranchKind::If(Cond::Lo), top)
         }
     }
@@ -305,7 +277,14 @@ pub fn emit_loop<'a>(
         draft.old.labels)) }
 {
     let bound = register_at(homes, &for_loop.bound);
-    declare_index(scope, homes, for_loop)?;
+    let name = for_loop.index.text();
+    let register = index();
+    homes.push(Home {
+        name,
+        register,
+        last_use: None,
+    })?;
+    declare(scope, &for_loop.index, Binding::Index)?;
     let labels = emit_entry(draft, places, homes, bound)?;
     let LoopLabels { head, last, .. } = labels;
     *item += 1;

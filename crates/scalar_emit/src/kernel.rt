@@ -1,7 +1,7 @@
 //! Emits the code of a kernel: what stands before its loop, the loop, and the end.
 
 ghost use Rattle.std.specs.Prelude.{◌≡◌, ◌+◌, ◌*◌, ◌<◌, ◌≤◌, ◌^◌, Some, [], ◌∷◌, ◌++◌, OnOk, IfOk, length, option_map};
-ghost use Rattle.kernel_tree.specs.Plain.{term_of, parameters_of, accumulator_of, accumulators_of, for_loop_of, returned_of, program_of};
+ghost use Rattle.kernel_tree.specs.Plain.{term_of, block_of, parameters_of, accumulator_of, accumulators_of, for_loop_of, returned_of, program_of};
 ghost use Rattle.kernel_tree.specs.Kinds.{IsValue, VarsKinds, AnswerKinds, KernelKinds};
 ghost use Rattle.kernel_scope.specs.Scopes.{scope_of, after_var};
 ghost use Rattle.reg_assign.specs.declared.interval.RegClass.TheVariants.{X};
@@ -21,7 +21,7 @@ ghost use Rattle.scalar_emit.specs.Loop as loops;
 ghost use Rattle.scalar_emit.specs.Kernel as kernels;
 ghost use Rattle.scalar_words.specs.KernelRegisters as registers;
 
-use crate::for_loop::emit_loop;
+use crate::for_loop::{emit_head, emit_loop};
 use crate::loosening::{after_loop, loosen_names};
 use crate::numbers::hold_block;
 use kernel_scope::{Scope, empty, loop_index};
@@ -43,16 +43,6 @@ use word_rows::Bits;
 
 // ---- before the loop
 
-fn emit_argument(draft: &mut Draft, place: u32, shape: Shape) -> Result<(), AllocError>
-    requires { place < 8 }
-    ensures { OnOk result (Emits draft.old draft.new draft.old.labels (kernels.argument_code shape place)) }
-{
-    match shape {
-        Shape::Array(_) => Ok(()),
-        Shape::Scalar(ty) => emit_settle(draft, true, ty, Bits { number: place }),
-    }
-}
-
 // The scalar arguments, wrapped to their types.
 fn emit_arguments(draft: &mut Draft, params: &[Param]) -> Result<(), AllocError>
     requires { length params.now ≤ 8 }
@@ -61,7 +51,9 @@ fn emit_arguments(draft: &mut Draft, params: &[Param]) -> Result<(), AllocError>
 {
     let mut place = 0;
     for param in params {
-        emit_argument(draft, place, param.shape)?;
+        if let Shape::Scalar(ty) = param.shape {
+            emit_settle(draft, true, ty, Bits { number: place })?;
+        }
         place += 1;
     }
     Ok(())
@@ -93,9 +85,8 @@ fn emit_var<'a>(
 {
     let from = emit_value(draft, places, homes, scope, Some(var.ty), &var.init, item)?;
     emit_copy(draft, counted_register(regs, place), from)?;
-    declare_var(scope, homes, regs, place, var)?;
     *item += 1;
-    Ok(())
+    declare_var(scope, homes, regs, place, var)
 }
 
 // The accumulators in their order.
@@ -153,28 +144,6 @@ fn emit_first<'a>(
     draft.put(small(9, 0))
 }
 
-// The same, where no name is held yet.
-fn emit_before(
-    alloc: Global,
-    draft: &mut Draft,
-    places: &Places,
-    regs: &Assigned,
-    kernel: &Kernel,
-) -> Result<(), AllocError>
-    requires assigned { IsAssignment 15 regs.now }
-    requires vars { length (program_of kernel.now).vars ≤ length regs.now.registers }
-    requires params { length (program_of kernel.now).params ≤ 8 }
-    requires kinds { VarsKinds (program_of kernel.now).vars }
-    requires few { items.size_of (program_of kernel.now) ≤ 1000 }
-    requires places { places.now ≡ registers.layout_of_kernel (register_in regs.now) (program_of kernel.now) }
-    ensures { OnOk result (Emits draft.old draft.new (draft.old.labels + kernels.begin_labels (program_of kernel.now))
-        (kernels.begin_code (register_in regs.now) (program_of kernel.now) draft.old.labels)) }
-{
-    let mut scope = empty(alloc, loop_index(&kernel.body));
-    let mut homes = Vec::new(alloc);
-    emit_first(draft, places, regs, &mut homes, &mut scope, kernel)
-}
-
 /// The code before the loop. It wraps the scalar arguments to their types, evaluates the accumulators in their order into
 /// their registers and sets X9 to zero.
 #[tactic(auto, unfolding(loop_form::specs::View::program))]
@@ -198,10 +167,20 @@ pub fn emit_begin(
     each_has_a_register(kernel, regs);
     let places = places_of(alloc, kernel, listing, regs)?;
     let tree = kernel.kernel();
-    emit_before(alloc, draft, &places, regs, tree)
+    let mut scope = empty(alloc, loop_index(&tree.body));
+    let mut homes = Vec::new(alloc);
+    emit_first(draft, &places, regs, &mut homes, &mut scope, tree)
 }
 
 // ---- the loop and the end
+
+/// Where scalar code is entered.
+#[derive(Clone, Copy)]
+pub struct ScalarEntry {
+    /// The label at the head of the loop, which is entered with the number of an iteration in X9; without a loop, the label
+    /// before the returned value.
+    pub at_iteration: Label,
+}
 
 // The end of a run, with its result in X0.
 fn emit_exit(draft: &mut Draft) -> Result<(), AllocError>
@@ -249,31 +228,21 @@ fn emit_answer(
     }
 }
 
-// What a loop holds, with the names before it.
+// What a loop holds, with so many parameters and the names before it.
 fn hold_numbers(
     alloc: Global,
     places: &mut Places,
-    regs: &Assigned,
+    params: usize,
     homes: &[Home],
     scope: &Scope,
-    kernel: &Kernel,
     for_loop: &Loop,
 ) -> Result<(), AllocError>
-    requires params { length (program_of kernel.now).params ≤ 8 }
-    requires for_loop { (program_of kernel.now).for_loop ≡ Some (for_loop_of for_loop.now) }
-    requires scope { scope_of scope.now ≡ typing.var_scope (program_of kernel.now) }
-    requires homes { homes_of homes.now ≡ registers.kernel_homes (register_in regs.now) (program_of kernel.now) }
-    ensures { OnOk result (places.new
-        ≡ with_constants places.old (numbers.held_numbers (register_in regs.now) (program_of kernel.now))) }
+    requires { params ≤ 8 }
+    ensures { OnOk result (places.new ≡ with_constants places.old
+        (numbers.hold_block params (homes_of homes.now) (scope_of scope.now) (block_of for_loop.now.body.items) [])) }
 {
     let mut constants = Vec::new(alloc);
-    hold_block(
-        &mut constants,
-        kernel.params.len(),
-        homes,
-        scope,
-        &for_loop.body,
-    )?;
+    hold_block(&mut constants, params, homes, scope, &for_loop.body)?;
     places.hold(constants);
     Ok(())
 }
@@ -288,7 +257,7 @@ fn leave_loop(alloc: Global, places: &mut Places) -> Result<(), AllocError>
     Ok(())
 }
 
-// The loop of a kernel and what follows it, with the names before it; answers the label of its head.
+// The loop of a kernel and what follows it, with the names before it.
 fn emit_for_loop<'a>(
     alloc: Global,
     draft: &mut Draft,
@@ -299,7 +268,7 @@ fn emit_for_loop<'a>(
     kernel: &Kernel,
     for_loop: &'a Loop,
     item: usize,
-) -> Result<Label, AllocError>
+) -> Result<ScalarEntry, AllocError>
     requires params { length (program_of kernel.now).params ≤ 8 }
     requires for_loop { (program_of kernel.now).for_loop ≡ Some (for_loop_of for_loop.now) }
     requires kinds { KernelKinds (program_of kernel.now) }
@@ -308,45 +277,22 @@ fn emit_for_loop<'a>(
     requires start { item ≡ items.loop_start (program_of kernel.now) }
     requires scope { scope_of scope.old ≡ typing.var_scope (program_of kernel.now) }
     requires homes { homes_of homes.old.items ≡ registers.kernel_homes (register_in regs.now) (program_of kernel.now) }
-    ensures head { IfOk result (λ l. l ≡ draft.old.labels) }
+    ensures entry { IfOk result (λ e. e.at_iteration ≡ draft.old.labels) }
     ensures emits { OnOk result (Emits draft.old draft.new
         (draft.old.labels + kernels.scalar_labels (program_of kernel.now))
         (kernels.scalar_code (register_in regs.now) (program_of kernel.now) draft.old.labels)) }
 {
     let mut next = item;
-    hold_numbers(alloc, places, regs, homes, scope, kernel, for_loop)?;
+    let params = kernel.params.len();
+    hold_numbers(alloc, places, params, homes, scope, for_loop)?;
     loosen_names(alloc, places, scope, kernel, for_loop)?;
-    let head = emit_loop(draft, places, homes, scope, for_loop, &mut next)?;
+    let at_iteration = emit_loop(draft, places, homes, scope, for_loop, &mut next)?;
     leave_loop(alloc, places)?;
     emit_answer(draft, places, homes, scope, &kernel.answer, next)?;
-    Ok(head)
+    Ok(ScalarEntry { at_iteration })
 }
 
-// A kernel without a loop, with its names; answers the label before its returned value.
-fn emit_straight(
-    draft: &mut Draft,
-    places: &Places,
-    homes: &[Home],
-    scope: &Scope,
-    answer: &Option<Answer>,
-    item: usize,
-) -> Result<Label, AllocError>
-    requires kind { AnswerKinds (option_map returned_of answer.now) }
-    requires fits { item + items.answer_size (scope_of scope.now).index (option_map returned_of answer.now) < 2 ^ 32 }
-    ensures head { IfOk result (λ l. l ≡ draft.old.labels) }
-    ensures emits { OnOk result (Emits draft.old draft.new
-        (draft.old.labels + (1 + loops.answer_labels (scope_of scope.now).index (option_map returned_of answer.now)))
-        (kernels.straight_code places.now (homes_of homes.now) (scope_of scope.now) draft.old.labels item
-        (option_map returned_of answer.now))) }
-{
-    let head = draft.label()?;
-    draft.place(head)?;
-    emit_answer(draft, places, homes, scope, answer, item)?;
-    Ok(head)
-}
-
-// The code of a kernel's loop and of what follows it, with no name declared yet; answers the label of its head, or before
-// the returned value.
+// The code of a kernel's loop and of what follows it, with no name declared yet.
 fn emit_rest<'a>(
     alloc: Global,
     draft: &mut Draft,
@@ -356,7 +302,7 @@ fn emit_rest<'a>(
     scope: &mut Scope<'a>,
     kernel: &'a Kernel,
     item: usize,
-) -> Result<Label, AllocError>
+) -> Result<ScalarEntry, AllocError>
     requires assigned { IsAssignment 15 regs.now }
     requires vars { length (program_of kernel.now).vars ≤ length regs.now.registers }
     requires params { length (program_of kernel.now).params ≤ 8 }
@@ -366,54 +312,22 @@ fn emit_rest<'a>(
     requires start { item ≡ items.loop_start (program_of kernel.now) }
     requires scope { scope_of scope.old ≡ typing.empty (items.loop_index (program_of kernel.now)) }
     requires homes { homes.old.items ≡ [] }
-    ensures head { IfOk result (λ l. l ≡ draft.old.labels) }
+    ensures entry { IfOk result (λ e. e.at_iteration ≡ draft.old.labels) }
     ensures emits { OnOk result (Emits draft.old draft.new
         (draft.old.labels + kernels.scalar_labels (program_of kernel.now))
         (kernels.scalar_code (register_in regs.now) (program_of kernel.now) draft.old.labels)) }
 {
     declare_names(scope, homes, regs, kernel)?;
     match &kernel.body {
-        None => emit_straight(draft, places, homes, scope, &kernel.answer, item),
+        None => {
+            let at_iteration = emit_head(draft)?;
+            emit_answer(draft, places, homes, scope, &kernel.answer, item)?;
+            Ok(ScalarEntry { at_iteration })
+        }
         Some(for_loop) => emit_for_loop(
             alloc, draft, places, regs, homes, scope, kernel, for_loop, item,
         ),
     }
-}
-
-// The same, where no name is held yet.
-fn emit_after<'a>(
-    alloc: Global,
-    draft: &mut Draft,
-    places: &mut Places<'a>,
-    regs: &Assigned,
-    kernel: &'a Kernel,
-    item: usize,
-) -> Result<Label, AllocError>
-    requires assigned { IsAssignment 15 regs.now }
-    requires vars { length (program_of kernel.now).vars ≤ length regs.now.registers }
-    requires params { length (program_of kernel.now).params ≤ 8 }
-    requires kinds { KernelKinds (program_of kernel.now) }
-    requires few { items.size_of (program_of kernel.now) ≤ 1000 }
-    requires places { places.old ≡ registers.layout_of_kernel (register_in regs.now) (program_of kernel.now) }
-    requires start { item ≡ items.loop_start (program_of kernel.now) }
-    ensures head { IfOk result (λ l. l ≡ draft.old.labels) }
-    ensures emits { OnOk result (Emits draft.old draft.new
-        (draft.old.labels + kernels.scalar_labels (program_of kernel.now))
-        (kernels.scalar_code (register_in regs.now) (program_of kernel.now) draft.old.labels)) }
-{
-    let mut scope = empty(alloc, loop_index(&kernel.body));
-    let mut homes = Vec::new(alloc);
-    emit_rest(
-        alloc, draft, places, regs, &mut homes, &mut scope, kernel, item,
-    )
-}
-
-/// Where scalar code is entered.
-#[derive(Clone, Copy)]
-pub struct ScalarEntry {
-    /// The label at the head of the loop, which is entered with the number of an iteration in X9; without a loop, the label
-    /// before the returned value.
-    pub at_iteration: Label,
 }
 
 /// The code of the loop and of what follows it, up to the end of the run.
@@ -440,6 +354,16 @@ pub fn emit_scalar(
     let mut places = places_of(alloc, kernel, listing, regs)?;
     let tree = kernel.kernel();
     let item = tree.params.len() + vars_size_of(kernel, &tree.vars) as usize;
-    let at_iteration = emit_after(alloc, draft, &mut places, regs, tree, item)?;
-    Ok(ScalarEntry { at_iteration })
+    let mut scope = empty(alloc, loop_index(&tree.body));
+    let mut homes = Vec::new(alloc);
+    emit_rest(
+        alloc,
+        draft,
+        &mut places,
+        regs,
+        &mut homes,
+        &mut scope,
+        tree,
+        item,
+    )
 }

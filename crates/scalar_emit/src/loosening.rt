@@ -1,27 +1,23 @@
 //! Which names a loop holds loosely: its variable and its arrays where it counts to zero, and accumulators.
 
-ghost use Rattle.std.specs.Prelude.{◌≡◌, List, true, ◌++◌, Some, IfOk, OnOk, option_map, option_and_then};
-ghost use Rattle.kernel_tree.specs.Plain.{Define, Put, Update, Choose, Nothing, Else, name_of, term_of, action_of, block_of, for_loop_of, returned_of, program_of};
-ghost use Rattle.kernel_tree.specs.Parts.{part_action};
+ghost use Rattle.std.specs.Prelude.{◌≡◌, List, [], ◌∷◌, ◌++◌, ◌&&◌, Some, if◌then◌else◌, IfOk, OnOk, option_map, option_and_then};
+ghost use Rattle.kernel_tree.specs.Plain.{Define, Put, Update, name_of, term_of, action_of, block_of, for_loop_of, returned_of, program_of};
 ghost use Rattle.kernel_scope.specs.Scopes.{scope_of, in_body};
 ghost use Rattle.scalar_words.specs.View.{form_of, loose_of, looses_of};
-ghost use Rattle.scalar_words.specs.Layout.{loose_in, with_loose};
-ghost use Rattle.scalar_values.specs.Covers as asked;
+ghost use Rattle.scalar_words.specs.Layout.{with_loose};
 ghost use Rattle.scalar_words.specs.Layout as layout;
-ghost use Rattle.scalar_emit.specs.Statements.{is_effect};
 ghost use Rattle.kernel_meaning.specs.Operators as operators;
 ghost use Rattle.kernel_tree.specs.Typing as typing;
 ghost use Rattle.scalar_emit.specs.Loosening as loosening;
-ghost use Rattle.scalar_emit.specs.Statements as statements;
 
 use crate::arrays::add_block;
 use kernel_meaning::binary_leaves;
 use kernel_scope::{
-    Scope, accumulator_type, close, declare, declared_count, define, element_type, first, leave,
+    Scope, accumulator_type, array_type, close, declare, declared_count, define, first, leave,
     lookup, own_type, visible_count,
 };
 use kernel_tree::fault::Binding;
-use kernel_tree::{Answer, BinaryOp, Expr, Kernel, Loop, Name, Part, Stmt, Ty, UpdateOp, parts};
+use kernel_tree::{Answer, Expr, Kernel, Loop, Name, Part, Stmt, Ty, UpdateOp, parts};
 use scalar_values::covers::{covers, covers_index, covers_truth, held_extent, is_enough, is_whole};
 use scalar_values::extent::{Extent, binary_extent, extent_at};
 use scalar_words::instructions::is_narrow;
@@ -36,23 +32,8 @@ fn covers_store(loose: &[Loose], scope: &Scope, array: &Name, index: &Expr, valu
     ensures { result ≡ loosening.covers_action (looses_of loose.now) (scope_of scope.now)
         (Put (name_of array.now) (term_of index.now) (term_of value.now)) }
 {
-    let want = lookup(scope, array).and_then(element_type);
+    let want = array_type(scope, array);
     covers_index(loose, scope, array, index) && covers(loose, scope, extent_at(want), want, value)
-}
-
-// What an update asks of its accumulator and of its value.
-fn update_extent(loose: &[Loose], name: &Name, op: BinaryOp, want: Option<Ty>) -> Extent
-    ensures { result ≡ statements.update_extent (looses_of loose.now) (name_of name.now) op want }
-{
-    let held = held_extent(loose_form(loose, name));
-    binary_extent(op, held, want)
-}
-
-// Whether a name tells as much as is asked of it.
-fn tells_enough(loose: &[Loose], name: &Name, extent: Extent) -> bool
-    ensures { result ≡ asked.is_enough (loose_in (looses_of loose.now) (name_of name.now)) extent }
-{
-    is_enough(loose_form(loose, name), extent)
 }
 
 fn covers_update(loose: &[Loose], scope: &Scope, name: &Name, op: UpdateOp, value: &Expr) -> bool
@@ -60,8 +41,9 @@ fn covers_update(loose: &[Loose], scope: &Scope, name: &Name, op: UpdateOp, valu
         (Update (name_of name.now) op (term_of value.now)) }
 {
     let want = lookup(scope, name).and_then(accumulator_type);
-    let asked = update_extent(loose, name, update_operator(op), want);
-    tells_enough(loose, name, asked) && covers(loose, scope, asked, want, value)
+    let held = loose_form(loose, name);
+    let asked = binary_extent(update_operator(op), held_extent(held), want);
+    is_enough(held, asked) && covers(loose, scope, asked, want, value)
 }
 
 fn covers_let<'a>(
@@ -82,23 +64,6 @@ fn covers_let<'a>(
     Ok(covered)
 }
 
-// A statement with no block, which defines no name.
-fn covers_effect(loose: &[Loose], scope: &Scope, part: Part) -> bool
-    requires effect { is_effect (part_action part) ≡ true }
-    ensures { result ≡ loosening.covers_action (looses_of loose.now) (scope_of scope.now) (part_action part.entry) }
-{
-    match part {
-        Part::Store {
-            array,
-            index,
-            value,
-        } => covers_store(loose, scope, array, index, value),
-        Part::Update { name, op, value } => covers_update(loose, scope, name, op, value),
-        Part::Break { cond } => covers_truth(loose, scope, cond),
-        _ => unreachable!(),
-    }
-}
-
 #[cycle(statements)]
 fn covers_stmt<'a>(
     loose: &[Loose],
@@ -110,80 +75,58 @@ fn covers_stmt<'a>(
         (action_of stmt.now)) }
 {
     match parts(stmt) {
-        Part::If { cond, block } => covers_if(loose, scope, cond, block),
-        Part::IfElse { cond, block, other } => covers_if_else(loose, scope, cond, block, other),
+        Part::If { cond, block } => {
+            let truth = covers_truth(loose, scope, cond);
+            covers_inner(loose, scope, truth, block)
+        }
+        Part::IfElse { cond, block, other } => {
+            let truth = covers_truth(loose, scope, cond);
+            let first = covers_inner(loose, scope, truth, block)?;
+            covers_inner(loose, scope, first, other)
+        }
         Part::Let { name, ty, value } => covers_let(loose, scope, name, ty, value),
-        part => Ok(covers_effect(loose, scope, part)),
+        Part::Store {
+            array,
+            index,
+            value,
+        } => Ok(covers_store(loose, scope, array, index, value)),
+        Part::Update { name, op, value } => Ok(covers_update(loose, scope, name, op, value)),
+        Part::Break { cond } => Ok(covers_truth(loose, scope, cond)),
     }
 }
 
-#[cycle(statements)]
-fn covers_if<'a>(
-    loose: &[Loose],
-    scope: &mut Scope<'a>,
-    cond: &Expr,
-    block: &'a [Stmt],
-) -> Result<bool, AllocError>
-    ensures scope { OnOk result (scope_of scope.new
-        ≡ typing.after_action (scope_of scope.old) (Choose (term_of cond.now) (block_of block.now) Nothing)) }
-    ensures covers { IfOk result (λ t. t ≡ loosening.covers_action (looses_of loose.now) (scope_of scope.old)
-        (Choose (term_of cond.now) (block_of block.now) Nothing)) }
-{
-    let truth = covers_truth(loose, scope, cond);
-    let inner = covers_inner(loose, scope, block)?;
-    Ok(truth && inner)
-}
-
-#[cycle(statements)]
-fn covers_if_else<'a>(
-    loose: &[Loose],
-    scope: &mut Scope<'a>,
-    cond: &Expr,
-    block: &'a [Stmt],
-    other: &'a [Stmt],
-) -> Result<bool, AllocError>
-    ensures scope { OnOk result (scope_of scope.new
-        ≡ typing.after_action (scope_of scope.old)
-        (Choose (term_of cond.now) (block_of block.now) (Else (block_of other.now)))) }
-    ensures covers { IfOk result (λ t. t ≡ loosening.covers_action (looses_of loose.now) (scope_of scope.old)
-        (Choose (term_of cond.now) (block_of block.now) (Else (block_of other.now)))) }
-{
-    let truth = covers_truth(loose, scope, cond);
-    let inner = covers_inner(loose, scope, block)?;
-    let rest = covers_inner(loose, scope, other)?;
-    Ok(truth && (inner && rest))
-}
-
-// A block, after which its names are visible no more.
+// A block, after which its names are visible no more, and what stands before it.
 #[cycle(statements)]
 fn covers_inner<'a>(
     loose: &[Loose],
     scope: &mut Scope<'a>,
+    before: bool,
     block: &'a [Stmt],
 ) -> Result<bool, AllocError>
     ensures scope { OnOk result (scope_of scope.new
         ≡ typing.left (scope_of scope.old) (typing.after_block (scope_of scope.old) (block_of block.now))) }
-    ensures covers { IfOk result (λ t. t ≡ loosening.covers_block (looses_of loose.now) (scope_of scope.old)
-        (block_of block.now)) }
+    ensures covers { IfOk result (λ t. t ≡ (before && loosening.covers_block (looses_of loose.now) (scope_of scope.old)
+        (block_of block.now))) }
 {
     let visible = visible_count(scope);
-    let covered = covers_block(loose, scope, block)?;
+    let covered = covers_block(loose, scope, before, block)?;
     leave(scope, visible);
     Ok(covered)
 }
 
-// Statements, after which their names stay visible.
+// Statements, after which their names stay visible, and what stands before them.
 #[cycle(statements)]
 fn covers_block<'a>(
     loose: &[Loose],
     scope: &mut Scope<'a>,
+    before: bool,
     block: &'a [Stmt],
 ) -> Result<bool, AllocError>
     ensures scope { OnOk result (scope_of scope.new ≡ typing.after_block (scope_of scope.old) (block_of block.now)) }
-    ensures covers { IfOk result (λ t. t ≡ loosening.covers_block (looses_of loose.now) (scope_of scope.old)
-        (block_of block.now)) }
+    ensures covers { IfOk result (λ t. t ≡ (before && loosening.covers_block (looses_of loose.now) (scope_of scope.old)
+        (block_of block.now))) }
 {
-    let mut covered = true;
+    let mut covered = before;
     for stmt in block {
         let here = covers_stmt(loose, scope, stmt)?;
         covered = covered && here;
@@ -205,24 +148,13 @@ fn covers_body<'a>(
     let taken = declared_count(scope);
     let inside = scope.inside;
     scope.inside = true;
-    let covered = covers_block(loose, scope, body)?;
+    let covered = covers_block(loose, scope, true, body)?;
     close(scope, visible, taken);
     scope.inside = inside;
     Ok(covered)
 }
 
 // ---- the accumulators
-
-// The type of an accumulator that an update would have to extend.
-fn gained(loose: &[Loose], name: &Name, op: BinaryOp, want: Option<Ty>) -> Option<Ty>
-    ensures { result ≡ loosening.gained (looses_of loose.now) (name_of name.now) op want }
-{
-    if binary_leaves(op) && is_whole(loose, name) {
-        want.filter(|ty| is_narrow(*ty))
-    } else {
-        None
-    }
-}
 
 // One more, where the statements of the loop ask for no more of it.
 fn loosen_name<'a>(
@@ -241,13 +173,14 @@ fn loosen_name<'a>(
     let name = name.text();
     let form = Form::LowBits(ty);
     loose.push(Loose { name, form })?;
-    if !covers_body(loose, scope, body)? {
-        loose.truncate(count);
+    if covers_body(loose, scope, body)? {
+        return Ok(());
     }
+    loose.truncate(count);
     Ok(())
 }
 
-// The accumulator of an update.
+// The accumulator of an update that would have to extend it.
 fn loosen_update<'a>(
     scope: &mut Scope<'a>,
     body: &'a [Stmt],
@@ -263,9 +196,10 @@ fn loosen_update<'a>(
         (looses_of loose.old.items)) }
 {
     let want = lookup(scope, name).and_then(accumulator_type);
-    match gained(loose, name, update_operator(op), want) {
-        None => Ok(()),
-        Some(ty) => loosen_name(scope, body, loose, name, ty),
+    match want {
+        Some(ty) if binary_leaves(update_operator(op)) && is_whole(loose, name) && is_narrow(ty) =>
+            { loosen_name(scope, body, loose, name, ty) }
+        _ => Ok(()),
     }
 }
 
@@ -313,40 +247,25 @@ fn loosen_block<'a>(
 
 // ---- counting to zero
 
-// The loop variable behind, and the arrays of the loop ahead.
+// The loop variable behind, and the arrays of the loop ahead, after others.
 fn moved_names<'a>(
-    alloc: Global,
     scope: &mut Scope<'a>,
     for_loop: &'a Loop,
-) -> Result<Vec<Loose<'a>>, AllocError>
+    loose: &mut Vec<Loose<'a>>,
+) -> Result<(), AllocError>
     ensures scope { OnOk result (scope_of scope.new ≡ scope_of scope.old) }
-    ensures loose { IfOk result (λ v. looses_of v.items
-        ≡ loosening.moved_names (in_body (scope_of scope.old)) (for_loop_of for_loop.now)) }
+    ensures loose { OnOk result (looses_of loose.new.items
+        ≡ loosening.block_arrays (in_body (scope_of scope.old)) (block_of for_loop.now.body.items)
+        (looses_of loose.old.items ++ record { name = name_of for_loop.now.index; form = layout.Behind } ∷ [])) }
 {
-    let mut loose = Vec::new(alloc);
     let name = for_loop.index.text();
     let form = Form::Behind;
     loose.push(Loose { name, form })?;
     let inside = scope.inside;
     scope.inside = true;
-    add_block(&mut loose, scope, &for_loop.body)?;
+    add_block(loose, scope, &for_loop.body)?;
     scope.inside = inside;
-    Ok(loose)
-}
-
-// One that stands ahead after the loop.
-fn keep_ahead<'a>(kept: &mut Vec<Loose<'a>>, held: &Loose<'a>) -> Result<(), AllocError>
-    ensures { OnOk result ((rest : List layout.Loose) → looses_of kept.new.items ++ rest
-        ≡ looses_of kept.old.items ++ loosening.keep_ahead (form_of held.now.form) (loose_of held.now) rest) }
-{
-    let name = held.name;
-    match held.form {
-        Form::Ahead(ty) => {
-            let form = Form::Ahead(ty);
-            kept.push(Loose { name, form })
-        }
-        _ => Ok(()),
-    }
+    Ok(())
 }
 
 /// Those that stand ahead after the loop.
@@ -355,19 +274,12 @@ pub fn after_loop<'a>(alloc: Global, loose: &[Loose<'a>]) -> Result<Vec<Loose<'a
 {
     let mut kept = Vec::new(alloc);
     for held in loose {
-        keep_ahead(&mut kept, held)?;
+        if let Form::Ahead(_) = held.form {
+            let Loose { name, form } = *held;
+            kept.push(Loose { name, form })?;
+        }
     }
     Ok(kept)
-}
-
-fn covers_answer(loose: &[Loose], scope: &Scope, answer: &Option<Answer>) -> bool
-    ensures { result ≡ loosening.covers_answer (looses_of loose.now) (scope_of scope.now)
-        (option_map returned_of answer.now) }
-{
-    match answer {
-        None => true,
-        Some(answer) => covers(loose, scope, Extent::Whole, Some(answer.ty), &answer.value),
-    }
 }
 
 // Whether the returned value, after the loop, asks no more of the names that stay held so.
@@ -380,73 +292,40 @@ fn may_leave(
     ensures { IfOk result (λ t. t ≡ loosening.covers_answer (loosening.after_loop (looses_of loose.now))
         (scope_of scope.now) (option_map returned_of answer.now)) }
 {
-    let kept = after_loop(alloc, loose)?;
-    Ok(covers_answer(&kept, scope, answer))
-}
-
-// Whether a loop counts to zero, with these names held so.
-fn may_move<'a>(
-    alloc: Global,
-    scope: &mut Scope<'a>,
-    kernel: &Kernel,
-    for_loop: &'a Loop,
-    loose: &[Loose],
-) -> Result<bool, AllocError>
-    requires scope { scope_of scope.old
-        ≡ typing.after_for_loop (typing.var_scope (program_of kernel.now)) (Some (for_loop_of for_loop.now)) }
-    ensures scope { OnOk result (scope_of scope.new ≡ scope_of scope.old) }
-    ensures covers { IfOk result (λ t. t ≡ loosening.may_move (looses_of loose.now)
-        (typing.var_scope (program_of kernel.now)) (for_loop_of for_loop.now) (program_of kernel.now).answer) }
-{
-    let answered = may_leave(alloc, loose, scope, &kernel.answer)?;
-    let covered = covers_body(loose, scope, &for_loop.body)?;
-    Ok(covered && answered)
-}
-
-// The loop variable and the arrays, where the loop counts to zero.
-fn counted_down<'a>(
-    alloc: Global,
-    scope: &mut Scope<'a>,
-    kernel: &Kernel,
-    for_loop: &'a Loop,
-) -> Result<Vec<Loose<'a>>, AllocError>
-    requires scope { scope_of scope.old
-        ≡ typing.after_for_loop (typing.var_scope (program_of kernel.now)) (Some (for_loop_of for_loop.now)) }
-    ensures scope { OnOk result (scope_of scope.new ≡ scope_of scope.old) }
-    ensures loose { IfOk result (λ v. looses_of v.items
-        ≡ loosening.counted_down (typing.var_scope (program_of kernel.now)) (for_loop_of for_loop.now)
-        (program_of kernel.now).answer) }
-{
-    let moved = moved_names(alloc, scope, for_loop)?;
-    if may_move(alloc, scope, kernel, for_loop, &moved)? {
-        Ok(moved)
-    } else {
-        Ok(Vec::new(alloc))
+    match answer {
+        None => Ok(true),
+        Some(answer) => {
+            let kept = after_loop(alloc, loose)?;
+            let want = Some(answer.ty);
+            Ok(covers(&kept, scope, Extent::Whole, want, &answer.value))
+        }
     }
 }
 
-// ---- the whole
-
-// The names of a loop, whose variable is declared.
-fn loosen_declared<'a>(
+// None of these names, where a loop does not count to zero.
+fn keep_moved<'a>(
     alloc: Global,
-    places: &mut Places<'a>,
     scope: &mut Scope<'a>,
     kernel: &Kernel,
     for_loop: &'a Loop,
+    loose: &mut Vec<Loose<'a>>,
 ) -> Result<(), AllocError>
-    requires for_loop { (program_of kernel.now).for_loop ≡ Some (for_loop_of for_loop.now) }
     requires scope { scope_of scope.old
         ≡ typing.after_for_loop (typing.var_scope (program_of kernel.now)) (Some (for_loop_of for_loop.now)) }
     ensures scope { OnOk result (scope_of scope.new ≡ scope_of scope.old) }
-    ensures places { OnOk result (places.new
-        ≡ with_loose places.old (loosening.held_loosely (program_of kernel.now))) }
+    ensures loose { OnOk result (looses_of loose.new.items
+        ≡ (if loosening.may_move (looses_of loose.old.items) (typing.var_scope (program_of kernel.now))
+        (for_loop_of for_loop.now) (program_of kernel.now).answer then looses_of loose.old.items else [])) }
 {
-    let mut loose = counted_down(alloc, scope, kernel, for_loop)?;
-    loosen_block(scope, &for_loop.body, &mut loose, &for_loop.body)?;
-    places.loosen(loose);
+    let answered = may_leave(alloc, loose, scope, &kernel.answer)?;
+    let covered = covers_body(loose, scope, &for_loop.body)?;
+    if !(covered && answered) {
+        loose.truncate(0);
+    }
     Ok(())
 }
+
+// ---- the whole
 
 /// The names that a loop holds loosely. The scope is left as it was, before the loop variable is declared.
 pub fn loosen_names<'a>(
@@ -465,7 +344,11 @@ pub fn loosen_names<'a>(
     let visible = visible_count(scope);
     let taken = declared_count(scope);
     declare(scope, &for_loop.index, Binding::Index)?;
-    loosen_declared(alloc, places, scope, kernel, for_loop)?;
+    let mut loose = Vec::new(alloc);
+    moved_names(scope, for_loop, &mut loose)?;
+    keep_moved(alloc, scope, kernel, for_loop, &mut loose)?;
+    loosen_block(scope, &for_loop.body, &mut loose, &for_loop.body)?;
+    places.loosen(loose);
     close(scope, visible, taken);
     Ok(())
 }

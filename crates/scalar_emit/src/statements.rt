@@ -1,12 +1,10 @@
 //! Emits the code of statements.
 
-ghost use Rattle.std.specs.Prelude.{◌≡◌, ◌+◌, ◌<◌, ◌^◌, true, IfOk, OnOk};
-ghost use Rattle.kernel_tree.specs.Plain.{Define, Put, Update, Choose, Leave, Nothing, Else, name_of, term_of, action_of, block_of};
-ghost use Rattle.kernel_tree.specs.Parts.{part_action};
-ghost use Rattle.kernel_tree.specs.Items.{term_size, action_size, block_size, otherwise_size, stream_offset};
+ghost use Rattle.std.specs.Prelude.{◌≡◌, ◌+◌, ◌<◌, ◌^◌, IfOk, OnOk};
+ghost use Rattle.kernel_tree.specs.Plain.{Define, Put, Update, Choose, Nothing, Else, name_of, term_of, action_of, block_of};
+ghost use Rattle.kernel_tree.specs.Items.{term_size, action_size, block_size, stream_offset};
 ghost use Rattle.kernel_tree.specs.Kinds.{IsValue, IsTruth, ActionKinds, BlockKinds};
 ghost use Rattle.kernel_scope.specs.Scopes.{scope_of};
-ghost use Rattle.scalar_emit.specs.Statements.{is_effect};
 ghost use Rattle.label_fix.specs.Emits.{Emits};
 ghost use Rattle.scalar_words.specs.View.{homes_of};
 ghost use Rattle.kernel_tree.specs.Typing as typing;
@@ -14,14 +12,14 @@ ghost use Rattle.scalar_values.specs.Code as code;
 ghost use Rattle.scalar_values.specs.ItemWords as words;
 ghost use Rattle.scalar_emit.specs.Statements as statements;
 
-use crate::branches::{land, switch_over};
+use crate::branches::{branch_ahead, land};
 use a64_code::Reg;
 use kernel_meaning::binary_leaves;
 use kernel_scope::{
-    Scope, accumulator_type, define, element_type, first, leave, lookup, own_type, visible_count,
+    Scope, accumulator_type, array_type, define, first, leave, lookup, own_type, visible_count,
 };
-use kernel_tree::{BinaryOp, Expr, Name, Part, Stmt, Ty, UpdateOp, parts};
-use label_fix::{Draft, Label};
+use kernel_tree::{Expr, Name, Part, Stmt, Ty, UpdateOp, parts};
+use label_fix::{BranchKind, Draft, Label};
 use scalar_values::covers::held_extent;
 use scalar_values::extent::{
     Extent, binary_extent, binary_joins, converted_extent, extent_at, fits_at, settles, within,
@@ -66,35 +64,10 @@ fn declare_let<'a>(
                 name: name.text(),
                 register: places.reg(item),
                 last_use: Some(places.last_use(item)),
-            })
+            })?;
+            Ok(())
         }
     }
-}
-
-// What a `let` defines, whose value stands in a register.
-fn emit_defined<'a>(
-    draft: &mut Draft,
-    places: &Places,
-    homes: &mut Vec<Home<'a>>,
-    scope: &mut Scope<'a>,
-    name: &'a Name,
-    ty: Option<Ty>,
-    from: Reg,
-    item: &mut usize,
-) -> Result<(), AllocError>
-    requires { item.old < 2 ^ 32 }
-    ensures scope { OnOk result (scope_of scope.new ≡ typing.defined (scope_of scope.old) (name_of name.now) ty) }
-    ensures homes { OnOk result (homes_of homes.new.items
-        ≡ statements.defined_homes places.now item.old (homes_of homes.old.items) (name_of name.now) ty) }
-    ensures item { OnOk result (item.new ≡ item.old + 1) }
-    ensures emits { OnOk result (Emits draft.old draft.new draft.old.labels
-        (statements.let_code places.now item.old from.number)) }
-{
-    emit_kept(draft, places, *item, from)?;
-    declare_let(homes, places, *item, name, ty)?;
-    define(scope, name, ty)?;
-    *item += 1;
-    Ok(())
 }
 
 fn emit_let<'a>(
@@ -125,7 +98,10 @@ fn emit_let<'a>(
 {
     let want = first(ty, own_type(scope, value));
     let from = emit_value(draft, places, homes, scope, want, value, item)?;
-    emit_defined(draft, places, homes, scope, name, want, from, item)
+    emit_kept(draft, places, *item, from)?;
+    declare_let(homes, places, *item, name, want)?;
+    *item += 1;
+    define(scope, name, want)
 }
 
 // The word of a store, where the elements have a type.
@@ -216,15 +192,14 @@ fn emit_store(
         (statements.action_code places.now (homes_of homes.now) (scope_of scope.now) 0 item.old draft.old.labels
         (Put (name_of array.now) (term_of index.now) (term_of value.now)))) }
 {
-    let ty = lookup(scope, array).and_then(element_type);
+    let ty = array_type(scope, array);
     let extent = extent_at(ty);
     let from = emit_stored(draft, places, homes, scope, extent, ty, value, item)?;
-    match place_of(places, homes, scope, array, index) {
-        Some(place) => emit_into(draft, ty, from, place, loop_variable())?,
-        None => emit_put(draft, scope, index, ty, from, register_at(homes, array))?,
-    }
     *item += 1;
-    Ok(())
+    match place_of(places, homes, scope, array, index) {
+        Some(place) => emit_into(draft, ty, from, place, loop_variable()),
+        None => emit_put(draft, scope, index, ty, from, register_at(homes, array)),
+    }
 }
 
 fn emit_update(
@@ -250,95 +225,13 @@ fn emit_update(
 {
     let want = lookup(scope, name).and_then(accumulator_type);
     let op = update_operator(op);
-    emit_joined(draft, places, homes, scope, name, op, want, value, item)
-}
-
-// An operator of an accumulator and a value.
-fn emit_joined(
-    draft: &mut Draft,
-    places: &Places,
-    homes: &[Home],
-    scope: &Scope,
-    name: &Name,
-    op: BinaryOp,
-    want: Option<Ty>,
-    value: &Expr,
-    item: &mut usize,
-) -> Result<(), AllocError>
-    requires kind { IsValue (term_of value.now) }
-    requires fits { item.old + (term_size (scope_of scope.now).index (term_of value.now) + 1) < 2 ^ 32 }
-    ensures item { OnOk result (item.new ≡ item.old + (term_size (scope_of scope.now).index (term_of value.now) + 1)) }
-    ensures emits { OnOk result (Emits draft.old draft.new
-        (draft.old.labels + code.labels (scope_of scope.now).index (term_of value.now))
-        (statements.update_code places.now (homes_of homes.now) (scope_of scope.now) item.old draft.old.labels
-        (name_of name.now) op want (term_of value.now))) }
-{
     let held = held_extent(places.loose_form(name));
     let extent = binary_extent(op, held, want);
     let side = emit_side(draft, places, homes, scope, op, extent, want, value, item)?;
     let leaves = settles(within(held, want), binary_joins(op), binary_leaves(op));
     let register = register_at(homes, name);
-    want_operator(draft, op, side, leaves, want, register, register)?;
     *item += 1;
-    Ok(())
-}
-
-fn emit_break(
-    draft: &mut Draft,
-    places: &Places,
-    homes: &[Home],
-    scope: &Scope,
-    exit: Label,
-    cond: &Expr,
-    item: &mut usize,
-) -> Result<(), AllocError>
-    requires exit { exit < draft.old.labels }
-    requires kind { IsTruth (term_of cond.now) }
-    requires fits { item.old + action_size (scope_of scope.now).index (Leave (term_of cond.now)) < 2 ^ 32 }
-    ensures item { OnOk result (item.new ≡ item.old + action_size (scope_of scope.now).index
-        (Leave (term_of cond.now))) }
-    ensures emits { OnOk result (Emits draft.old draft.new
-        (draft.old.labels + statements.action_labels (scope_of scope.now).index (Leave (term_of cond.now)))
-        (statements.action_code places.now (homes_of homes.now) (scope_of scope.now) exit item.old draft.old.labels
-        (Leave (term_of cond.now)))) }
-{
-    emit_jump(draft, places, homes, scope, true, exit, cond, item)?;
-    *item += 1;
-    Ok(())
-}
-
-// A statement with no block, which defines no name.
-fn emit_effect<'a>(
-    draft: &mut Draft,
-    places: &Places,
-    homes: &[Home],
-    scope: &Scope,
-    exit: Label,
-    part: Part<'a>,
-    item: &mut usize,
-) -> Result<(), AllocError>
-    requires effect { is_effect (part_action part) ≡ true }
-    requires exit { exit < draft.old.labels }
-    requires kinds { ActionKinds (part_action part) }
-    requires fits { item.old + action_size (scope_of scope.now).index (part_action part) < 2 ^ 32 }
-    ensures item { OnOk result (item.new ≡ item.old + action_size (scope_of scope.now).index (part_action part.entry)) }
-    ensures emits { OnOk result (Emits draft.old draft.new
-        (draft.old.labels + statements.action_labels (scope_of scope.now).index (part_action part.entry))
-        (statements.action_code places.now (homes_of homes.now) (scope_of scope.now) exit item.old draft.old.labels
-        (part_action part.entry))) }
-{
-    match part {
-        Part::Store {
-            array,
-            index,
-            value,
-        } => emit_store(draft, places, homes, scope, array, index, value, item),
-        Part::Update { name, op, value } => emit_update(
-            draft, places, homes, scope, name, op, value, item,
-        ),
-        Part::Break { cond } => emit_break(draft, places, homes, scope, exit, cond, item),
-        _ => unreachable!(),
-    }
+    want_operator(draft, op, side, leaves, want, register, register)
 }
 
 #[cycle(statements)]
@@ -372,7 +265,19 @@ fn emit_stmt<'a>(
         Part::Let { name, ty, value } => emit_let(
             draft, places, homes, scope, name, ty, value, item,
         ),
-        part => emit_effect(draft, places, homes, scope, exit, part, item),
+        Part::Store {
+            array,
+            index,
+            value,
+        } => emit_store(draft, places, homes, scope, array, index, value, item),
+        Part::Update { name, op, value } => emit_update(
+            draft, places, homes, scope, name, op, value, item,
+        ),
+        Part::Break { cond } => {
+            emit_jump(draft, places, homes, scope, true, exit, cond, item)?;
+            *item += 1;
+            Ok(())
+        }
     }
 }
 
@@ -444,36 +349,8 @@ fn emit_if_else<'a>(
     emit_jump(draft, places, homes, scope, false, other, cond, item)?;
     *item += 1;
     emit_inner(draft, places, homes, scope, exit, block, item)?;
-    emit_else(draft, places, homes, scope, exit, other, second, item)
-}
-
-// The second block of an `if`, after the label to which the first condition branches.
-#[cycle(statements)]
-fn emit_else<'a>(
-    draft: &mut Draft,
-    places: &Places,
-    homes: &mut Vec<Home<'a>>,
-    scope: &mut Scope<'a>,
-    exit: Label,
-    other: Label,
-    second: &'a [Stmt],
-    item: &mut usize,
-) -> Result<(), AllocError>
-    requires exit { exit < draft.old.labels }
-    requires other { other < draft.old.labels }
-    requires second { BlockKinds (block_of second.now) }
-    requires fits { item.old + otherwise_size (scope_of scope.old).index (Else (block_of second.now)) + 1 < 2 ^ 32 }
-    ensures scope { OnOk result (scope_of scope.new
-        ≡ typing.left (scope_of scope.old) (typing.after_block (scope_of scope.old) (block_of second.now))) }
-    ensures homes { OnOk result (homes_of homes.new.items ≡ homes_of homes.old.items) }
-    ensures item { OnOk result (item.new ≡ item.old + otherwise_size (scope_of scope.old).index
-        (Else (block_of second.now)) + 1) }
-    ensures emits { OnOk result (Emits draft.old draft.new
-        (draft.old.labels + statements.otherwise_labels (scope_of scope.old).index (Else (block_of second.now)))
-        (statements.otherwise_code places.now (homes_of homes.old.items) (scope_of scope.old) exit other item.old
-        draft.old.labels (Else (block_of second.now)))) }
-{
-    let end = switch_over(draft, other, item)?;
+    let end = branch_ahead(draft, BranchKind::Always)?;
+    land(draft, other, item)?;
     emit_inner(draft, places, homes, scope, exit, second, item)?;
     land(draft, end, item)
 }

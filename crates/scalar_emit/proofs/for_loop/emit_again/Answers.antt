@@ -1,4 +1,5 @@
 use Rattle.std.proofs.Common.{◌++◌, List, ap, ◌∙◌}
+use Rattle.std.proofs.lemmas.Result.{on_ok_weaker}
 use Rattle.kernel_tree.specs.Plain.{name_of}
 use Rattle.label_fix.specs.Draft.{word_view}
 use Rattle.label_fix.specs.DraftRun.{DraftEntry}
@@ -10,9 +11,9 @@ use Rattle.scalar_emit.proofs.for_loop.emit_again.Goals as goal
 
 pub returns : goal.returns
 returns c =
-    record {
-      labels = c.in_ok-place-2.ensures.labels ∙ c.in_ok-emit_extended.ensures.labels ∙ c.in_ok-place.ensures.labels ∙ c.in_ok-emit_back.ensures.labels ∙ c.in_ok-put.ensures.labels;
-      code = λ rest. c.in_ok-place-2.ensures.code rest
+    on_ok_weaker c.place-2.result (λ p. record {
+      labels = p.labels ∙ c.in_ok-emit_extended.ensures.labels ∙ c.in_ok-place.ensures.labels ∙ c.in_ok-emit_back.ensures.labels ∙ c.in_ok-put.ensures.labels;
+      code = λ rest. p.code rest
           ∙ c.in_ok-emit_extended.ensures.code _
           ∙ c.in_ok-place.ensures.code _
           ∙ c.in_ok-emit_back.ensures.code _
@@ -20,4 +21,4 @@ returns c =
           ∙ ap (λ (l : List DraftEntry). c.args.draft.now.entries ++ l)
           (again_is (option_map form_of c.loose_form-form.result) (loose_in c.args.places.now.loose (name_of c.args.for_loop.now.index)) c.args.bound.number c.args.labels.head c.args.labels.last c.args.labels.exit (homes_of c.args.homes.now) (looses_of c.loose.result.now) c.args.places.now.loose (word_view c.next_iteration.result) rest
           c.next_iteration.ensures c.loose_form-form.ensures c.requires.last c.requires.exit c.loose.ensures);
-    }
+    }) c.place-2.ensures

@@ -1,4 +1,5 @@
 use Rattle.std.proofs.Common.{◌+◌, ◌*◌, [], ◌++◌, ap, ◌∙◌}
+use Rattle.std.proofs.lemmas.Result.{on_ok_weaker}
 use Rattle.kernel_tree.specs.declared.ast.Kernel.{Kernel}
 use Rattle.kernel_tree.specs.Plain.{program_of}
 use Rattle.kernel_tree.specs.Items.{size_of}
@@ -13,14 +14,14 @@ unfolding program
 returns-clause-emits c =
     let R = register_in c.args.regs.now in
     let n = c.args.draft.now.labels in
-    record {
-      labels = c.in_ok-emit_before.ensures.labels ∙ ap (λ (t : Kernel). n + begin_labels (program_of t)) c.kernel-tree.ensures;
-      code = λ rest. c.in_ok-emit_before.ensures.code rest ∙ ap (λ (t : Kernel). c.args.draft.now.entries ++ begin_code R (program_of t) n rest) c.kernel-tree.ensures;
-    }
+    on_ok_weaker c.emit_first.result (λ p. record {
+      labels = p.labels ∙ ap (λ (t : Kernel). n + begin_labels (program_of t)) c.kernel-tree.ensures;
+      code = λ rest. p.code rest ∙ ap (λ (t : Kernel). c.args.draft.now.entries ++ begin_code R (program_of t) n rest) c.kernel-tree.ensures;
+    }) c.emit_first.ensures
 
 pub returns-clause-words : goal.returns-clause-words
 returns-clause-words c =
     let k = program c.args.kernel.now in
     let R = register_in c.args.regs.now in
     let n = c.args.draft.now.labels in
-    words_added c.args.draft.now.entries c.emit_before.new.draft.entries (begin_code R k n []) (40 + 8 * size_of k) ((returns-clause-emits c).code []) (begin_words R k n [])
+    on_ok_weaker c.emit_first.result (λ p. words_added c.args.draft.now.entries c.emit_first.new.draft.entries (begin_code R k n []) (40 + 8 * size_of k) (p.code []) (begin_words R k n [])) (returns-clause-emits c)

@@ -1,5 +1,5 @@
-use Rattle.std.proofs.lemmas.Grind.{common_steps}
-use Rattle.std.proofs.Common.{◌∷◌, ◌++◌, List, sym, ap, ◌∙◌, arith}
+use Rattle.std.proofs.Common.{◌∷◌, ◌++◌, List, sym, ap, ◌∙◌}
+use Rattle.std.proofs.lemmas.Result.{on_ok_weaker}
 use Rattle.machine_model.specs.InstructionTable.{Listed}
 use Rattle.kernel_tree.specs.Plain.{parameters_of, accumulators_of, program_of}
 use Rattle.kernel_tree.specs.Items.{loop_index}
@@ -9,7 +9,7 @@ use Rattle.label_fix.specs.DraftRun.{DraftEntry, Put}
 use Rattle.scalar_words.specs.KernelRegisters.{register_in, param_homes}
 use Rattle.scalar_emit.specs.Kernel.{zero_index}
 use Rattle.scalar_words.specs.View.{homes_of}
-use Rattle.scalar_emit.proofs.Emission.{begin_is}
+use Rattle.scalar_emit.proofs.Emission.{begin_is, begin_count}
 use Rattle.scalar_words.proofs.Layouts.{count_params}
 use Rattle.scalar_emit.proofs.kernel.emit_first.Goals as goal
 
@@ -22,12 +22,12 @@ returns c =
     let homes = c.in_ok-declare_params.ensures.homes ∙ ap (λ l. homes_of l ++ param_homes 0 (parameters_of c.deref.result.now)) c.requires.homes ∙ ap (param_homes 0) (ps ∙ sym (ap parameters_of c.deref-2.ensures.value)) in
     let scope = c.in_ok-declare_params.ensures.scope ∙ ap (λ (s : Scope). after_params s (parameters_of c.deref.result.now)) c.requires.scope ∙ ap (after_params (empty (loop_index k))) ps in
     let first = c.len-first.ensures ∙ tree.params.ok.0 ∙ sym (count_params tree.params.items) in
-    record {
-      labels = grind (arith, common_steps);
-      code = λ rest. c.in_ok-put.ensures.code rest ∙ ap (λ (w : Listed). c.emit_vars.new.draft.entries ++ Put w ∷ rest) c.small.ensures
+    on_ok_weaker c.put.result (λ p. record {
+      labels = p.labels ∙ begin_count k (scope_of c.declare_params.new.scope) c.args.draft.now.labels c.emit_arguments.new.draft.labels c.emit_vars.new.draft.labels (accumulators_of c.deref-3.result.now) (c.in_ok-declare_params.ensures.index ∙ ap (λ (s : Scope). s.index) c.requires.scope) (ap accumulators_of c.deref-3.ensures.value) c.in_ok-emit_arguments.ensures.labels c.in_ok-emit_vars.ensures.labels;
+      code = λ rest. p.code rest ∙ ap (λ (w : Listed). c.emit_vars.new.draft.entries ++ Put w ∷ rest) c.small.ensures
           ∙ c.in_ok-emit_vars.ensures.code (zero_index rest)
           ∙ c.in_ok-emit_arguments.ensures.code _
           ∙ ap (λ (l : List DraftEntry). c.args.draft.now.entries ++ l)
           (begin_is R k c.args.places.now (homes_of c.declare_params.new.homes.items) (scope_of c.declare_params.new.scope) c.len-first.result c.emit_arguments.new.draft.labels c.args.draft.now.labels (parameters_of c.deref-2.result.now) (accumulators_of c.deref-3.result.now) rest
           c.requires.places homes scope first c.in_ok-emit_arguments.ensures.labels (ap parameters_of c.deref-2.ensures.value) (ap accumulators_of c.deref-3.ensures.value));
-    }
+    }) c.put.ensures

@@ -1,13 +1,15 @@
-use Rattle.std.proofs.Common.{◌++◌, List, ap, ◌∙◌, subst}
+use Rattle.std.proofs.Common.{◌++◌, List, sym, ap, ◌∙◌, subst}
 use Rattle.kernel_tree.specs.Plain.{for_loop_of, program_of}
 use Rattle.kernel_tree.specs.Kinds.{ForLoopKinds}
 use Rattle.kernel_tree.specs.Typing.{Scope}
 use Rattle.kernel_scope.specs.Scopes.{scope_of}
 use Rattle.label_fix.specs.DraftRun.{DraftEntry}
+use Rattle.scalar_words.specs.Layout.{with_constants}
 use Rattle.scalar_words.specs.KernelRegisters.{register_in}
+use Rattle.scalar_words.proofs.Layouts.{count_params}
 use Rattle.scalar_words.specs.View.{homes_of}
 use Rattle.scalar_emit.specs.Loop.{bare}
-use Rattle.scalar_emit.proofs.Emission.{known_index, for_loop_is, for_loop_count, held_is, loop_ends, loop_room, answer_room, at_end}
+use Rattle.scalar_emit.proofs.Emission.{known_index, numbers_are, for_loop_is, for_loop_count, held_is, loop_ends, loop_room, answer_room, at_end}
 use Rattle.scalar_emit.proofs.kernel.emit_for_loop.Goals as goal
 
 pub emit_loop-requires-clause-kinds : goal.emit_loop-requires-clause-kinds
@@ -25,8 +27,8 @@ emit_answer-requires-clause-fits c =
     let k = program_of c.args.kernel.now in
     let l = for_loop_of c.args.for_loop.now in
     let scope = c.in_ok-loosen_names.ensures.scope ∙ c.requires.scope in
-    let end = loop_ends k l (scope_of c.loosen_names.new.scope) c.args.item c.emit_loop.new.item scope c.requires.for_loop c.requires.start c.in_ok-head.ensures.item in
-    answer_room k (scope_of c.emit_loop.new.scope) c.emit_loop.new.item c.requires.few (ap (λ (t : Scope). t.index) c.in_ok-head.ensures.scope ∙ known_index k _ scope) (at_end k c.emit_loop.new.item end)
+    let end = loop_ends k l (scope_of c.loosen_names.new.scope) c.args.item c.emit_loop.new.item scope c.requires.for_loop c.requires.start c.in_ok-at_iteration.ensures.item in
+    answer_room k (scope_of c.emit_loop.new.scope) c.emit_loop.new.item c.requires.few (ap (λ (t : Scope). t.index) c.in_ok-at_iteration.ensures.scope ∙ known_index k _ scope) (at_end k c.emit_loop.new.item end)
 
 pub returns-clause-emits : goal.returns-clause-emits
 returns-clause-emits c =
@@ -36,15 +38,18 @@ returns-clause-emits c =
     let s = scope_of c.loosen_names.new.scope in
     let t = scope_of c.emit_loop.new.scope in
     let scope = c.in_ok-loosen_names.ensures.scope ∙ c.requires.scope in
-    let homes = ap homes_of c.deref-2.ensures.value ∙ c.in_ok-head.ensures.homes in
-    let held = held_is R k c.loosen_names.new.places c.hold_numbers.new.places c.args.places.now c.in_ok-loosen_names.ensures.places c.in_ok-hold_numbers.ensures c.requires.places in
+    let homes = ap homes_of c.deref-2.ensures.value ∙ c.in_ok-at_iteration.ensures.homes in
+    let tree = c.args.kernel.now in
+    let params = c.len-params.ensures ∙ tree.params.ok.0 ∙ sym (count_params tree.params.items) in
+    let numbers = c.in_ok-hold_numbers.ensures ∙ ap (with_constants c.args.places.now) (numbers_are R k l c.len-params.result (homes_of c.deref.result.now) (scope_of c.args.scope.now) params (ap homes_of c.deref.ensures.value ∙ c.requires.homes) c.requires.scope c.requires.for_loop) in
+    let held = held_is R k c.loosen_names.new.places c.hold_numbers.new.places c.args.places.now c.in_ok-loosen_names.ensures.places numbers c.requires.places in
     let left = c.in_ok-leave_loop.ensures ∙ ap bare held in
-    let end = loop_ends k l s c.args.item c.emit_loop.new.item scope c.requires.for_loop c.requires.start c.in_ok-head.ensures.item in
+    let end = loop_ends k l s c.args.item c.emit_loop.new.item scope c.requires.for_loop c.requires.start c.in_ok-at_iteration.ensures.item in
     record {
-      labels = for_loop_count k l s t c.args.draft.now.labels c.emit_loop.new.draft.labels c.emit_answer.new.draft.labels scope c.in_ok-head.ensures.scope c.requires.for_loop c.in_ok-head.ensures.emits.labels c.in_ok-emit_answer.ensures.labels;
+      labels = for_loop_count k l s t c.args.draft.now.labels c.emit_loop.new.draft.labels c.emit_answer.new.draft.labels scope c.in_ok-at_iteration.ensures.scope c.requires.for_loop c.in_ok-at_iteration.ensures.emits.labels c.in_ok-emit_answer.ensures.labels;
       code = λ rest. c.in_ok-emit_answer.ensures.code rest
-          ∙ c.in_ok-head.ensures.emits.code _
+          ∙ c.in_ok-at_iteration.ensures.emits.code _
           ∙ ap (λ (es : List DraftEntry). c.args.draft.now.entries ++ es)
           (for_loop_is R k c.loosen_names.new.places c.leave_loop.new.places (homes_of c.args.homes.now.items) (homes_of c.deref-2.result.now) s t l c.args.item c.args.draft.now.labels c.emit_loop.new.item c.emit_loop.new.draft.labels rest
-          held left c.requires.homes scope homes c.in_ok-head.ensures.scope c.requires.for_loop c.requires.start end c.in_ok-head.ensures.emits.labels);
+          held left c.requires.homes scope homes c.in_ok-at_iteration.ensures.scope c.requires.for_loop c.requires.start end c.in_ok-at_iteration.ensures.emits.labels);
     }

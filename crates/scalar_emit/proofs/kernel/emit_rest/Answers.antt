@@ -9,24 +9,25 @@ use Rattle.scalar_words.specs.View.{homes_of}
 use Rattle.scalar_emit.proofs.Emission.{bare_code, bare_count, answer_room, at_start}
 use Rattle.scalar_emit.proofs.kernel.emit_rest.Goals as goal
 
-pub emit_straight-requires-clause-kind : goal.emit_straight-requires-clause-kind
-emit_straight-requires-clause-kind c = c.requires.kinds.answer
+pub emit_answer-requires-clause-kind : goal.emit_answer-requires-clause-kind
+emit_answer-requires-clause-kind c = c.requires.kinds.answer
 
-pub emit_straight-requires-clause-fits : goal.emit_straight-requires-clause-fits
-emit_straight-requires-clause-fits c =
+pub emit_answer-requires-clause-fits : goal.emit_answer-requires-clause-fits
+emit_answer-requires-clause-fits c =
     let k = program_of c.args.kernel.now in
     answer_room k (scope_of c.declare_names.new.scope) c.args.item c.requires.few c.in_ok-declare_names.ensures.index (at_start k c.args.item c.requires.start)
 
-pub returns-in_ok-head-in-None-clause-emits : goal.returns-in_ok-head-in-None-clause-emits
-returns-in_ok-head-in-None-clause-emits c =
+pub returns-in_ok-emit_answer-in-None-clause-emits : goal.returns-in_ok-emit_answer-in-None-clause-emits
+returns-in_ok-emit_answer-in-None-clause-emits c =
     let k = program_of c.args.kernel.now in
     let R = register_in c.args.regs.now in
     let s = scope_of c.declare_names.new.scope in
     let for_loop = ap (λ (o : Option Loop). option_map for_loop_of o) c.in-None.is in
     let homes = ap homes_of c.deref.ensures.value ∙ c.in_ok-declare_names.ensures.homes in
     record {
-      labels = bare_count k s c.args.draft.now.labels c.emit_straight.new.draft.labels c.in_ok-declare_names.ensures.index for_loop c.in_ok-head-in-None.ensures.emits.labels;
-      code = λ rest. c.in_ok-head-in-None.ensures.emits.code rest
+      labels = bare_count k s c.args.draft.now.labels c.emit_head.new.draft.labels c.emit_answer.new.draft.labels c.in_ok-declare_names.ensures.index for_loop c.in_ok-at_iteration-in-None.ensures.emits.labels c.in_ok-emit_answer-in-None.ensures.labels;
+      code = λ rest. c.in_ok-emit_answer-in-None.ensures.code rest
+          ∙ c.in_ok-at_iteration-in-None.ensures.emits.code _
           ∙ ap (λ (es : List DraftEntry). c.args.draft.now.entries ++ es)
-          (bare_code R k c.args.places.now (homes_of c.deref.result.now) s c.args.item c.args.draft.now.labels rest c.requires.places homes c.in_ok-declare_names.ensures.scope for_loop c.requires.start);
+          (bare_code R k c.args.places.now (homes_of c.deref.result.now) s c.args.item c.args.draft.now.labels c.emit_head.new.draft.labels rest c.requires.places homes c.in_ok-declare_names.ensures.scope for_loop c.requires.start c.in_ok-at_iteration-in-None.ensures.emits.labels);
     }

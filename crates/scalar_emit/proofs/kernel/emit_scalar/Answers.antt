@@ -1,4 +1,5 @@
 use Rattle.std.proofs.Common.{◌+◌, ◌*◌, [], ◌++◌, List, sym, ap, ap₂, ◌∙◌}
+use Rattle.std.proofs.lemmas.Result.{on_ok_weaker}
 use Rattle.kernel_tree.specs.declared.ast.Kernel.{Kernel}
 use Rattle.kernel_tree.specs.declared.ast.Var.{Var}
 use Rattle.kernel_tree.specs.Plain.{accumulators_of, program_of}
@@ -11,9 +12,9 @@ use Rattle.scalar_words.proofs.Layouts.{count_params}
 use Rattle.scalar_emit.proofs.kernel.emit_scalar.Goals as goal
 
 -- the items of the loop begin after those of the parameters and of the accumulators
-pub emit_after-requires-clause-start : goal.emit_after-requires-clause-start
+pub emit_rest-requires-clause-start : goal.emit_rest-requires-clause-start
 unfolding program
-emit_after-requires-clause-start c =
+emit_rest-requires-clause-start c =
     let tree = c.kernel-tree.result.now in
     let params = c.len.ensures ∙ tree.params.ok.0 ∙ sym (count_params tree.params.items) in
     let vars = c.vars_size_of.ensures ∙ ap₂ (λ (t : Kernel) (vs : List Var). vars_size (loop_index (program_of t)) (accumulators_of vs)) (sym c.kernel-tree.ensures) c.deref.ensures.value in
@@ -24,14 +25,14 @@ unfolding program
 returns-clause-emits c =
     let R = register_in c.args.regs.now in
     let n = c.args.draft.now.labels in
-    record {
-      labels = c.in_ok-at_iteration.ensures.emits.labels ∙ ap (λ (t : Kernel). n + scalar_labels (program_of t)) c.kernel-tree.ensures;
-      code = λ rest. c.in_ok-at_iteration.ensures.emits.code rest ∙ ap (λ (t : Kernel). c.args.draft.now.entries ++ scalar_code R (program_of t) n rest) c.kernel-tree.ensures;
-    }
+    on_ok_weaker c.emit_rest.result (λ p. record {
+      labels = p.labels ∙ ap (λ (t : Kernel). n + scalar_labels (program_of t)) c.kernel-tree.ensures;
+      code = λ rest. p.code rest ∙ ap (λ (t : Kernel). c.args.draft.now.entries ++ scalar_code R (program_of t) n rest) c.kernel-tree.ensures;
+    }) c.emit_rest.ensures.emits
 
 pub returns-clause-words : goal.returns-clause-words
 returns-clause-words c =
     let k = program c.args.kernel.now in
     let R = register_in c.args.regs.now in
     let n = c.args.draft.now.labels in
-    words_added c.args.draft.now.entries c.emit_after.new.draft.entries (scalar_code R k n []) (64 + 16 * size_of k) ((returns-clause-emits c).code []) (scalar_words R k n [])
+    on_ok_weaker c.emit_rest.result (λ p. words_added c.args.draft.now.entries c.emit_rest.new.draft.entries (scalar_code R k n []) (64 + 16 * size_of k) (p.code []) (scalar_words R k n [])) (returns-clause-emits c)

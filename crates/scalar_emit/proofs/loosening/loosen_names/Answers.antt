@@ -13,5 +13,5 @@ returns-clause-scope c =
     let n = c.visible_count-visible.result in
     let m = c.declared_count-taken.result in
     c.close.ensures
-    ∙ ap (closed n m) (c.in_ok-loosen_declared.ensures.scope ∙ c.in_ok-declare.ensures)
+    ∙ ap (closed n m) (c.in_ok-loosen_block.ensures.scope ∙ c.in_ok-keep_moved.ensures.scope ∙ c.in_ok-moved_names.ensures.scope ∙ c.in_ok-declare.ensures)
     ∙ undeclared s (name_of c.args.for_loop.now.index) binding.Index n m c.visible_count-visible.ensures c.declared_count-taken.ensures (ap (λ (t : Scope). t.inside) c.requires.scope ∙ scope_outside (program_of c.args.kernel.now))

@@ -1,5 +1,8 @@
-use Rattle.std.proofs.Common.{◌++◌, List, ap, ◌∙◌}
-use Rattle.kernel_tree.specs.Plain.{Choose, Nothing, Else, term_of, block_of}
+use Rattle.std.proofs.Common.{◌+◌, ◌<◌, ◌^◌, ◌++◌, List, drop, refl, sym, subst, ap, ◌∙◌, arith}
+use Rattle.std.proofs.lemmas.Result.{on_ok_weaker}
+use Rattle.kernel_tree.specs.Plain.{Choose, Leave, Nothing, Else, term_of, action_of, block_of}
+use Rattle.kernel_tree.specs.Kinds.{BlockKinds}
+use Rattle.kernel_tree.specs.Limits.{block_depth}
 use Rattle.kernel_tree.specs.Typing.{after_block}
 use Rattle.kernel_scope.specs.Scopes.{scope_of, kept}
 use Rattle.kernel_scope.proofs.Growth.{kept-block}
@@ -7,7 +10,8 @@ use Rattle.scalar_words.specs.View.{homes_of}
 use Rattle.label_fix.specs.DraftRun.{DraftEntry}
 use Rattle.scalar_emit.specs.Statements.{action_code}
 use Rattle.scalar_emit.proofs.Emission.{homes_back}
-use Rattle.scalar_emit.proofs.StatementCode.{if_is, if_count, if_else_is, if_else_count, else_is, else_count}
+use Rattle.scalar_emit.proofs.StatementWalks.{next_statement, emits_on}
+use Rattle.scalar_emit.proofs.StatementCode.{emits_as, if_is, if_count, if_else_is, if_else_count, first_given, second_given, first_room, second_room}
 use Rattle.scalar_emit.proofs.statements.+statements.Goals as goal
 
 pub emit_inner-returns-clause-scope : goal.emit_inner-returns-clause-scope
@@ -28,16 +32,16 @@ emit_if-returns-clause-emits t c =
     let n = c.args.draft.now.labels in
     let e = term_of c.args.cond.now in
     let blk = block_of c.args.block.now in
-    record {
-      labels = if_count n c.label.new.self.labels c.emit_jump.new.draft.labels c.emit_inner.new.draft.labels c.land.new.draft.labels _ _ c.in_ok-other.ensures.count c.in_ok-emit_jump.ensures.emits.labels c.in_ok-emit_inner.ensures.emits.labels c.in_ok-land.ensures.emits.labels;
-      code = λ rest. c.in_ok-land.ensures.emits.code rest
+    on_ok_weaker c.land.result (λ p. record {
+      labels = if_count n c.label.new.self.labels c.emit_jump.new.draft.labels c.emit_inner.new.draft.labels c.land.new.draft.labels _ _ c.in_ok-other.ensures.count c.in_ok-emit_jump.ensures.emits.labels c.in_ok-emit_inner.ensures.emits.labels p.labels;
+      code = λ rest. p.code rest
           ∙ c.in_ok-emit_inner.ensures.emits.code _
           ∙ c.in_ok-emit_jump.ensures.emits.code _
           ∙ ap (λ (l : List DraftEntry). c.label.new.self.entries ++ l)
           (if_is L hs (homes_of c.deref.result.now) s c.args.exit c.in_ok-other.other c.args.item.now n c.emit_jump.new.item c.label.new.self.labels c.emit_jump.new.draft.labels e blk rest
           (ap homes_of c.deref.ensures.value) c.in_ok-other.ensures.next c.in_ok-other.ensures.count c.in_ok-emit_jump.ensures.item c.in_ok-emit_jump.ensures.emits.labels)
           ∙ ap (λ (l : List DraftEntry). l ++ action_code L hs s c.args.exit c.args.item.now n (Choose e blk Nothing) rest) c.in_ok-other.ensures.entries;
-    }
+    }) c.land.ensures.emits
 
 pub emit_if_else-returns-clause-emits : goal.emit_if_else-returns-clause-emits
 emit_if_else-returns-clause-emits t c =
@@ -48,25 +52,69 @@ emit_if_else-returns-clause-emits t c =
     let e = term_of c.args.cond.now in
     let blk = block_of c.args.block.now in
     let second = block_of c.args.second.now in
-    record {
-      labels = if_else_count s (scope_of c.emit_inner.new.scope) (after_block s blk) n c.label.new.self.labels c.emit_jump.new.draft.labels c.emit_inner.new.draft.labels c.emit_else.new.draft.labels _ _ (Else second) c.in_ok-emit_inner.ensures.scope c.in_ok-other.ensures.count c.in_ok-emit_jump.ensures.emits.labels c.in_ok-emit_inner.ensures.emits.labels c.in_ok-emit_else.ensures.emits.labels;
-      code = λ rest. c.in_ok-emit_else.ensures.emits.code rest
+    on_ok_weaker c.land-2.result (λ p. record {
+      labels = if_else_count s (scope_of c.emit_inner.new.scope) (after_block s blk) n c.label.new.self.labels c.emit_jump.new.draft.labels c.emit_inner.new.draft.labels c.land.new.draft.labels c.emit_inner-2.new.draft.labels c.land-2.new.draft.labels _ _ second c.in_ok-emit_inner.ensures.scope c.in_ok-other.ensures.count c.in_ok-emit_jump.ensures.emits.labels c.in_ok-emit_inner.ensures.emits.labels (c.in_ok-land.ensures.emits.labels ∙ c.in_ok-end.ensures.emits.labels) c.in_ok-emit_inner-2.ensures.emits.labels p.labels;
+      code = λ rest. p.code rest
+          ∙ c.in_ok-emit_inner-2.ensures.emits.code _
+          ∙ c.in_ok-land.ensures.emits.code _
+          ∙ c.in_ok-end.ensures.emits.code _
           ∙ c.in_ok-emit_inner.ensures.emits.code _
           ∙ c.in_ok-emit_jump.ensures.emits.code _
           ∙ ap (λ (l : List DraftEntry). c.label.new.self.entries ++ l)
-          (if_else_is L hs (homes_of c.deref.result.now) (homes_of c.emit_inner.new.homes.items) s (scope_of c.emit_inner.new.scope) c.args.exit c.in_ok-other.other c.args.item.now n c.emit_jump.new.item c.emit_inner.new.item c.label.new.self.labels c.emit_jump.new.draft.labels c.emit_inner.new.draft.labels e blk second rest
-          (ap homes_of c.deref.ensures.value) c.in_ok-emit_inner.ensures.homes c.in_ok-emit_inner.ensures.scope c.in_ok-other.ensures.next c.in_ok-other.ensures.count c.in_ok-emit_jump.ensures.item c.in_ok-emit_jump.ensures.emits.labels c.in_ok-emit_inner.ensures.item c.in_ok-emit_inner.ensures.emits.labels)
+          (if_else_is L hs (homes_of c.deref.result.now) (homes_of c.emit_inner.new.homes.items) s (scope_of c.emit_inner.new.scope) c.args.exit c.in_ok-other.other c.in_ok-end.end c.args.item.now n c.emit_jump.new.item c.emit_inner.new.item c.land.new.item c.label.new.self.labels c.emit_jump.new.draft.labels c.emit_inner.new.draft.labels c.land.new.draft.labels e blk second rest
+          (ap homes_of c.deref.ensures.value) c.in_ok-emit_inner.ensures.homes c.in_ok-emit_inner.ensures.scope c.in_ok-other.ensures.next c.in_ok-other.ensures.count c.in_ok-emit_jump.ensures.item c.in_ok-emit_jump.ensures.emits.labels c.in_ok-emit_inner.ensures.item c.in_ok-emit_inner.ensures.emits.labels c.in_ok-end.ensures.label c.in_ok-land.ensures.item (c.in_ok-land.ensures.emits.labels ∙ c.in_ok-end.ensures.emits.labels))
           ∙ ap (λ (l : List DraftEntry). l ++ action_code L hs s c.args.exit c.args.item.now n (Choose e blk (Else second)) rest) c.in_ok-other.ensures.entries;
+    }) c.land-2.ensures.emits
+
+pub emit_block-loop-stmt-preserved : goal.emit_block-loop-stmt-preserved
+emit_block-loop-stmt-preserved t c =
+    let l = c.loop-stmt in
+    let made = c.in_ok-emit_stmt.ensures in
+    let e = next_statement c.args.block.now l.stmt-index c.stmt-item.result c.loop-stmt-test.true c.stmt-item.is in
+    let step = emits_on c.args.places.now (scope_of l.scope) (scope_of c.emit_stmt.new.scope) (homes_of l.homes.items) (homes_of c.emit_stmt.new.homes.items) c.args.exit l.item c.emit_stmt.new.item l.draft.labels c.emit_stmt.new.draft.labels l.draft.entries c.emit_stmt.new.draft.entries (action_of c.stmt-item.result) (block_of (drop (l.stmt-index + 1) c.args.block.now)) (block_of (drop l.stmt-index c.args.block.now)) e made.scope made.homes made.item made.emits.labels made.emits.code in
+    record {
+      exit = omega (arith, l.invariant.exit, made.emits.labels);
+      depth = omega (arith, ap block_depth e, l.invariant.depth);
+      kinds = (subst BlockKinds e l.invariant.kinds).1;
+      scope = step.scope ∙ l.invariant.scope;
+      homes = step.homes ∙ l.invariant.homes;
+      item = step.item ∙ l.invariant.item;
+      labels = step.labels ∙ l.invariant.labels;
+      code = λ rest. step.code rest ∙ l.invariant.code rest;
     }
 
-pub emit_else-returns-clause-emits : goal.emit_else-returns-clause-emits
-emit_else-returns-clause-emits t c =
-    record {
-      labels = else_count c.args.draft.now.labels c.switch_over.new.draft.labels c.emit_inner.new.draft.labels c.land.new.draft.labels _ c.in_ok-end.ensures.emits.labels c.in_ok-emit_inner.ensures.emits.labels c.in_ok-land.ensures.emits.labels;
-      code = λ rest. c.in_ok-land.ensures.emits.code rest
-          ∙ c.in_ok-emit_inner.ensures.emits.code _
-          ∙ c.in_ok-end.ensures.emits.code _
-          ∙ ap (λ (l : List DraftEntry). c.args.draft.now.entries ++ l)
-          (else_is c.args.places.now (homes_of c.args.homes.now.items) (scope_of c.args.scope.now) c.args.exit c.args.other c.in_ok-end.end c.args.item.now c.args.draft.now.labels c.switch_over.new.item c.switch_over.new.draft.labels (block_of c.args.second.now) rest
-          c.in_ok-end.ensures.label c.in_ok-end.ensures.item c.in_ok-end.ensures.emits.labels);
-    }
+pub emit_stmt-returns-in-If-clause-emits : goal.emit_stmt-returns-in-If-clause-emits
+emit_stmt-returns-in-If-clause-emits t c =
+    on_ok_weaker c.emit_if.result (λ p. emits_as c.args.places.now (homes_of c.args.homes.now.items) (homes_of c.args.homes.now.items) (scope_of c.args.scope.now) c.args.exit c.args.item.now c.args.draft.now c.emit_if.new.draft _ _ refl c.in-If.ensures p) c.emit_if.ensures.emits
+
+pub emit_stmt-returns-in-IfElse-clause-emits : goal.emit_stmt-returns-in-IfElse-clause-emits
+emit_stmt-returns-in-IfElse-clause-emits t c =
+    on_ok_weaker c.emit_if_else.result (λ p. emits_as c.args.places.now (homes_of c.args.homes.now.items) (homes_of c.args.homes.now.items) (scope_of c.args.scope.now) c.args.exit c.args.item.now c.args.draft.now c.emit_if_else.new.draft _ _ refl c.in-IfElse.ensures p) c.emit_if_else.ensures.emits
+
+pub emit_stmt-returns-in-Let-clause-emits : goal.emit_stmt-returns-in-Let-clause-emits
+emit_stmt-returns-in-Let-clause-emits t c =
+    on_ok_weaker c.emit_let.result (λ p. emits_as c.args.places.now (homes_of c.args.homes.now.items) (homes_of c.args.homes.now.items) (scope_of c.args.scope.now) c.args.exit c.args.item.now c.args.draft.now c.emit_let.new.draft _ _ refl c.in-Let.ensures p) c.emit_let.ensures.emits
+
+pub emit_stmt-returns-in-Store-clause-emits : goal.emit_stmt-returns-in-Store-clause-emits
+emit_stmt-returns-in-Store-clause-emits t c =
+    on_ok_weaker c.emit_store.result (λ p. emits_as c.args.places.now (homes_of c.args.homes.now.items) (homes_of c.deref.result.now) (scope_of c.args.scope.now) c.args.exit c.args.item.now c.args.draft.now c.emit_store.new.draft _ _ (ap homes_of c.deref.ensures.value) c.in-Store.ensures p) c.emit_store.ensures.emits
+
+pub emit_stmt-returns-in-Update-clause-emits : goal.emit_stmt-returns-in-Update-clause-emits
+emit_stmt-returns-in-Update-clause-emits t c =
+    on_ok_weaker c.emit_update.result (λ p. emits_as c.args.places.now (homes_of c.args.homes.now.items) (homes_of c.deref-in-Update.result.now) (scope_of c.args.scope.now) c.args.exit c.args.item.now c.args.draft.now c.emit_update.new.draft _ _ (ap homes_of c.deref-in-Update.ensures.value) c.in-Update.ensures p) c.emit_update.ensures.emits
+
+pub emit_stmt-returns-in_ok-emit_jump-in-Break-clause-emits : goal.emit_stmt-returns-in_ok-emit_jump-in-Break-clause-emits
+emit_stmt-returns-in_ok-emit_jump-in-Break-clause-emits t c =
+    emits_as c.args.places.now (homes_of c.args.homes.now.items) (homes_of c.deref-in-Break.result.now) (scope_of c.args.scope.now) c.args.exit c.args.item.now c.args.draft.now c.emit_jump.new.draft (Leave (term_of c.in-Break.cond.now)) _ (ap homes_of c.deref-in-Break.ensures.value) c.in-Break.ensures c.in_ok-emit_jump-in-Break.ensures.emits
+
+pub emit_if_else-land-requires-clause-given : goal.emit_if_else-land-requires-clause-given
+emit_if_else-land-requires-clause-given t c = first_given c.in_ok-other.other c.args.draft.now.labels c.label.new.self.labels c.emit_jump.new.draft.labels c.emit_inner.new.draft.labels c.branch_ahead.new.draft.labels _ _ c.in_ok-other.ensures.next c.in_ok-other.ensures.count c.in_ok-emit_jump.ensures.emits.labels c.in_ok-emit_inner.ensures.emits.labels c.in_ok-end.ensures.emits.labels
+
+pub emit_if_else-land-requires-clause-room : goal.emit_if_else-land-requires-clause-room
+emit_if_else-land-requires-clause-room t c = first_room (scope_of c.args.scope.now).index (term_of c.args.cond.now) (block_of c.args.block.now) (block_of c.args.second.now) c.args.item.now c.emit_jump.new.item c.emit_inner.new.item c.requires.fits c.in_ok-emit_jump.ensures.item c.in_ok-emit_inner.ensures.item
+
+pub emit_if_else-land-requires-2-clause-given : goal.emit_if_else-land-requires-2-clause-given
+emit_if_else-land-requires-2-clause-given t c = second_given c.in_ok-end.end c.emit_inner.new.draft.labels c.branch_ahead.new.draft.labels c.land.new.draft.labels c.emit_inner-2.new.draft.labels _ c.in_ok-end.ensures.label c.in_ok-end.ensures.emits.labels c.in_ok-land.ensures.emits.labels c.in_ok-emit_inner-2.ensures.emits.labels
+
+pub emit_if_else-land-requires-2-clause-room : goal.emit_if_else-land-requires-2-clause-room
+emit_if_else-land-requires-2-clause-room t c = subst (λ n. n < 2 ^ 32) (sym c.in_ok-emit_inner-2.ensures.item) (second_room (scope_of c.args.scope.now) (scope_of c.emit_inner.new.scope) (term_of c.args.cond.now) (block_of c.args.block.now) (block_of c.args.second.now) c.args.item.now c.emit_jump.new.item c.emit_inner.new.item c.land.new.item c.requires.fits c.in_ok-emit_jump.ensures.item c.in_ok-emit_inner.ensures.item c.in_ok-land.ensures.item c.in_ok-emit_inner.ensures.scope)

@@ -34,9 +34,6 @@ decreases-emit_if l = 5 * block_depth (block_of l.block.now) + 3
 abbrev pub decreases-emit_if_else : goal.decreases-emit_if_else
 decreases-emit_if_else l = 5 * max (block_depth (block_of l.block.now)) (block_depth (block_of l.second.now)) + 4
 
-abbrev pub decreases-emit_else : goal.decreases-emit_else
-decreases-emit_else l = 5 * block_depth (block_of l.second.now) + 3
-
 abbrev pub decreases-emit_inner : goal.decreases-emit_inner
 decreases-emit_inner l = 5 * block_depth (block_of l.block.now) + 2
 

@@ -1,4 +1,5 @@
 use Rattle.std.proofs.Common.{◌++◌, List, ap, ◌∙◌}
+use Rattle.std.proofs.lemmas.Result.{on_ok_weaker}
 use Rattle.kernel_tree.specs.Plain.{name_of, term_of}
 use Rattle.kernel_tree.specs.Typing.{first}
 use Rattle.kernel_scope.specs.Scopes.{scope_of}
@@ -9,11 +10,11 @@ use Rattle.scalar_emit.proofs.statements.emit_let.Goals as goal
 
 pub returns-clause-emits : goal.returns-clause-emits
 returns-clause-emits c =
-    record {
-      labels = c.in_ok-emit_defined.ensures.emits.labels ∙ c.in_ok-from.ensures.emits.labels;
-      code = λ rest. c.in_ok-emit_defined.ensures.emits.code rest
+    on_ok_weaker c.define.result (λ _. record {
+      labels = c.in_ok-emit_kept.ensures.labels ∙ c.in_ok-from.ensures.emits.labels;
+      code = λ rest. c.in_ok-emit_kept.ensures.code rest
           ∙ c.in_ok-from.ensures.emits.code _
           ∙ ap (λ (l : List DraftEntry). c.args.draft.now.entries ++ l)
           (let_is c.args.places.now (homes_of c.args.homes.now.items) (homes_of c.deref.result.now) (scope_of c.args.scope.now) c.args.item.now c.args.draft.now.labels c.emit_value.new.item c.in_ok-from.from.number (name_of c.args.name.now) c.args.ty c.first-want.result (term_of c.args.value.now) rest
           (ap homes_of c.deref.ensures.value) (c.first-want.ensures ∙ ap (first c.args.ty) c.own_type.ensures) c.in_ok-from.ensures.item c.in_ok-from.ensures.register);
-    }
+    }) c.define.ensures

@@ -1,0 +1,24 @@
+use Rattle.std.proofs.Common.{◌+◌, subst, ap, ◌∙◌, drop}
+use Rattle.kernel_tree.specs.Plain.{accumulator_of, accumulators_of}
+use Rattle.kernel_tree.specs.Kinds.{VarsKinds}
+use Rattle.kernel_scope.specs.Scopes.{scope_of}
+use Rattle.loop_form.proofs.LoopLists.{next-entry}
+use Rattle.scalar_words.specs.KernelRegisters.{register_in}
+use Rattle.scalar_words.specs.View.{homes_of}
+use Rattle.scalar_emit.proofs.LoopCode.{vars_on}
+use Rattle.scalar_emit.proofs.kernel.emit_vars.Goals as goal
+
+pub loop-var-preserved : goal.loop-var-preserved
+loop-var-preserved c =
+    let l = c.loop-var in
+    let vs = c.args.vars.now in
+    let made = c.in_ok-emit_var.ensures in
+    let e = ap accumulators_of (next-entry vs l.var-index c.var-item.result c.loop-var-test.true c.var-item.is) in
+    let step = vars_on c.args.places.now (register_in c.args.regs.now) (homes_of l.homes.items) (homes_of c.emit_var.new.homes.items) (scope_of l.scope) (scope_of c.emit_var.new.scope) l.place l.next c.emit_var.new.item l.draft.labels c.emit_var.new.draft.labels l.draft.entries c.emit_var.new.draft.entries (accumulator_of c.var-item.result) (accumulators_of (drop (l.var-index + 1) vs)) (accumulators_of (drop l.var-index vs)) e made.scope made.homes made.item made.emits.labels made.emits.code in
+    record {
+      place = ap (λ n. n + 1) l.invariant.place;
+      kinds = (subst VarsKinds e l.invariant.kinds).1;
+      item = step.item ∙ l.invariant.item;
+      labels = step.labels ∙ l.invariant.labels;
+      code = λ rest. step.code rest ∙ l.invariant.code rest;
+    }
