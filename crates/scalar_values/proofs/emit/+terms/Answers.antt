@@ -1,10 +1,9 @@
 use Rattle.std.proofs.lemmas.Grind.{common_steps}
 use Rattle.std.proofs.Common.{◌≡◌, ◌+◌, Bool, List, ◌++◌, refl, sym, ap, ◌∙◌, arith}
 use Rattle.std.specs.Prelude.{if◌then◌else◌}
-use Rattle.kernel_tree.specs.Plain.{Term, Comparison, Both, Either, term_of}
+use Rattle.kernel_tree.specs.Plain.{Both, Either, term_of}
 use Rattle.kernel_scope.specs.Scopes.{scope_of}
 use Rattle.label_fix.specs.DraftRun.{DraftEntry}
-use Rattle.label_fix.specs.Draft.{word_view}
 use Rattle.scalar_words.specs.Layout.{reg_of}
 use Rattle.scalar_words.specs.View.{homes_of}
 use Rattle.kernel_tree.specs.declared.ops.Ty.TheVariants as ty
@@ -13,9 +12,9 @@ use Rattle.kernel_tree.specs.Typing.{first}
 use Rattle.std.specs.Prelude.{Option, Some}
 use Rattle.kernel_tree.specs.declared.ops.Ty.{Ty}
 use Rattle.scalar_values.specs.Sides.{side_view}
-use Rattle.scalar_values.specs.Code.{labels, jump_code, one_of_code}
-use Rattle.scalar_values.proofs.OperatorCode.{two_is, led_sides, straight_sides, settles_is, asked_is}
-use Rattle.scalar_values.proofs.TermCode.{unary_is, cast_is, flags_is, compare_is, both_is, either_is, joined_labels, choice_is, choice_labels, chosen_is, chosen_labels, two_more, offset_code, offset_labels, computed_labels, on_ok, on_and}
+use Rattle.scalar_values.specs.Code.{labels, jump_code}
+use Rattle.scalar_values.proofs.OperatorCode.{two_is, led_sides, straight_sides}
+use Rattle.scalar_values.proofs.TermCode.{both_is, either_is, joined_labels, choice_is, choice_labels, offset_code, offset_labels, computed_labels, on_ok, on_and}
 use Rattle.scalar_values.proofs.IndexCode.{index_is}
 use Rattle.scalar_values.proofs.emit.+terms.Goals as goal
 use Rattle.scalar_values.proofs.emit.+terms.Goals.{emit_both-then-sense, emit_both-else-sense, emit_either-then-sense, emit_either-else-sense}
@@ -27,9 +26,8 @@ emit_two-returns-clause-emits t c =
       code = λ rest. p.code rest
           ∙ c.in_ok-sides.ensures.emits.code _
           ∙ ap (λ (l : List DraftEntry). c.args.draft.now.entries ++ l)
-          (two_is c.args.places.now (homes_of c.args.homes.now) (scope_of c.args.scope.now) c.args.extent c.asked_extent-asked.result c.args.want c.args.item.now c.args.draft.now.labels c.args.op (term_of c.args.left.now) (term_of c.args.right.now) (side_view c.in_ok-sides.sides.0) c.settles-leaves.result c.take-r.result.number c.in_ok-sides.sides.1.number rest
-          (c.asked_extent-asked.ensures ∙ asked_is c.args.extent c.args.want c.binary_joins.ensures c.binary_may_leave-may_leave.ensures) c.in_ok-sides.ensures.side
-          (c.settles-leaves.ensures ∙ settles_is c.within.ensures c.binary_joins-2.ensures c.binary_may_leave-may_leave.ensures)
+          (two_is c.args.places.now (homes_of c.args.homes.now) (scope_of c.args.scope.now) c.args.extent c.binary_asks-asked.result.0 c.args.want c.args.item.now c.args.draft.now.labels c.args.op (term_of c.args.left.now) (term_of c.args.right.now) (side_view c.in_ok-sides.sides.0) c.binary_asks-asked.result.1 c.take-r.result.number c.in_ok-sides.sides.1.number rest
+          c.binary_asks-asked.ensures.asked c.in_ok-sides.ensures.side c.binary_asks-asked.ensures.settles
           (c.take-r.ensures.register ∙ ap (reg_of c.args.places.now) c.in_ok-sides.ensures.item) c.in_ok-sides.ensures.other);
     })
 
@@ -56,55 +54,6 @@ emit_sides-returns-in_ok-side-clause-emits t c =
           (straight_sides c.args.places.now (homes_of c.args.homes.now) (scope_of c.args.scope.now) c.args.extent c.args.want c.args.item.now c.args.draft.now.labels c.emit_loose-else-is_led.new.item c.emit_loose-else-is_led.new.draft.labels c.args.op (term_of c.args.left.now) (term_of c.args.right.now) rest
           (sym c.is_led.ensures.led ∙ c.if-is_led.false) c.in_ok-r-2.ensures.item c.in_ok-r-2.ensures.emits.labels);
     }
-
-pub emit_one-returns-clause-emits : goal.emit_one-returns-clause-emits
-emit_one-returns-clause-emits t c =
-    on_ok c.want_unary.result c.want_unary.ensures.emits (λ p. record {
-      labels = p.labels ∙ c.in_ok-a.ensures.emits.labels;
-      code = λ rest. p.code rest
-          ∙ c.in_ok-a.ensures.emits.code _
-          ∙ ap (λ (l : List DraftEntry). c.args.draft.now.entries ++ l)
-          (unary_is c.args.places.now (homes_of c.args.homes.now) (scope_of c.args.scope.now) c.args.extent c.asked_extent-asked.result c.args.want c.args.item.now c.args.draft.now.labels c.args.op (term_of c.args.arg.now) c.settles-leaves.result (reg_of c.args.places.now c.emit_loose.new.item) c.in_ok-a.a.number rest
-          (c.asked_extent-asked.ensures ∙ asked_is c.args.extent c.args.want c.unary_joins.ensures c.unary_may_leave-may_leave.ensures)
-          (c.settles-leaves.ensures ∙ settles_is c.within.ensures c.unary_joins-2.ensures c.unary_may_leave-may_leave.ensures)
-          (ap (reg_of c.args.places.now) c.in_ok-a.ensures.item) c.in_ok-a.ensures.register);
-    })
-
-pub emit_converted-returns-clause-emits : goal.emit_converted-returns-clause-emits
-emit_converted-returns-clause-emits t c =
-    on_ok c.want_cast.result c.want_cast.ensures.emits (λ p. record {
-      labels = p.labels ∙ c.in_ok-a.ensures.emits.labels;
-      code = λ rest. p.code rest
-          ∙ c.in_ok-a.ensures.emits.code _
-          ∙ ap (λ (l : List DraftEntry). c.args.draft.now.entries ++ l)
-          (cast_is c.args.places.now (homes_of c.args.homes.now) (scope_of c.args.scope.now) c.args.extent c.converted_extent-asked.result c.own_type-from.result c.args.item.now c.args.draft.now.labels (term_of c.args.arg.now) c.args.ty c.within_type.result (reg_of c.args.places.now c.emit_loose.new.item) c.in_ok-a.a.number rest
-          c.own_type-from.ensures c.converted_extent-asked.ensures c.within_type.ensures
-          (ap (reg_of c.args.places.now) c.in_ok-a.ensures.item) c.in_ok-a.ensures.register);
-    })
-
-pub emit_flags-returns-clause-emits : goal.emit_flags-returns-clause-emits
-emit_flags-returns-clause-emits t c =
-    on_ok c.put.result c.put.ensures (λ p. record {
-      labels = p.labels ∙ (c.in_ok-b.ensures.emits.labels ∙ grind (arith, common_steps));
-      code = λ rest. p.code rest
-          ∙ c.in_ok-b.ensures.emits.code _
-          ∙ c.in_ok-a.ensures.emits.code _
-          ∙ ap (λ (l : List DraftEntry). c.args.draft.now.entries ++ l)
-          (flags_is c.args.places.now (homes_of c.args.homes.now) (scope_of c.args.scope.now) c.side_type-want.result c.args.item.now c.args.draft.now.labels c.emit_loose.new.item c.emit_loose.new.draft.labels c.args.op (term_of c.args.left.now) (term_of c.args.right.now) c.compared_number-number.result (word_view c.compare_word.result) c.in_ok-a.a.number c.in_ok-b.b.number rest
-          c.side_type-want.ensures c.compared_number-number.ensures.number c.compare_word.ensures.word c.in_ok-a.ensures.register c.in_ok-b.ensures.register c.in_ok-a.ensures.item c.in_ok-a.ensures.emits.labels);
-    })
-
-pub emit_comparison-returns-clause-emits : goal.emit_comparison-returns-clause-emits
-emit_comparison-returns-clause-emits t c =
-    on_ok c.emit_branch.result c.emit_branch.ensures (λ p. record {
-      labels = p.labels ∙ (c.in_ok-b.ensures.emits.labels ∙ grind (arith, common_steps));
-      code = λ rest. p.code rest
-          ∙ c.in_ok-b.ensures.emits.code _
-          ∙ c.in_ok-a.ensures.emits.code _
-          ∙ ap (λ (l : List DraftEntry). c.args.draft.now.entries ++ l)
-          (compare_is c.args.places.now (homes_of c.args.homes.now) (scope_of c.args.scope.now) c.args.sense c.args.to c.side_type-want.result c.args.item.now c.args.draft.now.labels c.emit_loose.new.item c.emit_loose.new.draft.labels c.args.op (term_of c.args.left.now) (term_of c.args.right.now) c.compared_number-number.result c.in_ok-a.a.number c.in_ok-b.b.number rest
-          c.side_type-want.ensures c.compared_number-number.ensures.number c.in_ok-a.ensures.register c.in_ok-b.ensures.register c.in_ok-a.ensures.item c.in_ok-a.ensures.emits.labels);
-    })
 
 pub emit_both-returns-clause-emits : goal.emit_both-returns-clause-emits
 emit_both-returns-clause-emits t c =
@@ -164,23 +113,4 @@ emit_number-returns-in-None-clause-emits t c =
       code = λ rest. p.code rest
           ∙ ap (λ (l : List DraftEntry). c.args.draft.now.entries ++ l)
           (index_is c.args.places.now (homes_of c.args.homes.now) (scope_of c.args.scope.now) c.args.item.now c.args.draft.now.labels e c.first-want.result rest (sym c.in-None.ensures.word) (c.first-want.ensures ∙ ap (λ (o : Option Ty). first o (Some ty.U64)) c.own_type.ensures));
-    })
-
-pub emit_one_of-returns-in_ok-emit_flags-in-Compare-clause-emits : goal.emit_one_of-returns-in_ok-emit_flags-in-Compare-clause-emits
-emit_one_of-returns-in_ok-emit_flags-in-Compare-clause-emits t c =
-    let x = term_of c.deref.result.now in
-    let y = term_of c.deref-in-Compare.result.now in
-    let is : Comparison c.in-Compare.op x y ≡ term_of c.args.cond.now = rw (c.in-Compare.is, c.deref.ensures, c.deref-in-Compare.ensures) refl in
-    let flags = c.in_ok-emit_flags-in-Compare.ensures.emits in
-    on_ok c.emit_chosen.result c.emit_chosen.ensures.emits (λ p. record {
-      labels = chosen_labels c.args.draft.now.labels c.label.new.self.labels c.label-2.new.self.labels c.emit_flags.new.draft.labels c.emit_chosen.new.draft.labels _ c.in_ok-other.ensures.count c.in_ok-end.ensures.count flags.labels p.labels ∙ ap (λ (e : Term). c.args.draft.now.labels + (2 + labels (scope_of c.args.scope.now).index e)) is;
-      code = λ rest. p.code rest
-          ∙ flags.code _
-          ∙ ap (λ (l : List DraftEntry). c.label-2.new.self.entries ++ l)
-          (chosen_is c.args.places.now (homes_of c.args.homes.now) (scope_of c.args.scope.now) c.side_type-want.result c.args.item.now c.args.draft.now.labels c.label-2.new.self.labels c.in-Compare.op x y (reg_of c.args.places.now c.emit_flags.new.item) c.args.a.number c.args.b.number rest
-          (c.side_type-want.ensures ∙ rw (c.deref-in-Compare-2.ensures, c.deref-in-Compare-3.ensures, c.deref.ensures, c.deref-in-Compare.ensures) refl)
-          (two_more c.args.draft.now.labels c.label.new.self.labels c.label-2.new.self.labels c.in_ok-other.ensures.count c.in_ok-end.ensures.count)
-          (ap (reg_of c.args.places.now) c.in_ok-emit_flags-in-Compare.ensures.item)
-          ∙ ap (λ (e : Term). one_of_code c.args.places.now (homes_of c.args.homes.now) (scope_of c.args.scope.now) c.args.item.now c.args.draft.now.labels e c.args.a.number c.args.b.number rest) is)
-          ∙ ap (λ (l : List DraftEntry). l ++ one_of_code c.args.places.now (homes_of c.args.homes.now) (scope_of c.args.scope.now) c.args.item.now c.args.draft.now.labels (term_of c.args.cond.now) c.args.a.number c.args.b.number rest) (c.in_ok-end.ensures.entries ∙ c.in_ok-other.ensures.entries);
     })
