@@ -28,9 +28,10 @@ pub unary_is : (L : Layout) (hs : Homes) (s : Scope) (w asked : Extent) (want : 
     → loose_code L hs s asked want b n e (at_type want (λ t. unary_code leaves op t d a rest) rest) ≡ loose_code L hs s w want b n whole rest
 unary_is L hs s w asked want b n op e whole leaves d a rest e0 e1 e2 e3 e4 = rw (e0, e2, e3, e4, e1) refl
 
-pub shift_is : (L : Layout) (hs : Homes) (s : Scope) (w asked : Extent) (want : Option Ty) (b n : ℕ) (left : Bool) (e whole : Term) (count : ℤ) (leaves : Bool) (d a : ℕ) (rest : List DraftEntry) → whole ≡ Shift left e count → asked ≡ shift_asks s want left e count w → leaves ≡ shift_settles s want left e count w → d ≡ reg_of L (b + term_size s.index e) → a ≡ home L hs s.index b e
-    → loose_code L hs s asked want b n e (at_type want (λ t. shift_code leaves left count t d a rest) rest) ≡ loose_code L hs s w want b n whole rest
-shift_is L hs s w asked want b n left e whole count leaves d a rest e0 e1 e2 e3 e4 = rw (e0, e2, e3, e4, e1) refl
+-- the count of a shift comes to its functions as `sent`
+pub shift_is : (L : Layout) (hs : Homes) (s : Scope) (w asked : Extent) (want : Option Ty) (b n : ℕ) (left : Bool) (e whole : Term) (count sent : ℤ) (leaves : Bool) (d a : ℕ) (rest : List DraftEntry) → whole ≡ Shift left e count → sent ≡ count → asked ≡ shift_asks s want left e sent w → leaves ≡ shift_settles s want left e sent w → d ≡ reg_of L (b + term_size s.index e) → a ≡ home L hs s.index b e
+    → loose_code L hs s asked want b n e (at_type want (λ t. shift_code leaves left sent t d a rest) rest) ≡ loose_code L hs s w want b n whole rest
+shift_is L hs s w asked want b n left e whole count sent leaves d a rest e0 same e1 e2 e3 e4 = rw (e0, e2, e3, e4, e1, same) refl
 
 pub cast_is : (L : Layout) (hs : Homes) (s : Scope) (w asked : Extent) (from want : Option Ty) (b n : ℕ) (e whole : Term) (t : Ty) (low : Bool) (d a : ℕ) (rest : List DraftEntry) → whole ≡ Conversion e t → from ≡ own s e → asked ≡ converted_extent w from t → low ≡ within_type w t → d ≡ reg_of L (b + term_size s.index e) → a ≡ home L hs s.index b e
     → loose_code L hs s asked from b n e (at_type from (λ u. word_code (convert_word low u t d a) rest) rest) ≡ loose_code L hs s w want b n whole rest
@@ -95,16 +96,16 @@ pub computed_labels : (o : Option ℤ) (n p : ℕ) → option_map index_word o �
 computed_labels None n p e = refl
 computed_labels (Some z) n p e = absurd cc
 
+-- the items of two values that are compared
+pub compared_size : (i : Option (List ℕ)) (b item : ℕ) (op : CompareOp) (x y whole : Term) → whole ≡ Comparison op x y → item ≡ b + term_size i x + term_size i y → item + 1 ≡ b + term_size i whole
+compared_size i b item op x y whole e0 e1 = rw e0 (omega arith)
+
 -- ---- right sides
 
--- a literal takes one item and no label
-pub literal_size : (i : Option (List ℕ)) (e : Term) → IsLiteral (literal_value e) → term_size i e ≡ 1
-literal_size i (Literal z) h = refl
-literal_size i other h = absurd h
-
-pub literal_labels : (i : Option (List ℕ)) (e : Term) → IsLiteral (literal_value e) → labels i e ≡ 0
-literal_labels i (Literal z) h = refl
-literal_labels i other h = absurd h
+-- a literal takes no label
+pub literal_labels : (i : Option (List ℕ)) (n : ℕ) (e : Term) → IsLiteral (literal_value e) → n ≡ n + labels i e
+literal_labels i n (Literal z) h = omega arith
+literal_labels i n other h = absurd h
 
 -- a right side that its word holds as a number, one whose parts the word takes, and any other
 pub side_number : (number : Option ℕ) (v : ℕ) (fused : Bool) (whole parts : List DraftEntry → List DraftEntry) (rest : List DraftEntry) → number ≡ Some v → rest ≡ side_code number fused whole parts rest
@@ -122,9 +123,13 @@ pub parts_binary : (L : Layout) (hs : Homes) (s : Scope) (w asked : Extent) (wan
     → loose_code L hs s asked want b n p (loose_code L hs s asked want item given q rest) ≡ parts_code L hs s w want b n whole rest
 parts_binary L hs s w asked want b n item given op p q whole rest e0 e1 e2 e3 = rw (e0, e2, e3, e1) refl
 
-pub parts_shift : (L : Layout) (hs : Homes) (s : Scope) (w asked : Extent) (want : Option Ty) (b n : ℕ) (left : Bool) (e whole : Term) (count : ℤ) (rest : List DraftEntry) → whole ≡ Shift left e count → asked ≡ shift_asks s want left e count w
+-- the labels of two operands
+pub operation_labels : (i : Option (List ℕ)) (n given given2 : ℕ) (op : BinaryOp) (x y whole : Term) → whole ≡ Operation op x y → given ≡ n + labels i x → given2 ≡ given + labels i y → given2 ≡ n + labels i whole
+operation_labels i n given given2 op x y whole e0 e1 e2 = rw e0 (omega arith)
+
+pub parts_shift : (L : Layout) (hs : Homes) (s : Scope) (w asked : Extent) (want : Option Ty) (b n : ℕ) (left : Bool) (e whole : Term) (count sent : ℤ) (rest : List DraftEntry) → whole ≡ Shift left e count → sent ≡ count → asked ≡ shift_asks s want left e sent w
     → loose_code L hs s asked want b n e rest ≡ parts_code L hs s w want b n whole rest
-parts_shift L hs s w asked want b n left e whole count rest e0 e1 = rw (e0, e1) refl
+parts_shift L hs s w asked want b n left e whole count sent rest e0 same e1 = rw (e0, e1, same) refl
 
 pub parts_cast : (L : Layout) (hs : Homes) (s : Scope) (w asked : Extent) (from want : Option Ty) (b n : ℕ) (e whole : Term) (t : Ty) (rest : List DraftEntry) → whole ≡ Conversion e t → from ≡ own s e → asked ≡ converted_extent w from t
     → loose_code L hs s asked from b n e rest ≡ parts_code L hs s w want b n whole rest
