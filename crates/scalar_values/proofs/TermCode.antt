@@ -57,12 +57,12 @@ either_is L hs s sense to over first b n item next given x y rest e1 e2 e3 e4 e5
 pub joined_labels : (n next given given2 given3 p q : ℕ) → next ≡ n + 1 → given ≡ next + p → given2 ≡ given + q → given3 ≡ given2 → given3 ≡ n + (1 + p + q)
 joined_labels n next given given2 given3 p q e f g h = omega arith
 
-pub choice_is : (L : Layout) (hs : Homes) (s : Scope) (w : Extent) (want : Option Ty) (b n item given item2 given2 : ℕ) (c x y : Term) (p q : ℕ) (rest : List DraftEntry) → p ≡ home L hs s.index b x → q ≡ home L hs s.index item y → item2 ≡ item + term_size s.index y → given2 ≡ given + labels s.index y → item ≡ b + term_size s.index x → given ≡ n + labels s.index x
-    → loose_code L hs s w want b n x (loose_code L hs s w want item given y (one_of_code L hs s item2 given2 c p q rest)) ≡ loose_code L hs s w want b n (Choice c x y) rest
-choice_is L hs s w want b n item given item2 given2 c x y p q rest e1 e2 e3 e4 e5 e6 = rw (e1, e2, e3, e4, e5, e6) refl
+pub choice_is : (L : Layout) (hs : Homes) (s : Scope) (w : Extent) (want : Option Ty) (b n item given item2 given2 : ℕ) (c x y whole : Term) (p q : ℕ) (rest : List DraftEntry) → whole ≡ Choice c x y → p ≡ home L hs s.index b x → q ≡ home L hs s.index item y → item2 ≡ item + term_size s.index y → given2 ≡ given + labels s.index y → item ≡ b + term_size s.index x → given ≡ n + labels s.index x
+    → loose_code L hs s w want b n x (loose_code L hs s w want item given y (one_of_code L hs s item2 given2 c p q rest)) ≡ loose_code L hs s w want b n whole rest
+choice_is L hs s w want b n item given item2 given2 c x y whole p q rest e0 e1 e2 e3 e4 e5 e6 = rw (e0, e1, e2, e3, e4, e5, e6) refl
 
-pub choice_labels : (n given given2 given3 p q r : ℕ) → given ≡ n + p → given2 ≡ given + q → given3 ≡ given2 + (2 + r) → given3 ≡ n + (p + q + (2 + r))
-choice_labels n given given2 given3 p q r e f g = omega arith
+pub choice_labels : (i : Option (List ℕ)) (n given given2 given3 : ℕ) (c x y whole : Term) → whole ≡ Choice c x y → given ≡ n + labels i x → given2 ≡ given + labels i y → given3 ≡ given2 + (2 + labels i c) → given3 ≡ n + labels i whole
+choice_labels i n given given2 given3 c x y whole e0 e f g = rw e0 (omega arith)
 
 pub on_ok : {T E : Type 0} (r : Result T E) {P Q : Type 0} → OnOk r P → (P → Q) → OnOk r Q
 on_ok (Ok v) p f = f p
@@ -102,10 +102,19 @@ compared_size i b item op x y whole e0 e1 = rw e0 (omega arith)
 
 -- ---- right sides
 
--- a literal takes no label
+-- a literal takes one item
+pub literal_item : (i : Option (List ℕ)) (b k item : ℕ) (e : Term) → IsLiteral (literal_value e) → item ≡ b + k → item + 1 ≡ b + k + term_size i e
+literal_item i b k item (Literal z) h g = omega arith
+literal_item i b k item other h g = absurd h
+
+-- and no label
 pub literal_labels : (i : Option (List ℕ)) (n : ℕ) (e : Term) → IsLiteral (literal_value e) → n ≡ n + labels i e
 literal_labels i n (Literal z) h = omega arith
 literal_labels i n other h = absurd h
+
+-- no code for a right side that its word holds
+pub held_code : (number : Option ℕ) (v : ℕ) (inner : List DraftEntry → List DraftEntry) (rest : List DraftEntry) → number ≡ Some v → rest ≡ right_code number inner rest
+held_code number v inner rest e = rw e refl
 
 -- a right side that its word holds as a number, one whose parts the word takes, and any other
 pub side_number : (number : Option ℕ) (v : ℕ) (fused : Bool) (whole parts : List DraftEntry → List DraftEntry) (rest : List DraftEntry) → number ≡ Some v → rest ≡ side_code number fused whole parts rest

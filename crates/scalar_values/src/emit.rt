@@ -1,7 +1,7 @@
 //! Emits the code of expressions.
 
 ghost use Rattle.std.specs.Prelude.{◌≡◌, ◌+◌, ◌<◌, ◌^◌, true, None, IfOk, OnOk};
-ghost use Rattle.kernel_tree.specs.Plain.{Element, Operation, Choice, Both, Either, name_of, term_of};
+ghost use Rattle.kernel_tree.specs.Plain.{Element, Operation, Both, Either, name_of, term_of};
 ghost use Rattle.kernel_tree.specs.Items.{term_size, index_items};
 ghost use Rattle.kernel_tree.specs.Kinds.{IsValue, IsTruth};
 ghost use Rattle.kernel_scope.specs.Scopes.{scope_of};
@@ -25,7 +25,7 @@ use crate::operations::{
     want_operator, want_shift, want_unary,
 };
 use crate::place::place_of;
-use crate::registers::{take, take_held, take_literal};
+use crate::registers::{home_of, take, take_held};
 use crate::side::Side;
 use a64_code::Reg;
 use kernel_scope::{Scope, array_type, first, own_type, side_type};
@@ -89,9 +89,11 @@ pub fn emit_loose(
         Expr::Read { array, index } => emit_read(
             draft, places, homes, scope, extent, array, index, item,
         ),
-        Expr::Select { cond, yes, no } => emit_select(
-            draft, places, homes, scope, extent, want, cond, yes, no, item,
-        ),
+        Expr::Select { cond, yes, no } => {
+            let a = emit_loose(draft, places, homes, scope, extent, want, yes, item)?;
+            let b = emit_loose(draft, places, homes, scope, extent, want, no, item)?;
+            emit_one_of(draft, places, homes, scope, cond, a, b, item)
+        }
         _ => unreachable!(),
     }
 }
@@ -306,41 +308,6 @@ fn emit_read(
     }
 }
 
-// One of two values, by a condition, which is evaluated after both.
-#[cycle(terms)]
-fn emit_select(
-    draft: &mut Draft,
-    places: &Places,
-    homes: &[Home],
-    scope: &Scope,
-    extent: Extent,
-    want: Option<Ty>,
-    cond: &Expr,
-    yes: &Expr,
-    no: &Expr,
-    item: &mut usize,
-) -> Result<Reg, AllocError>
-    requires cond { IsTruth (term_of cond.now) }
-    requires yes { IsValue (term_of yes.now) }
-    requires no { IsValue (term_of no.now) }
-    requires fits { item.old + term_size (scope_of scope.now).index (Choice (term_of cond.now) (term_of yes.now)
-        (term_of no.now)) < 2 ^ 32 }
-    ensures register { IfOk result (λ r. r.number
-        ≡ placed.home places.now (homes_of homes.now) (scope_of scope.now).index item.old (Choice (term_of cond.now)
-        (term_of yes.now) (term_of no.now))) }
-    ensures item { OnOk result (item.new ≡ item.old + term_size (scope_of scope.now).index (Choice
-        (term_of cond.now) (term_of yes.now) (term_of no.now))) }
-    ensures emits { OnOk result (Emits draft.old draft.new
-        (draft.old.labels + code.labels (scope_of scope.now).index
-        (Choice (term_of cond.now) (term_of yes.now) (term_of no.now)))
-        (code.loose_code places.now (homes_of homes.now) (scope_of scope.now) extent want item.old draft.old.labels
-        (Choice (term_of cond.now) (term_of yes.now) (term_of no.now)))) }
-{
-    let a = emit_loose(draft, places, homes, scope, extent, want, yes, item)?;
-    let b = emit_loose(draft, places, homes, scope, extent, want, no, item)?;
-    emit_one_of(draft, places, homes, scope, cond, a, b, item)
-}
-
 // One of two registers, by a condition.
 #[cycle(terms)]
 fn emit_one_of(
@@ -422,7 +389,11 @@ fn emit_compared(
     let whole = Extent::Whole;
     let a = emit_loose(draft, places, homes, scope, whole, want, left, item)?;
     match number {
-        Some(_) => Ok((a, take_literal(places, homes, scope, right, item))),
+        Some(_) => {
+            let b = home_of(places, homes, scope, right, *item);
+            *item += 1;
+            Ok((a, b))
+        }
         None => {
             let b = emit_loose(draft, places, homes, scope, whole, want, right, item)?;
             Ok((a, b))

@@ -1,7 +1,7 @@
 use Rattle.std.proofs.lemmas.Grind.{common_steps}
 use Rattle.std.proofs.Common.{◌≡◌, ℕ, ◌+◌, Bool, List, ◌++◌, refl, sym, ap, subst, ◌∙◌, arith, rules}
 use Rattle.std.specs.Prelude.{if◌then◌else◌}
-use Rattle.kernel_tree.specs.Plain.{Term, Unary, Operation, Shift, Conversion, Comparison, Both, Either, name_of, term_of}
+use Rattle.kernel_tree.specs.Plain.{Term, Unary, Operation, Shift, Conversion, Choice, Comparison, Both, Either, name_of, term_of}
 use mir.Syntax.{w128}
 use mir.Val.{SFits, of_z, to_z}
 use Rattle.std.proofs.lemmas.Int.{to_z-of_z}
@@ -11,14 +11,15 @@ use Rattle.scalar_words.specs.Layout.{reg_of}
 use Rattle.scalar_words.specs.View.{homes_of, register_number}
 use Rattle.label_fix.specs.Draft.{word_view}
 use Rattle.kernel_tree.specs.declared.ops.Ty.TheVariants as ty
-use Rattle.kernel_tree.specs.Items.{stream_offset}
+use Rattle.kernel_tree.specs.Items.{term_size, stream_offset}
 use Rattle.kernel_tree.specs.Typing.{first}
 use Rattle.std.specs.Prelude.{Option, None, Some, option_map}
 use Rattle.kernel_tree.specs.declared.ops.Ty.{Ty}
 use Rattle.scalar_values.specs.Sides.{side_view}
-use Rattle.scalar_values.specs.Code.{labels, added_number, IsHeld, jump_code, one_of_code}
+use Rattle.scalar_values.specs.Code.{labels, added_number, IsHeld, loose_code, jump_code, one_of_code}
+use Rattle.scalar_values.specs.Extents.{Whole}
 use Rattle.scalar_values.proofs.OperatorCode.{two_is, led_sides, straight_sides}
-use Rattle.scalar_values.proofs.TermCode.{unary_is, shift_is, cast_is, parts_binary, operation_labels, parts_shift, parts_cast, compare_is, compared_labels, chosen_is, chosen_labels, two_more, compared_size, literal_labels, side_number, side_parts, side_whole, placed_is, placed_labels, computed_is, both_is, either_is, joined_labels, choice_is, choice_labels, offset_code, offset_labels, computed_labels, on_ok, on_and}
+use Rattle.scalar_values.proofs.TermCode.{unary_is, shift_is, cast_is, parts_binary, operation_labels, parts_shift, parts_cast, compare_is, compared_labels, chosen_is, chosen_labels, two_more, compared_size, literal_item, literal_labels, held_code, side_number, side_parts, side_whole, placed_is, placed_labels, computed_is, both_is, either_is, joined_labels, choice_is, choice_labels, offset_code, offset_labels, computed_labels, on_ok, on_and}
 use Rattle.scalar_values.proofs.IndexCode.{index_is}
 use Rattle.scalar_values.proofs.emit.+terms.Goals as goal
 use Rattle.scalar_values.proofs.emit.+terms.Goals.{emit_both-then-sense, emit_both-else-sense, emit_either-then-sense, emit_either-else-sense}
@@ -87,16 +88,47 @@ emit_either-returns-clause-emits t c =
           ∙ ap (λ (l : List DraftEntry). l ++ jump_code c.args.places.now (homes_of c.args.homes.now) (scope_of c.args.scope.now) c.args.sense c.args.to c.args.item.now c.args.draft.now.labels (Either (term_of c.args.left.now) (term_of c.args.right.now)) rest) c.in_ok-over.ensures.entries;
     })
 
-pub emit_select-returns-clause-emits : goal.emit_select-returns-clause-emits
-emit_select-returns-clause-emits t c = on_ok c.emit_one_of.result c.emit_one_of.ensures.emits (λ e. record {
-  labels = choice_labels c.args.draft.now.labels c.emit_loose.new.draft.labels c.emit_loose-2.new.draft.labels c.emit_one_of.new.draft.labels _ _ _ c.in_ok-a.ensures.emits.labels c.in_ok-b.ensures.emits.labels e.labels;
-  code = λ rest. e.code rest
-      ∙ c.in_ok-b.ensures.emits.code _
-      ∙ c.in_ok-a.ensures.emits.code _
-      ∙ ap (λ (l : List DraftEntry). c.args.draft.now.entries ++ l)
-      (choice_is c.args.places.now (homes_of c.args.homes.now) (scope_of c.args.scope.now) c.args.extent c.args.want c.args.item.now c.args.draft.now.labels c.emit_loose.new.item c.emit_loose.new.draft.labels c.emit_loose-2.new.item c.emit_loose-2.new.draft.labels (term_of c.args.cond.now) (term_of c.args.yes.now) (term_of c.args.no.now) c.in_ok-a.a.number c.in_ok-b.b.number rest
-      c.in_ok-a.ensures.register c.in_ok-b.ensures.register c.in_ok-b.ensures.item c.in_ok-b.ensures.emits.labels c.in_ok-a.ensures.item c.in_ok-a.ensures.emits.labels);
-})
+pub emit_loose-returns-in_ok-b-in-Select-clause-emits : goal.emit_loose-returns-in_ok-b-in-Select-clause-emits
+emit_loose-returns-in_ok-b-in-Select-clause-emits t c =
+    let s = scope_of c.args.scope.now in
+    let x = term_of c.deref-in-Select.result.now in
+    let y = term_of c.deref-in-Select-2.result.now in
+    let k = term_of c.deref-in-Select-3.result.now in
+    let is : term_of c.args.expr.now ≡ Choice k x y = rw (c.in-Select.is, c.deref-in-Select.ensures, c.deref-in-Select-2.ensures, c.deref-in-Select-3.ensures) refl in
+    let first = c.in_ok-a-in-Select.ensures in
+    let second = c.in_ok-b-in-Select.ensures in
+    on_ok c.emit_one_of.result c.emit_one_of.ensures.emits (λ p. record {
+      labels = choice_labels s.index c.args.draft.now.labels c.emit_loose-in-Select.new.draft.labels c.emit_loose-in-Select-2.new.draft.labels _ k x y (term_of c.args.expr.now) is first.emits.labels second.emits.labels p.labels;
+      code = λ rest. p.code rest
+          ∙ second.emits.code _
+          ∙ first.emits.code _
+          ∙ ap (λ (l : List DraftEntry). c.args.draft.now.entries ++ l)
+          (choice_is c.args.places.now (homes_of c.args.homes.now) s c.args.extent c.args.want c.args.item.now c.args.draft.now.labels c.emit_loose-in-Select.new.item c.emit_loose-in-Select.new.draft.labels c.emit_loose-in-Select-2.new.item c.emit_loose-in-Select-2.new.draft.labels k x y (term_of c.args.expr.now) c.in_ok-a-in-Select.a.number c.in_ok-b-in-Select.b.number rest
+          is first.register second.register second.item second.emits.labels first.item first.emits.labels);
+    })
+
+-- a right side that its word holds as a number
+pub emit_compared-returns-in-Some-clause-item : goal.emit_compared-returns-in-Some-clause-item
+emit_compared-returns-in-Some-clause-item t c =
+    let y = term_of c.args.right.now in
+    let s = scope_of c.args.scope.now in
+    literal_item s.index c.args.item.now (term_size s.index (term_of c.args.left.now)) c.emit_loose.new.item y (subst (λ (o : Option ℕ). IsHeld o y) c.in-Some.is c.requires.held) c.in_ok-a.ensures.item
+
+pub emit_compared-returns-in-Some-clause-emits : goal.emit_compared-returns-in-Some-clause-emits
+emit_compared-returns-in-Some-clause-emits t c =
+    let L = c.args.places.now in
+    let hs = homes_of c.args.homes.now in
+    let s = scope_of c.args.scope.now in
+    let x = term_of c.args.left.now in
+    let y = term_of c.args.right.now in
+    let b = c.args.item.now in
+    let n = c.args.draft.now.labels in
+    let first = c.in_ok-a.ensures.emits in
+    record {
+      labels = literal_labels s.index c.emit_loose.new.draft.labels y (subst (λ (o : Option ℕ). IsHeld o y) c.in-Some.is c.requires.held) ∙ ap (λ (k : ℕ). k + labels s.index y) first.labels;
+      code = λ rest. first.code rest
+          ∙ ap (λ (l : List DraftEntry). c.args.draft.now.entries ++ loose_code L hs s Whole c.args.want b n x l) (held_code c.args.number c.in-Some.field-0 (loose_code L hs s Whole c.args.want (b + term_size s.index x) (n + labels s.index x) y) rest c.in-Some.is);
+    }
 
 -- an index that is an offset from the loop variable, and one that is computed
 pub emit_number-returns-in-Some-clause-emits : goal.emit_number-returns-in-Some-clause-emits

@@ -26,9 +26,6 @@ decreases-emit_side l = 4 * term_depth (term_of l.expr.now) + 2
 abbrev pub decreases-emit_parts : goal.decreases-emit_parts
 decreases-emit_parts l = 4 * term_depth (term_of l.expr.now) + 1
 
-abbrev pub decreases-emit_select : goal.decreases-emit_select
-decreases-emit_select l = 4 * max (term_depth (term_of l.cond.now)) (max (term_depth (term_of l.yes.now)) (term_depth (term_of l.no.now))) + 3
-
 abbrev pub decreases-emit_one_of : goal.decreases-emit_one_of
 decreases-emit_one_of l = 4 * term_depth (term_of l.cond.now) + 2
 
