@@ -22,39 +22,6 @@ fn leaves_at(op: UnaryOp, want: Option<Ty>) -> bool
     }
 }
 
-// Whether the result of an operator may lie outside the extended form.
-fn unary_may_leave(scope: &Scope, want: Option<Ty>, op: UnaryOp, arg: &Expr) -> bool
-    ensures { result ≡ leaving.unary_may_leave (scope_of scope.now) want op (term_of arg.now) }
-{
-    leaves_at(op, want) && !unary_stays(scope, want, op, arg)
-}
-
-// The same of an operator on two values.
-fn binary_may_leave(
-    scope: &Scope,
-    want: Option<Ty>,
-    op: BinaryOp,
-    left: &Expr,
-    right: &Expr,
-) -> bool
-    ensures { result ≡ leaving.binary_may_leave (scope_of scope.now) want op (term_of left.now) (term_of right.now) }
-{
-    binary_leaves(op) && !binary_stays(scope, want, op, left, right)
-}
-
-// The same of a shift.
-fn shift_may_leave(
-    scope: &Scope,
-    want: Option<Ty>,
-    left_shift: bool,
-    arg: &Expr,
-    count: i128,
-) -> bool
-    ensures { result ≡ leaving.shift_may_leave (scope_of scope.now) want left_shift (term_of arg.now) count }
-{
-    left_shift && !shift_stays(scope, want, left_shift, arg, count)
-}
-
 // What an operator, of which so much is asked for, asks of its operands, and whether its result is extended, by whether it joins
 // low bits and whether its result may lie outside the extended form.
 fn asks(joins: bool, may_leave: bool, extent: Extent, want: Option<Ty>) -> (Extent, bool)
@@ -78,7 +45,7 @@ pub fn unary_asks(
     ensures asked { result.0 ≡ leaving.unary_asks (scope_of scope.now) want op (term_of arg.now) extent }
     ensures settles { result.1 ≡ leaving.unary_settles (scope_of scope.now) want op (term_of arg.now) extent }
 {
-    let may_leave = unary_may_leave(scope, want, op, arg);
+    let may_leave = leaves_at(op, want) && !unary_stays(scope, want, op, arg);
     asks(unary_joins(op), may_leave, extent, want)
 }
 
@@ -96,7 +63,7 @@ pub fn binary_asks(
     ensures settles { result.1
         ≡ leaving.binary_settles (scope_of scope.now) want op (term_of left.now) (term_of right.now) extent }
 {
-    let may_leave = binary_may_leave(scope, want, op, left, right);
+    let may_leave = binary_leaves(op) && !binary_stays(scope, want, op, left, right);
     asks(binary_joins(op), may_leave, extent, want)
 }
 
@@ -113,6 +80,6 @@ pub fn shift_asks(
     ensures settles { result.1
         ≡ leaving.shift_settles (scope_of scope.now) want left_shift (term_of arg.now) count extent }
 {
-    let may_leave = shift_may_leave(scope, want, left_shift, arg, count);
+    let may_leave = left_shift && !shift_stays(scope, want, left_shift, arg, count);
     asks(left_shift, may_leave, extent, want)
 }
