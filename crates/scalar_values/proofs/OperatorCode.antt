@@ -10,7 +10,6 @@ use Rattle.label_fix.specs.DraftRun.{DraftEntry}
 use Rattle.scalar_words.specs.Layout.{Layout, Homes, reg_of}
 use Rattle.scalar_words.specs.Words.{at_type}
 use Rattle.scalar_values.specs.declared.extent.Extent.{Extent}
-use Rattle.scalar_values.specs.Extents.{asked_extent, settles}
 use Rattle.scalar_values.specs.Leaving.{binary_asks, binary_settles}
 use Rattle.scalar_values.specs.ItemWords.{Side, operator_code}
 use Rattle.scalar_values.specs.Code.{labels, added_number, is_fused, side_code, is_led, taken_side, other_home, parts_code, loose_code, sides_code}
@@ -39,9 +38,3 @@ straight_sides L hs s w want b n item labels1 op x y rest e f g =
     let last = λ (t : Bool) (i l : ℕ). side_code (added_number op want y) (not t && is_fused s op w want y) (loose_code L hs s w want i l y) (parts_code L hs s w want i l y) rest in
     ap₂ (λ i l. loose_code L hs s w want b n x (last false i l)) f g
     ∙ ap (λ t. side_code None t (loose_code L hs s w want b n x) (parts_code L hs s w want b n x) (last t (b + term_size s.index x) (n + labels s.index x))) (sym e)
-
-pub settles_is : {l l2 j j2 e e2 : Bool} → l ≡ l2 → j ≡ j2 → e ≡ e2 → settles l j e ≡ settles l2 j2 e2
-settles_is p q r = rw (p, q, r) refl
-
-pub asked_is : {j j2 e e2 : Bool} (w : Extent) (want : Option Ty) → j ≡ j2 → e ≡ e2 → asked_extent j e w want ≡ asked_extent j2 e2 w want
-asked_is w want q r = rw (q, r) refl

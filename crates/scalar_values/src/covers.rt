@@ -98,11 +98,11 @@ pub fn covers(loose: &[Loose], scope: &Scope, extent: Extent, want: Option<Ty>, 
         Expr::Var(name) => is_enough(loose_form(loose, name), extent),
         Expr::Read { array, index } => covers_index(loose, scope, array, index),
         Expr::Unary { op, arg } => {
-            let asked = unary_asks(scope, want, *op, arg, extent);
+            let (asked, _) = unary_asks(scope, want, *op, arg, extent);
             covers(loose, scope, asked, want, arg)
         }
         Expr::Binary { op, left, right } => {
-            let asked = binary_asks(scope, want, *op, left, right, extent);
+            let (asked, _) = binary_asks(scope, want, *op, left, right, extent);
             covers(loose, scope, asked, want, left) && covers(loose, scope, asked, want, right)
         }
         Expr::Shift {
@@ -110,7 +110,7 @@ pub fn covers(loose: &[Loose], scope: &Scope, extent: Extent, want: Option<Ty>, 
             arg,
             count,
         } => {
-            let asked = shift_asks(scope, want, *left_shift, arg, *count, extent);
+            let (asked, _) = shift_asks(scope, want, *left_shift, arg, *count, extent);
             covers(loose, scope, asked, want, arg)
         }
         Expr::Cast { arg, ty } => {

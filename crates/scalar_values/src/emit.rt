@@ -1,7 +1,7 @@
 //! Emits the code of expressions.
 
 ghost use Rattle.std.specs.Prelude.{◌≡◌, ◌+◌, ◌<◌, ◌^◌, true, None, IfOk, OnOk};
-ghost use Rattle.kernel_tree.specs.Plain.{Unary, Element, Operation, Shift, Conversion, Choice, Comparison, Both, Either, name_of, term_of};
+ghost use Rattle.kernel_tree.specs.Plain.{Element, Operation, Both, Either, name_of, term_of};
 ghost use Rattle.kernel_tree.specs.Items.{term_size, index_items};
 ghost use Rattle.kernel_tree.specs.Kinds.{IsValue, IsTruth};
 ghost use Rattle.kernel_scope.specs.Scopes.{scope_of};
@@ -9,28 +9,27 @@ ghost use Rattle.label_fix.specs.Emits.{Emits};
 ghost use Rattle.scalar_words.specs.View.{homes_of};
 ghost use Rattle.scalar_values.specs.ValueRegisters as placed;
 ghost use Rattle.scalar_words.specs.Layout as layout;
+ghost use Rattle.scalar_values.specs.Extents.{Whole};
 ghost use Rattle.scalar_values.specs.Code as code;
 ghost use Rattle.scalar_values.specs.Sides.{side_view};
 
-use crate::extent::{
-    Extent, asked_extent, binary_joins, converted_extent, settles, unary_joins, within, within_type,
-};
+use crate::extent::{Extent, converted_extent, within_type};
 use crate::fusion::{is_fused, is_led, part_side};
 use crate::instructions::{
     added_number, compare_word, compared_number, index as loop_variable, index_word,
 };
-use crate::leaving::{binary_asks, binary_may_leave, shift_asks, shift_may_leave, unary_may_leave};
+use crate::leaving::{binary_asks, shift_asks, unary_asks};
 use crate::literal::emit_literal;
 use crate::operations::{
     emit_branch, emit_chosen, emit_load, emit_offset, emit_pick, emit_placed, want_cast,
     want_operator, want_shift, want_unary,
 };
 use crate::place::place_of;
-use crate::registers::{take, take_held, take_literal};
+use crate::registers::{home_of, take, take_held};
 use crate::side::Side;
 use a64_code::Reg;
 use kernel_scope::{Scope, array_type, first, own_type, side_type};
-use kernel_tree::{BinaryOp, CompareOp, Expr, Name, Ty, UnaryOp};
+use kernel_tree::{BinaryOp, Expr, Name, Ty};
 use label_fix::{Draft, Label};
 use scalar_words::places::Places;
 use scalar_words::{Home, register_at};
@@ -61,135 +60,42 @@ pub fn emit_loose(
     match expr {
         Expr::Lit(value) => emit_literal(draft, places, want, *value, item),
         Expr::Var(name) => Ok(take_held(homes, name, item)),
-        Expr::Unary { op, arg } => emit_one(
-            draft, places, homes, scope, extent, want, *op, arg, item,
-        ),
+        Expr::Unary { op, arg } => {
+            let arg = &**arg;
+            let (asked, leaves) = unary_asks(scope, want, *op, arg, extent);
+            let a = emit_loose(draft, places, homes, scope, asked, want, arg, item)?;
+            want_unary(draft, places, *op, leaves, want, a, item)
+        }
         Expr::Shift {
             left_shift,
             arg,
             count,
-        } => emit_moved(
-            draft,
-            places,
-            homes,
-            scope,
-            extent,
-            want,
-            *left_shift,
-            arg,
-            *count,
-            item,
-        ),
-        Expr::Cast { arg, ty } => emit_converted(
-            draft, places, homes, scope, extent, arg, *ty, item,
-        ),
+        } => {
+            let arg = &**arg;
+            let (asked, leaves) = shift_asks(scope, want, *left_shift, arg, *count, extent);
+            let a = emit_loose(draft, places, homes, scope, asked, want, arg, item)?;
+            want_shift(draft, places, leaves, *left_shift, *count, want, a, item)
+        }
+        Expr::Cast { arg, ty } => {
+            let arg = &**arg;
+            let from = own_type(scope, arg);
+            let asked = converted_extent(extent, from, *ty);
+            let a = emit_loose(draft, places, homes, scope, asked, from, arg, item)?;
+            want_cast(draft, places, within_type(extent, *ty), from, *ty, a, item)
+        }
         Expr::Binary { op, left, right } => emit_two(
             draft, places, homes, scope, extent, want, *op, left, right, item,
         ),
         Expr::Read { array, index } => emit_read(
             draft, places, homes, scope, extent, array, index, item,
         ),
-        Expr::Select { cond, yes, no } => emit_select(
-            draft, places, homes, scope, extent, want, cond, yes, no, item,
-        ),
+        Expr::Select { cond, yes, no } => {
+            let a = emit_loose(draft, places, homes, scope, extent, want, yes, item)?;
+            let b = emit_loose(draft, places, homes, scope, extent, want, no, item)?;
+            emit_one_of(draft, places, homes, scope, cond, a, b, item)
+        }
         _ => unreachable!(),
     }
-}
-
-// An operator on one value.
-#[cycle(terms)]
-fn emit_one(
-    draft: &mut Draft,
-    places: &Places,
-    homes: &[Home],
-    scope: &Scope,
-    extent: Extent,
-    want: Option<Ty>,
-    op: UnaryOp,
-    arg: &Expr,
-    item: &mut usize,
-) -> Result<Reg, AllocError>
-    requires kind { IsValue (term_of arg.now) }
-    requires fits { item.old + term_size (scope_of scope.now).index (Unary op (term_of arg.now)) < 2 ^ 32 }
-    ensures register { IfOk result (λ r. r.number
-        ≡ placed.home places.now (homes_of homes.now) (scope_of scope.now).index item.old
-        (Unary op (term_of arg.now))) }
-    ensures item { OnOk result (item.new
-        ≡ item.old + term_size (scope_of scope.now).index (Unary op (term_of arg.now))) }
-    ensures emits { OnOk result (Emits draft.old draft.new
-        (draft.old.labels + code.labels (scope_of scope.now).index (Unary op (term_of arg.now)))
-        (code.loose_code places.now (homes_of homes.now) (scope_of scope.now) extent want item.old draft.old.labels
-        (Unary op (term_of arg.now)))) }
-{
-    let may_leave = unary_may_leave(scope, want, op, arg);
-    let asked = asked_extent(unary_joins(op), may_leave, extent, want);
-    let a = emit_loose(draft, places, homes, scope, asked, want, arg, item)?;
-    let leaves = settles(within(extent, want), unary_joins(op), may_leave);
-    want_unary(draft, places, op, leaves, want, a, item)
-}
-
-// A shift by a constant.
-#[cycle(terms)]
-fn emit_moved(
-    draft: &mut Draft,
-    places: &Places,
-    homes: &[Home],
-    scope: &Scope,
-    extent: Extent,
-    want: Option<Ty>,
-    left_shift: bool,
-    arg: &Expr,
-    count: i128,
-    item: &mut usize,
-) -> Result<Reg, AllocError>
-    requires kind { IsValue (term_of arg.now) }
-    requires fits { item.old + term_size (scope_of scope.now).index (Shift left_shift (term_of arg.now) count)
-        < 2 ^ 32 }
-    ensures register { IfOk result (λ r. r.number
-        ≡ placed.home places.now (homes_of homes.now) (scope_of scope.now).index item.old
-        (Shift left_shift (term_of arg.now) count)) }
-    ensures item { OnOk result (item.new
-        ≡ item.old + term_size (scope_of scope.now).index (Shift left_shift (term_of arg.now) count)) }
-    ensures emits { OnOk result (Emits draft.old draft.new
-        (draft.old.labels + code.labels (scope_of scope.now).index (Shift left_shift (term_of arg.now) count))
-        (code.loose_code places.now (homes_of homes.now) (scope_of scope.now) extent want item.old draft.old.labels
-        (Shift left_shift (term_of arg.now) count))) }
-{
-    let may_leave = shift_may_leave(scope, want, left_shift, arg, count);
-    let asked = asked_extent(left_shift, may_leave, extent, want);
-    let a = emit_loose(draft, places, homes, scope, asked, want, arg, item)?;
-    let leaves = settles(within(extent, want), left_shift, may_leave);
-    want_shift(draft, places, leaves, left_shift, count, want, a, item)
-}
-
-// A cast, whose operand is of its own type.
-#[cycle(terms)]
-fn emit_converted(
-    draft: &mut Draft,
-    places: &Places,
-    homes: &[Home],
-    scope: &Scope,
-    extent: Extent,
-    arg: &Expr,
-    ty: Ty,
-    item: &mut usize,
-) -> Result<Reg, AllocError>
-    requires kind { IsValue (term_of arg.now) }
-    requires fits { item.old + term_size (scope_of scope.now).index (Conversion (term_of arg.now) ty) < 2 ^ 32 }
-    ensures register { IfOk result (λ r. r.number
-        ≡ placed.home places.now (homes_of homes.now) (scope_of scope.now).index item.old
-        (Conversion (term_of arg.now) ty)) }
-    ensures item { OnOk result (item.new
-        ≡ item.old + term_size (scope_of scope.now).index (Conversion (term_of arg.now) ty)) }
-    ensures emits { OnOk result (Emits draft.old draft.new
-        (draft.old.labels + code.labels (scope_of scope.now).index (Conversion (term_of arg.now) ty))
-        (code.loose_code places.now (homes_of homes.now) (scope_of scope.now) extent None item.old draft.old.labels
-        (Conversion (term_of arg.now) ty))) }
-{
-    let from = own_type(scope, arg);
-    let asked = converted_extent(extent, from, ty);
-    let a = emit_loose(draft, places, homes, scope, asked, from, arg, item)?;
-    want_cast(draft, places, within_type(extent, ty), from, ty, a, item)
 }
 
 // An operator on two values.
@@ -221,13 +127,11 @@ fn emit_two(
         (code.loose_code places.now (homes_of homes.now) (scope_of scope.now) extent want item.old draft.old.labels
         (Operation op (term_of left.now) (term_of right.now)))) }
 {
-    let may_leave = binary_may_leave(scope, want, op, left, right);
-    let asked = asked_extent(binary_joins(op), may_leave, extent, want);
+    let (asked, leaves) = binary_asks(scope, want, op, left, right, extent);
     let sides = emit_sides(
         draft, places, homes, scope, op, asked, want, left, right, item,
     )?;
     let r = take(places, item);
-    let leaves = settles(within(extent, want), binary_joins(op), may_leave);
     want_operator(draft, op, sides.0, leaves, want, r, sides.1).and(Ok(r))
 }
 
@@ -344,7 +248,8 @@ fn emit_parts(
 {
     match expr {
         Expr::Binary { op, left, right } => {
-            let asked = binary_asks(scope, want, *op, left, right, extent);
+            let (left, right) = (&**left, &**right);
+            let (asked, _) = binary_asks(scope, want, *op, left, right, extent);
             emit_loose(draft, places, homes, scope, asked, want, left, item)?;
             emit_loose(draft, places, homes, scope, asked, want, right, item)
         }
@@ -353,46 +258,17 @@ fn emit_parts(
             arg,
             count,
         } => {
-            let asked = shift_asks(scope, want, *left_shift, arg, *count, extent);
+            let arg = &**arg;
+            let (asked, _) = shift_asks(scope, want, *left_shift, arg, *count, extent);
             emit_loose(draft, places, homes, scope, asked, want, arg, item)
         }
         Expr::Cast { arg, ty } => {
+            let arg = &**arg;
             let from = own_type(scope, arg);
             let asked = converted_extent(extent, from, *ty);
             emit_loose(draft, places, homes, scope, asked, from, arg, item)
         }
         _ => unreachable!(),
-    }
-}
-
-// The right side of a comparison, which takes no code where its word holds it as a number; answers the register of its
-// value.
-#[cycle(terms)]
-fn emit_right(
-    draft: &mut Draft,
-    places: &Places,
-    homes: &[Home],
-    scope: &Scope,
-    extent: Extent,
-    want: Option<Ty>,
-    number: Option<u64>,
-    expr: &Expr,
-    item: &mut usize,
-) -> Result<Reg, AllocError>
-    requires kind { IsValue (term_of expr.now) }
-    requires held { code.IsHeld number (term_of expr.now) }
-    requires fits { item.old + term_size (scope_of scope.now).index (term_of expr.now) < 2 ^ 32 }
-    ensures register { IfOk result (λ r. r.number
-        ≡ placed.home places.now (homes_of homes.now) (scope_of scope.now).index item.old (term_of expr.now)) }
-    ensures item { OnOk result (item.new ≡ item.old + term_size (scope_of scope.now).index (term_of expr.now)) }
-    ensures emits { OnOk result (Emits draft.old draft.new
-        (draft.old.labels + code.labels (scope_of scope.now).index (term_of expr.now))
-        (code.right_code number (code.loose_code places.now (homes_of homes.now) (scope_of scope.now) extent want
-        item.old draft.old.labels (term_of expr.now)))) }
-{
-    match number {
-        Some(_) => Ok(take_literal(places, homes, scope, expr, item)),
-        None => emit_loose(draft, places, homes, scope, extent, want, expr, item),
     }
 }
 
@@ -432,41 +308,6 @@ fn emit_read(
     }
 }
 
-// One of two values, by a condition, which is evaluated after both.
-#[cycle(terms)]
-fn emit_select(
-    draft: &mut Draft,
-    places: &Places,
-    homes: &[Home],
-    scope: &Scope,
-    extent: Extent,
-    want: Option<Ty>,
-    cond: &Expr,
-    yes: &Expr,
-    no: &Expr,
-    item: &mut usize,
-) -> Result<Reg, AllocError>
-    requires cond { IsTruth (term_of cond.now) }
-    requires yes { IsValue (term_of yes.now) }
-    requires no { IsValue (term_of no.now) }
-    requires fits { item.old + term_size (scope_of scope.now).index (Choice (term_of cond.now) (term_of yes.now)
-        (term_of no.now)) < 2 ^ 32 }
-    ensures register { IfOk result (λ r. r.number
-        ≡ placed.home places.now (homes_of homes.now) (scope_of scope.now).index item.old (Choice (term_of cond.now)
-        (term_of yes.now) (term_of no.now))) }
-    ensures item { OnOk result (item.new ≡ item.old + term_size (scope_of scope.now).index (Choice
-        (term_of cond.now) (term_of yes.now) (term_of no.now))) }
-    ensures emits { OnOk result (Emits draft.old draft.new
-        (draft.old.labels + code.labels (scope_of scope.now).index
-        (Choice (term_of cond.now) (term_of yes.now) (term_of no.now)))
-        (code.loose_code places.now (homes_of homes.now) (scope_of scope.now) extent want item.old draft.old.labels
-        (Choice (term_of cond.now) (term_of yes.now) (term_of no.now)))) }
-{
-    let a = emit_loose(draft, places, homes, scope, extent, want, yes, item)?;
-    let b = emit_loose(draft, places, homes, scope, extent, want, no, item)?;
-    emit_one_of(draft, places, homes, scope, cond, a, b, item)
-}
-
 // One of two registers, by a condition.
 #[cycle(terms)]
 fn emit_one_of(
@@ -494,8 +335,14 @@ fn emit_one_of(
     let end = draft.label()?;
     match cond {
         Expr::Compare { op, left, right } => {
-            emit_flags(draft, places, homes, scope, *op, left, right, item)?;
+            let (left, right) = (&**left, &**right);
             let want = side_type(scope, left, right);
+            let number = compared_number(want, right);
+            let (p, q) = emit_compared(
+                draft, places, homes, scope, want, number, left, right, item,
+            )?;
+            *item += 1;
+            draft.put(compare_word(number, p, q))?;
             emit_chosen(draft, places, *op, want, a, b, item)
         }
         _ => {
@@ -505,39 +352,53 @@ fn emit_one_of(
     }
 }
 
-// A comparison of two values, whose truth is in the flags.
+// Both sides of a comparison, the right one of which takes no code where its word holds it as a number; answers the registers
+// of their values.
 #[cycle(terms)]
-fn emit_flags(
+fn emit_compared(
     draft: &mut Draft,
     places: &Places,
     homes: &[Home],
     scope: &Scope,
-    op: CompareOp,
+    want: Option<Ty>,
+    number: Option<u64>,
     left: &Expr,
     right: &Expr,
     item: &mut usize,
-) -> Result<(), AllocError>
+) -> Result<(Reg, Reg), AllocError>
     requires left { IsValue (term_of left.now) }
     requires right { IsValue (term_of right.now) }
-    requires fits { item.old + term_size (scope_of scope.now).index (Comparison op (term_of left.now)
-        (term_of right.now)) < 2 ^ 32 }
-    ensures item { OnOk result (item.new ≡ item.old + term_size (scope_of scope.now).index (Comparison op
-        (term_of left.now) (term_of right.now))) }
+    requires held { code.IsHeld number (term_of right.now) }
+    requires fits { item.old + term_size (scope_of scope.now).index (term_of left.now)
+        + term_size (scope_of scope.now).index (term_of right.now) < 2 ^ 32 }
+    ensures left { IfOk result (λ r. r.0.number
+        ≡ placed.home places.now (homes_of homes.now) (scope_of scope.now).index item.old (term_of left.now)) }
+    ensures right { IfOk result (λ r. r.1.number ≡ placed.home places.now (homes_of homes.now)
+        (scope_of scope.now).index (item.old + term_size (scope_of scope.now).index (term_of left.now))
+        (term_of right.now)) }
+    ensures item { OnOk result (item.new ≡ item.old + term_size (scope_of scope.now).index (term_of left.now)
+        + term_size (scope_of scope.now).index (term_of right.now)) }
     ensures emits { OnOk result (Emits draft.old draft.new
-        (draft.old.labels + code.labels (scope_of scope.now).index
-        (Comparison op (term_of left.now) (term_of right.now)))
-        (code.flags_code places.now (homes_of homes.now) (scope_of scope.now) item.old draft.old.labels
-        (Comparison op (term_of left.now) (term_of right.now)))) }
+        (draft.old.labels + code.labels (scope_of scope.now).index (term_of left.now)
+        + code.labels (scope_of scope.now).index (term_of right.now))
+        (λ rest. code.loose_code places.now (homes_of homes.now) (scope_of scope.now) Whole want item.old
+        draft.old.labels (term_of left.now) (code.right_code number (code.loose_code places.now (homes_of homes.now)
+        (scope_of scope.now) Whole want (item.old + term_size (scope_of scope.now).index (term_of left.now))
+        (draft.old.labels + code.labels (scope_of scope.now).index (term_of left.now)) (term_of right.now)) rest))) }
 {
-    let want = side_type(scope, left, right);
-    let number = compared_number(want, right);
     let whole = Extent::Whole;
     let a = emit_loose(draft, places, homes, scope, whole, want, left, item)?;
-    let b = emit_right(
-        draft, places, homes, scope, whole, want, number, right, item,
-    )?;
-    *item += 1;
-    draft.put(compare_word(number, a, b))
+    match number {
+        Some(_) => {
+            let b = home_of(places, homes, scope, right, *item);
+            *item += 1;
+            Ok((a, b))
+        }
+        None => {
+            let b = emit_loose(draft, places, homes, scope, whole, want, right, item)?;
+            Ok((a, b))
+        }
+    }
 }
 
 /// The code of a condition, which goes to a label where its truth is `sense`, and else on.
@@ -563,9 +424,16 @@ pub fn emit_jump(
         (term_of expr.now))) }
 {
     match expr {
-        Expr::Compare { op, left, right } => emit_comparison(
-            draft, places, homes, scope, sense, to, *op, left, right, item,
-        ),
+        Expr::Compare { op, left, right } => {
+            let (left, right) = (&**left, &**right);
+            let want = side_type(scope, left, right);
+            let number = compared_number(want, right);
+            let (a, b) = emit_compared(
+                draft, places, homes, scope, want, number, left, right, item,
+            )?;
+            *item += 1;
+            emit_branch(draft, *op, sense, want, number, a, b, to)
+        }
         Expr::And { left, right } => emit_both(
             draft, places, homes, scope, sense, to, left, right, item,
         ),
@@ -579,44 +447,6 @@ pub fn emit_jump(
         }
         _ => unreachable!(),
     }
-}
-
-// A comparison of two values.
-#[cycle(terms)]
-fn emit_comparison(
-    draft: &mut Draft,
-    places: &Places,
-    homes: &[Home],
-    scope: &Scope,
-    sense: bool,
-    to: Label,
-    op: CompareOp,
-    left: &Expr,
-    right: &Expr,
-    item: &mut usize,
-) -> Result<(), AllocError>
-    requires given { to < draft.old.labels }
-    requires left { IsValue (term_of left.now) }
-    requires right { IsValue (term_of right.now) }
-    requires fits { item.old + term_size (scope_of scope.now).index
-        (Comparison op (term_of left.now) (term_of right.now)) < 2 ^ 32 }
-    ensures item { OnOk result (item.new ≡ item.old + term_size (scope_of scope.now).index
-        (Comparison op (term_of left.now) (term_of right.now))) }
-    ensures emits { OnOk result (Emits draft.old draft.new
-        (draft.old.labels + code.labels (scope_of scope.now).index
-        (Comparison op (term_of left.now) (term_of right.now)))
-        (code.jump_code places.now (homes_of homes.now) (scope_of scope.now) sense to item.old draft.old.labels
-        (Comparison op (term_of left.now) (term_of right.now)))) }
-{
-    let want = side_type(scope, left, right);
-    let number = compared_number(want, right);
-    let whole = Extent::Whole;
-    let a = emit_loose(draft, places, homes, scope, whole, want, left, item)?;
-    let b = emit_right(
-        draft, places, homes, scope, whole, want, number, right, item,
-    )?;
-    *item += 1;
-    emit_branch(draft, op, sense, want, number, a, b, to)
 }
 
 // Two conditions, the second of which is passed over where the first does not hold.

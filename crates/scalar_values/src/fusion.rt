@@ -10,7 +10,7 @@ ghost use Rattle.scalar_values.specs.Sides.{side_view};
 
 use crate::extent::{Extent, fits_at, within_type};
 use crate::instructions::{added_number, shift_count};
-use crate::leaving::{binary_settles, shift_settles};
+use crate::leaving::{binary_asks, shift_asks};
 use crate::operations::signed_side;
 use crate::registers::{expr_size, home_of};
 use crate::side::Side;
@@ -68,7 +68,7 @@ pub fn is_fused(scope: &Scope, op: BinaryOp, extent: Extent, want: Option<Ty>, e
             takes_product(op)
                 && (is_product(*inner)
                     && stays(
-                        binary_settles(scope, want, *inner, left, right, extent),
+                        binary_asks(scope, want, *inner, left, right, extent).1,
                         want,
                     ))
         }
@@ -79,7 +79,7 @@ pub fn is_fused(scope: &Scope, op: BinaryOp, extent: Extent, want: Option<Ty>, e
         } => {
             takes_shift(op)
                 && stays(
-                    shift_settles(scope, want, *left_shift, arg, *count, extent),
+                    shift_asks(scope, want, *left_shift, arg, *count, extent).1,
                     want,
                 )
         }

@@ -36,7 +36,8 @@ fn add_key(constants: &mut Vec<Constant>, key: Key) -> Result<(), AllocError>
     let register = Bits {
         number: 8 - constants.len() as u32,
     };
-    constants.push(Constant { key, register })
+    constants.push(Constant { key, register })?;
+    Ok(())
 }
 
 // One more, where no register holds it.

@@ -110,7 +110,7 @@ pub fn emit_branch(
 {
     let signed = signed_side(want);
     match zero_test(op, number) {
-        Some(zero) => draft.branch(zero_branch(same_sense(sense, zero), a), to),
+        Some(zero) => draft.branch(zero_branch(sense, zero, a), to),
         None => {
             draft.put(compare_word(number, a, b))?;
             draft.branch(BranchKind::If(turned(sense, op, signed)), to)
@@ -118,19 +118,12 @@ pub fn emit_branch(
     }
 }
 
-// Whether a truth is `sense`.
-fn same_sense(sense: bool, truth: bool) -> bool
-    ensures { result ≡ words.same_sense sense truth }
-{
-    if sense { truth } else { !truth }
-}
-
-// A branch where a register is zero, or where it is not.
-fn zero_branch(zero: bool, r: Reg) -> BranchKind
+// A branch where the truth of a test of a register, which asks whether it is zero or else whether it is not, is `sense`.
+fn zero_branch(sense: bool, zero: bool, r: Reg) -> BranchKind
     ensures register { has_register (kind_view result) ≡ true }
-    ensures kind { kind_view result ≡ words.zero_kind zero r.number }
+    ensures kind { kind_view result ≡ words.zero_kind (words.same_sense sense zero) r.number }
 {
-    if zero {
+    if sense == zero {
         BranchKind::Zero(r.number)
     } else {
         BranchKind::NotZero(r.number)

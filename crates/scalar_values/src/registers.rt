@@ -2,12 +2,11 @@
 
 ghost use Rattle.std.specs.Prelude.{◌≡◌, ◌+◌, ◌<◌, ◌^◌};
 ghost use Rattle.kernel_tree.specs.Plain.{name_of, term_of};
-ghost use Rattle.kernel_tree.specs.Items.{term_size, index_items, literal_value};
+ghost use Rattle.kernel_tree.specs.Items.{term_size, index_items};
 ghost use Rattle.kernel_scope.specs.Scopes.{scope_of};
 ghost use Rattle.scalar_words.specs.View.{homes_of};
 ghost use Rattle.scalar_values.specs.ValueRegisters as placed;
 ghost use Rattle.scalar_words.specs.Layout as layout;
-ghost use Rattle.scalar_values.specs.Code as code;
 
 use crate::instructions::index_word;
 use a64_code::{Reg, zero};
@@ -44,30 +43,6 @@ fn number_home(places: &Places, value: i128, item: usize) -> Reg
     match places.constant(Key::Number(value)) {
         Some(held) => held,
         None => places.reg(item),
-    }
-}
-
-/// The register in which an expression that is a literal stands, after which the next item stands.
-pub fn take_literal(
-    places: &Places,
-    homes: &[Home],
-    scope: &Scope,
-    expr: &Expr,
-    item: &mut usize,
-) -> Reg
-    requires literal { code.IsLiteral (literal_value (term_of expr.now)) }
-    requires fits { item.old < 2 ^ 32 }
-    ensures register { result.number
-        ≡ placed.home places.now (homes_of homes.now) (scope_of scope.now).index item.old (term_of expr.now) }
-    ensures item { item.new ≡ item.old + 1 }
-{
-    match expr {
-        Expr::Lit(value) => {
-            let r = number_home(places, *value, *item);
-            *item += 1;
-            r
-        }
-        _ => unreachable!(),
     }
 }
 

@@ -1,21 +1,25 @@
 use Rattle.std.proofs.lemmas.Grind.{common_steps}
-use Rattle.std.proofs.Common.{◌≡◌, ◌+◌, Bool, List, ◌++◌, refl, sym, ap, ◌∙◌, arith}
+use Rattle.std.proofs.Common.{◌≡◌, ℕ, ◌+◌, Bool, List, ◌++◌, refl, sym, ap, subst, ◌∙◌, arith, rules}
 use Rattle.std.specs.Prelude.{if◌then◌else◌}
-use Rattle.kernel_tree.specs.Plain.{Term, Comparison, Both, Either, term_of}
+use Rattle.kernel_tree.specs.Plain.{Term, Unary, Operation, Shift, Conversion, Choice, Comparison, Both, Either, name_of, term_of}
+use mir.Syntax.{w128}
+use mir.Val.{SFits, of_z, to_z}
+use Rattle.std.proofs.lemmas.Int.{to_z-of_z}
 use Rattle.kernel_scope.specs.Scopes.{scope_of}
 use Rattle.label_fix.specs.DraftRun.{DraftEntry}
-use Rattle.label_fix.specs.Draft.{word_view}
 use Rattle.scalar_words.specs.Layout.{reg_of}
-use Rattle.scalar_words.specs.View.{homes_of}
+use Rattle.scalar_words.specs.View.{homes_of, register_number}
+use Rattle.label_fix.specs.Draft.{word_view}
 use Rattle.kernel_tree.specs.declared.ops.Ty.TheVariants as ty
-use Rattle.kernel_tree.specs.Items.{stream_offset}
+use Rattle.kernel_tree.specs.Items.{term_size, stream_offset}
 use Rattle.kernel_tree.specs.Typing.{first}
-use Rattle.std.specs.Prelude.{Option, Some}
+use Rattle.std.specs.Prelude.{Option, None, Some, option_map}
 use Rattle.kernel_tree.specs.declared.ops.Ty.{Ty}
 use Rattle.scalar_values.specs.Sides.{side_view}
-use Rattle.scalar_values.specs.Code.{labels, jump_code, one_of_code}
-use Rattle.scalar_values.proofs.OperatorCode.{two_is, led_sides, straight_sides, settles_is, asked_is}
-use Rattle.scalar_values.proofs.TermCode.{unary_is, cast_is, flags_is, compare_is, both_is, either_is, joined_labels, choice_is, choice_labels, chosen_is, chosen_labels, two_more, offset_code, offset_labels, computed_labels, on_ok, on_and}
+use Rattle.scalar_values.specs.Code.{labels, added_number, IsHeld, loose_code, jump_code, one_of_code}
+use Rattle.scalar_values.specs.Extents.{Whole}
+use Rattle.scalar_values.proofs.OperatorCode.{two_is, led_sides, straight_sides}
+use Rattle.scalar_values.proofs.TermCode.{unary_is, shift_is, cast_is, parts_binary, operation_labels, parts_shift, parts_cast, compare_is, compared_labels, chosen_is, chosen_labels, two_more, compared_size, literal_item, literal_labels, held_code, side_number, side_parts, side_whole, placed_is, placed_labels, computed_is, both_is, either_is, joined_labels, choice_is, choice_labels, offset_code, offset_labels, computed_labels, on_ok, on_and}
 use Rattle.scalar_values.proofs.IndexCode.{index_is}
 use Rattle.scalar_values.proofs.emit.+terms.Goals as goal
 use Rattle.scalar_values.proofs.emit.+terms.Goals.{emit_both-then-sense, emit_both-else-sense, emit_either-then-sense, emit_either-else-sense}
@@ -27,9 +31,8 @@ emit_two-returns-clause-emits t c =
       code = λ rest. p.code rest
           ∙ c.in_ok-sides.ensures.emits.code _
           ∙ ap (λ (l : List DraftEntry). c.args.draft.now.entries ++ l)
-          (two_is c.args.places.now (homes_of c.args.homes.now) (scope_of c.args.scope.now) c.args.extent c.asked_extent-asked.result c.args.want c.args.item.now c.args.draft.now.labels c.args.op (term_of c.args.left.now) (term_of c.args.right.now) (side_view c.in_ok-sides.sides.0) c.settles-leaves.result c.take-r.result.number c.in_ok-sides.sides.1.number rest
-          (c.asked_extent-asked.ensures ∙ asked_is c.args.extent c.args.want c.binary_joins.ensures c.binary_may_leave-may_leave.ensures) c.in_ok-sides.ensures.side
-          (c.settles-leaves.ensures ∙ settles_is c.within.ensures c.binary_joins-2.ensures c.binary_may_leave-may_leave.ensures)
+          (two_is c.args.places.now (homes_of c.args.homes.now) (scope_of c.args.scope.now) c.args.extent c.binary_asks-asked.result.0 c.args.want c.args.item.now c.args.draft.now.labels c.args.op (term_of c.args.left.now) (term_of c.args.right.now) (side_view c.in_ok-sides.sides.0) c.binary_asks-asked.result.1 c.take-r.result.number c.in_ok-sides.sides.1.number rest
+          c.binary_asks-asked.ensures.asked c.in_ok-sides.ensures.side c.binary_asks-asked.ensures.settles
           (c.take-r.ensures.register ∙ ap (reg_of c.args.places.now) c.in_ok-sides.ensures.item) c.in_ok-sides.ensures.other);
     })
 
@@ -56,55 +59,6 @@ emit_sides-returns-in_ok-side-clause-emits t c =
           (straight_sides c.args.places.now (homes_of c.args.homes.now) (scope_of c.args.scope.now) c.args.extent c.args.want c.args.item.now c.args.draft.now.labels c.emit_loose-else-is_led.new.item c.emit_loose-else-is_led.new.draft.labels c.args.op (term_of c.args.left.now) (term_of c.args.right.now) rest
           (sym c.is_led.ensures.led ∙ c.if-is_led.false) c.in_ok-r-2.ensures.item c.in_ok-r-2.ensures.emits.labels);
     }
-
-pub emit_one-returns-clause-emits : goal.emit_one-returns-clause-emits
-emit_one-returns-clause-emits t c =
-    on_ok c.want_unary.result c.want_unary.ensures.emits (λ p. record {
-      labels = p.labels ∙ c.in_ok-a.ensures.emits.labels;
-      code = λ rest. p.code rest
-          ∙ c.in_ok-a.ensures.emits.code _
-          ∙ ap (λ (l : List DraftEntry). c.args.draft.now.entries ++ l)
-          (unary_is c.args.places.now (homes_of c.args.homes.now) (scope_of c.args.scope.now) c.args.extent c.asked_extent-asked.result c.args.want c.args.item.now c.args.draft.now.labels c.args.op (term_of c.args.arg.now) c.settles-leaves.result (reg_of c.args.places.now c.emit_loose.new.item) c.in_ok-a.a.number rest
-          (c.asked_extent-asked.ensures ∙ asked_is c.args.extent c.args.want c.unary_joins.ensures c.unary_may_leave-may_leave.ensures)
-          (c.settles-leaves.ensures ∙ settles_is c.within.ensures c.unary_joins-2.ensures c.unary_may_leave-may_leave.ensures)
-          (ap (reg_of c.args.places.now) c.in_ok-a.ensures.item) c.in_ok-a.ensures.register);
-    })
-
-pub emit_converted-returns-clause-emits : goal.emit_converted-returns-clause-emits
-emit_converted-returns-clause-emits t c =
-    on_ok c.want_cast.result c.want_cast.ensures.emits (λ p. record {
-      labels = p.labels ∙ c.in_ok-a.ensures.emits.labels;
-      code = λ rest. p.code rest
-          ∙ c.in_ok-a.ensures.emits.code _
-          ∙ ap (λ (l : List DraftEntry). c.args.draft.now.entries ++ l)
-          (cast_is c.args.places.now (homes_of c.args.homes.now) (scope_of c.args.scope.now) c.args.extent c.converted_extent-asked.result c.own_type-from.result c.args.item.now c.args.draft.now.labels (term_of c.args.arg.now) c.args.ty c.within_type.result (reg_of c.args.places.now c.emit_loose.new.item) c.in_ok-a.a.number rest
-          c.own_type-from.ensures c.converted_extent-asked.ensures c.within_type.ensures
-          (ap (reg_of c.args.places.now) c.in_ok-a.ensures.item) c.in_ok-a.ensures.register);
-    })
-
-pub emit_flags-returns-clause-emits : goal.emit_flags-returns-clause-emits
-emit_flags-returns-clause-emits t c =
-    on_ok c.put.result c.put.ensures (λ p. record {
-      labels = p.labels ∙ (c.in_ok-b.ensures.emits.labels ∙ grind (arith, common_steps));
-      code = λ rest. p.code rest
-          ∙ c.in_ok-b.ensures.emits.code _
-          ∙ c.in_ok-a.ensures.emits.code _
-          ∙ ap (λ (l : List DraftEntry). c.args.draft.now.entries ++ l)
-          (flags_is c.args.places.now (homes_of c.args.homes.now) (scope_of c.args.scope.now) c.side_type-want.result c.args.item.now c.args.draft.now.labels c.emit_loose.new.item c.emit_loose.new.draft.labels c.args.op (term_of c.args.left.now) (term_of c.args.right.now) c.compared_number-number.result (word_view c.compare_word.result) c.in_ok-a.a.number c.in_ok-b.b.number rest
-          c.side_type-want.ensures c.compared_number-number.ensures.number c.compare_word.ensures.word c.in_ok-a.ensures.register c.in_ok-b.ensures.register c.in_ok-a.ensures.item c.in_ok-a.ensures.emits.labels);
-    })
-
-pub emit_comparison-returns-clause-emits : goal.emit_comparison-returns-clause-emits
-emit_comparison-returns-clause-emits t c =
-    on_ok c.emit_branch.result c.emit_branch.ensures (λ p. record {
-      labels = p.labels ∙ (c.in_ok-b.ensures.emits.labels ∙ grind (arith, common_steps));
-      code = λ rest. p.code rest
-          ∙ c.in_ok-b.ensures.emits.code _
-          ∙ c.in_ok-a.ensures.emits.code _
-          ∙ ap (λ (l : List DraftEntry). c.args.draft.now.entries ++ l)
-          (compare_is c.args.places.now (homes_of c.args.homes.now) (scope_of c.args.scope.now) c.args.sense c.args.to c.side_type-want.result c.args.item.now c.args.draft.now.labels c.emit_loose.new.item c.emit_loose.new.draft.labels c.args.op (term_of c.args.left.now) (term_of c.args.right.now) c.compared_number-number.result c.in_ok-a.a.number c.in_ok-b.b.number rest
-          c.side_type-want.ensures c.compared_number-number.ensures.number c.in_ok-a.ensures.register c.in_ok-b.ensures.register c.in_ok-a.ensures.item c.in_ok-a.ensures.emits.labels);
-    })
 
 pub emit_both-returns-clause-emits : goal.emit_both-returns-clause-emits
 emit_both-returns-clause-emits t c =
@@ -134,16 +88,47 @@ emit_either-returns-clause-emits t c =
           ∙ ap (λ (l : List DraftEntry). l ++ jump_code c.args.places.now (homes_of c.args.homes.now) (scope_of c.args.scope.now) c.args.sense c.args.to c.args.item.now c.args.draft.now.labels (Either (term_of c.args.left.now) (term_of c.args.right.now)) rest) c.in_ok-over.ensures.entries;
     })
 
-pub emit_select-returns-clause-emits : goal.emit_select-returns-clause-emits
-emit_select-returns-clause-emits t c = on_ok c.emit_one_of.result c.emit_one_of.ensures.emits (λ e. record {
-  labels = choice_labels c.args.draft.now.labels c.emit_loose.new.draft.labels c.emit_loose-2.new.draft.labels c.emit_one_of.new.draft.labels _ _ _ c.in_ok-a.ensures.emits.labels c.in_ok-b.ensures.emits.labels e.labels;
-  code = λ rest. e.code rest
-      ∙ c.in_ok-b.ensures.emits.code _
-      ∙ c.in_ok-a.ensures.emits.code _
-      ∙ ap (λ (l : List DraftEntry). c.args.draft.now.entries ++ l)
-      (choice_is c.args.places.now (homes_of c.args.homes.now) (scope_of c.args.scope.now) c.args.extent c.args.want c.args.item.now c.args.draft.now.labels c.emit_loose.new.item c.emit_loose.new.draft.labels c.emit_loose-2.new.item c.emit_loose-2.new.draft.labels (term_of c.args.cond.now) (term_of c.args.yes.now) (term_of c.args.no.now) c.in_ok-a.a.number c.in_ok-b.b.number rest
-      c.in_ok-a.ensures.register c.in_ok-b.ensures.register c.in_ok-b.ensures.item c.in_ok-b.ensures.emits.labels c.in_ok-a.ensures.item c.in_ok-a.ensures.emits.labels);
-})
+pub emit_loose-returns-in_ok-b-in-Select-clause-emits : goal.emit_loose-returns-in_ok-b-in-Select-clause-emits
+emit_loose-returns-in_ok-b-in-Select-clause-emits t c =
+    let s = scope_of c.args.scope.now in
+    let x = term_of c.deref-in-Select.result.now in
+    let y = term_of c.deref-in-Select-2.result.now in
+    let k = term_of c.deref-in-Select-3.result.now in
+    let is : term_of c.args.expr.now ≡ Choice k x y = rw (c.in-Select.is, c.deref-in-Select.ensures, c.deref-in-Select-2.ensures, c.deref-in-Select-3.ensures) refl in
+    let first = c.in_ok-a-in-Select.ensures in
+    let second = c.in_ok-b-in-Select.ensures in
+    on_ok c.emit_one_of.result c.emit_one_of.ensures.emits (λ p. record {
+      labels = choice_labels s.index c.args.draft.now.labels c.emit_loose-in-Select.new.draft.labels c.emit_loose-in-Select-2.new.draft.labels _ k x y (term_of c.args.expr.now) is first.emits.labels second.emits.labels p.labels;
+      code = λ rest. p.code rest
+          ∙ second.emits.code _
+          ∙ first.emits.code _
+          ∙ ap (λ (l : List DraftEntry). c.args.draft.now.entries ++ l)
+          (choice_is c.args.places.now (homes_of c.args.homes.now) s c.args.extent c.args.want c.args.item.now c.args.draft.now.labels c.emit_loose-in-Select.new.item c.emit_loose-in-Select.new.draft.labels c.emit_loose-in-Select-2.new.item c.emit_loose-in-Select-2.new.draft.labels k x y (term_of c.args.expr.now) c.in_ok-a-in-Select.a.number c.in_ok-b-in-Select.b.number rest
+          is first.register second.register second.item second.emits.labels first.item first.emits.labels);
+    })
+
+-- a right side that its word holds as a number
+pub emit_compared-returns-in-Some-clause-item : goal.emit_compared-returns-in-Some-clause-item
+emit_compared-returns-in-Some-clause-item t c =
+    let y = term_of c.args.right.now in
+    let s = scope_of c.args.scope.now in
+    literal_item s.index c.args.item.now (term_size s.index (term_of c.args.left.now)) c.emit_loose.new.item y (subst (λ (o : Option ℕ). IsHeld o y) c.in-Some.is c.requires.held) c.in_ok-a.ensures.item
+
+pub emit_compared-returns-in-Some-clause-emits : goal.emit_compared-returns-in-Some-clause-emits
+emit_compared-returns-in-Some-clause-emits t c =
+    let L = c.args.places.now in
+    let hs = homes_of c.args.homes.now in
+    let s = scope_of c.args.scope.now in
+    let x = term_of c.args.left.now in
+    let y = term_of c.args.right.now in
+    let b = c.args.item.now in
+    let n = c.args.draft.now.labels in
+    let first = c.in_ok-a.ensures.emits in
+    record {
+      labels = literal_labels s.index c.emit_loose.new.draft.labels y (subst (λ (o : Option ℕ). IsHeld o y) c.in-Some.is c.requires.held) ∙ ap (λ (k : ℕ). k + labels s.index y) first.labels;
+      code = λ rest. first.code rest
+          ∙ ap (λ (l : List DraftEntry). c.args.draft.now.entries ++ loose_code L hs s Whole c.args.want b n x l) (held_code c.args.number c.in-Some.field-0 (loose_code L hs s Whole c.args.want (b + term_size s.index x) (n + labels s.index x) y) rest c.in-Some.is);
+    }
 
 -- an index that is an offset from the loop variable, and one that is computed
 pub emit_number-returns-in-Some-clause-emits : goal.emit_number-returns-in-Some-clause-emits
@@ -166,21 +151,196 @@ emit_number-returns-in-None-clause-emits t c =
           (index_is c.args.places.now (homes_of c.args.homes.now) (scope_of c.args.scope.now) c.args.item.now c.args.draft.now.labels e c.first-want.result rest (sym c.in-None.ensures.word) (c.first-want.ensures ∙ ap (λ (o : Option Ty). first o (Some ty.U64)) c.own_type.ensures));
     })
 
-pub emit_one_of-returns-in_ok-emit_flags-in-Compare-clause-emits : goal.emit_one_of-returns-in_ok-emit_flags-in-Compare-clause-emits
-emit_one_of-returns-in_ok-emit_flags-in-Compare-clause-emits t c =
+-- ---- values of operators
+
+pub emit_loose-returns-in_ok-a-in-Unary-clause-emits : goal.emit_loose-returns-in_ok-a-in-Unary-clause-emits
+emit_loose-returns-in_ok-a-in-Unary-clause-emits t c =
+    let s = scope_of c.args.scope.now in
+    let e = term_of c.deref-arg.result.now in
+    let is : term_of c.args.expr.now ≡ Unary c.in-Unary.op e = rw (c.in-Unary.is, c.deref-arg.ensures) refl in
+    on_ok c.want_unary.result c.want_unary.ensures.emits (λ p. record {
+      labels = p.labels ∙ c.in_ok-a-in-Unary.ensures.emits.labels ∙ ap (λ (e : Term). c.args.draft.now.labels + labels s.index e) (sym is);
+      code = λ rest. p.code rest
+          ∙ c.in_ok-a-in-Unary.ensures.emits.code _
+          ∙ ap (λ (l : List DraftEntry). c.args.draft.now.entries ++ l)
+          (unary_is c.args.places.now (homes_of c.args.homes.now) s c.args.extent c.unary_asks-asked.result.0 c.args.want c.args.item.now c.args.draft.now.labels c.in-Unary.op e (term_of c.args.expr.now) c.unary_asks-asked.result.1 (reg_of c.args.places.now c.emit_loose.new.item) c.in_ok-a-in-Unary.a.number rest
+          is c.unary_asks-asked.ensures.asked c.unary_asks-asked.ensures.settles (ap (reg_of c.args.places.now) c.in_ok-a-in-Unary.ensures.item) c.in_ok-a-in-Unary.ensures.register);
+    })
+
+pub emit_loose-returns-in_ok-a-in-Shift-clause-emits : goal.emit_loose-returns-in_ok-a-in-Shift-clause-emits
+emit_loose-returns-in_ok-a-in-Shift-clause-emits t c =
+    let s = scope_of c.args.scope.now in
+    let e = term_of c.deref-arg-in-Shift.result.now in
+    let is : term_of c.args.expr.now ≡ Shift c.in-Shift.left_shift e c.in-Shift.count = rw (c.in-Shift.is, c.deref-arg-in-Shift.ensures) refl in
+    let in_range : SFits w128 c.in-Shift.count = search rules in
+    on_ok c.want_shift.result c.want_shift.ensures.emits (λ p. record {
+      labels = p.labels ∙ c.in_ok-a-in-Shift.ensures.emits.labels ∙ ap (λ (e : Term). c.args.draft.now.labels + labels s.index e) (sym is);
+      code = λ rest. p.code rest
+          ∙ c.in_ok-a-in-Shift.ensures.emits.code _
+          ∙ ap (λ (l : List DraftEntry). c.args.draft.now.entries ++ l)
+          (shift_is c.args.places.now (homes_of c.args.homes.now) s c.args.extent c.shift_asks-asked.result.0 c.args.want c.args.item.now c.args.draft.now.labels c.in-Shift.left_shift e (term_of c.args.expr.now) c.in-Shift.count (to_z w128 (of_z w128 c.in-Shift.count)) c.shift_asks-asked.result.1 (reg_of c.args.places.now c.emit_loose-in-Shift.new.item) c.in_ok-a-in-Shift.a.number rest
+          is (to_z-of_z w128 c.in-Shift.count in_range) c.shift_asks-asked.ensures.asked c.shift_asks-asked.ensures.settles (ap (reg_of c.args.places.now) c.in_ok-a-in-Shift.ensures.item) c.in_ok-a-in-Shift.ensures.register);
+    })
+
+pub emit_loose-returns-in_ok-a-in-Cast-clause-emits : goal.emit_loose-returns-in_ok-a-in-Cast-clause-emits
+emit_loose-returns-in_ok-a-in-Cast-clause-emits t c =
+    let s = scope_of c.args.scope.now in
+    let e = term_of c.deref-arg-in-Cast.result.now in
+    let is : term_of c.args.expr.now ≡ Conversion e c.in-Cast.ty = rw (c.in-Cast.is, c.deref-arg-in-Cast.ensures) refl in
+    on_ok c.want_cast.result c.want_cast.ensures.emits (λ p. record {
+      labels = p.labels ∙ c.in_ok-a-in-Cast.ensures.emits.labels ∙ ap (λ (e : Term). c.args.draft.now.labels + labels s.index e) (sym is);
+      code = λ rest. p.code rest
+          ∙ c.in_ok-a-in-Cast.ensures.emits.code _
+          ∙ ap (λ (l : List DraftEntry). c.args.draft.now.entries ++ l)
+          (cast_is c.args.places.now (homes_of c.args.homes.now) s c.args.extent c.converted_extent-asked.result c.own_type-from.result c.args.want c.args.item.now c.args.draft.now.labels e (term_of c.args.expr.now) c.in-Cast.ty c.within_type.result (reg_of c.args.places.now c.emit_loose-in-Cast.new.item) c.in_ok-a-in-Cast.a.number rest
+          is c.own_type-from.ensures c.converted_extent-asked.ensures c.within_type.ensures (ap (reg_of c.args.places.now) c.in_ok-a-in-Cast.ensures.item) c.in_ok-a-in-Cast.ensures.register);
+    })
+
+-- ---- values that stand in the word of their user
+
+pub emit_parts-returns-in_ok-emit_loose-in-Binary-clause-emits : goal.emit_parts-returns-in_ok-emit_loose-in-Binary-clause-emits
+emit_parts-returns-in_ok-emit_loose-in-Binary-clause-emits t c =
+    let s = scope_of c.args.scope.now in
+    let x = term_of c.deref.result.now in
+    let y = term_of c.deref-in-Binary.result.now in
+    let is : term_of c.args.expr.now ≡ Operation c.in-Binary.op x y = rw (c.in-Binary.is, c.deref.ensures, c.deref-in-Binary.ensures) refl in
+    let first = c.in_ok-emit_loose-in-Binary.ensures in
+    on_ok c.emit_loose-in-Binary.result c.emit_loose-in-Binary.ensures.emits (λ p. record {
+      labels = operation_labels s.index c.args.draft.now.labels c.emit_loose.new.draft.labels _ c.in-Binary.op x y (term_of c.args.expr.now) is first.emits.labels p.labels;
+      code = λ rest. p.code rest
+          ∙ first.emits.code _
+          ∙ ap (λ (l : List DraftEntry). c.args.draft.now.entries ++ l)
+          (parts_binary c.args.places.now (homes_of c.args.homes.now) s c.args.extent c.binary_asks-asked.result.0 c.args.want c.args.item.now c.args.draft.now.labels c.emit_loose.new.item c.emit_loose.new.draft.labels c.in-Binary.op x y (term_of c.args.expr.now) rest
+          is c.binary_asks-asked.ensures.asked first.item first.emits.labels);
+    })
+
+pub emit_parts-returns-in-Shift-clause-emits : goal.emit_parts-returns-in-Shift-clause-emits
+emit_parts-returns-in-Shift-clause-emits t c =
+    let s = scope_of c.args.scope.now in
+    let e = term_of c.deref-arg.result.now in
+    let is : term_of c.args.expr.now ≡ Shift c.in-Shift.left_shift e c.in-Shift.count = rw (c.in-Shift.is, c.deref-arg.ensures) refl in
+    let in_range : SFits w128 c.in-Shift.count = search rules in
+    on_ok c.emit_loose-in-Shift.result c.emit_loose-in-Shift.ensures.emits (λ p. record {
+      labels = p.labels ∙ ap (λ (e : Term). c.args.draft.now.labels + labels s.index e) (sym is);
+      code = λ rest. p.code rest
+          ∙ ap (λ (l : List DraftEntry). c.args.draft.now.entries ++ l)
+          (parts_shift c.args.places.now (homes_of c.args.homes.now) s c.args.extent c.shift_asks-asked.result.0 c.args.want c.args.item.now c.args.draft.now.labels c.in-Shift.left_shift e (term_of c.args.expr.now) c.in-Shift.count (to_z w128 (of_z w128 c.in-Shift.count)) rest
+          is (to_z-of_z w128 c.in-Shift.count in_range) c.shift_asks-asked.ensures.asked);
+    })
+
+pub emit_parts-returns-in-Cast-clause-emits : goal.emit_parts-returns-in-Cast-clause-emits
+emit_parts-returns-in-Cast-clause-emits t c =
+    let s = scope_of c.args.scope.now in
+    let e = term_of c.deref-arg-in-Cast.result.now in
+    let is : term_of c.args.expr.now ≡ Conversion e c.in-Cast.ty = rw (c.in-Cast.is, c.deref-arg-in-Cast.ensures) refl in
+    on_ok c.emit_loose-in-Cast.result c.emit_loose-in-Cast.ensures.emits (λ p. record {
+      labels = p.labels ∙ ap (λ (e : Term). c.args.draft.now.labels + labels s.index e) (sym is);
+      code = λ rest. p.code rest
+          ∙ ap (λ (l : List DraftEntry). c.args.draft.now.entries ++ l)
+          (parts_cast c.args.places.now (homes_of c.args.homes.now) s c.args.extent c.converted_extent-asked.result c.own_type-from.result c.args.want c.args.item.now c.args.draft.now.labels e (term_of c.args.expr.now) c.in-Cast.ty rest
+          is c.own_type-from.ensures c.converted_extent-asked.ensures);
+    })
+
+-- ---- conditions
+
+pub emit_jump-returns-in_ok-a-in-Compare-clause-emits : goal.emit_jump-returns-in_ok-a-in-Compare-clause-emits
+emit_jump-returns-in_ok-a-in-Compare-clause-emits t c =
+    let s = scope_of c.args.scope.now in
     let x = term_of c.deref.result.now in
     let y = term_of c.deref-in-Compare.result.now in
-    let is : Comparison c.in-Compare.op x y ≡ term_of c.args.cond.now = rw (c.in-Compare.is, c.deref.ensures, c.deref-in-Compare.ensures) refl in
-    let flags = c.in_ok-emit_flags-in-Compare.ensures.emits in
-    on_ok c.emit_chosen.result c.emit_chosen.ensures.emits (λ p. record {
-      labels = chosen_labels c.args.draft.now.labels c.label.new.self.labels c.label-2.new.self.labels c.emit_flags.new.draft.labels c.emit_chosen.new.draft.labels _ c.in_ok-other.ensures.count c.in_ok-end.ensures.count flags.labels p.labels ∙ ap (λ (e : Term). c.args.draft.now.labels + (2 + labels (scope_of c.args.scope.now).index e)) is;
+    let is : term_of c.args.expr.now ≡ Comparison c.in-Compare.op x y = rw (c.in-Compare.is, c.deref.ensures, c.deref-in-Compare.ensures) refl in
+    let sides = c.in_ok-a-in-Compare.ensures in
+    on_ok c.emit_branch.result c.emit_branch.ensures (λ p. record {
+      labels = compared_labels s.index c.args.draft.now.labels _ c.in-Compare.op x y (term_of c.args.expr.now) is (p.labels ∙ sides.emits.labels);
       code = λ rest. p.code rest
-          ∙ flags.code _
+          ∙ sides.emits.code _
+          ∙ ap (λ (l : List DraftEntry). c.args.draft.now.entries ++ l)
+          (compare_is c.args.places.now (homes_of c.args.homes.now) s c.args.sense c.args.to c.side_type-want.result c.args.item.now c.args.draft.now.labels c.in-Compare.op x y (term_of c.args.expr.now) c.compared_number-number.result c.in_ok-a-in-Compare.a.number c.in_ok-a-in-Compare.b.number rest
+          is c.side_type-want.ensures c.compared_number-number.ensures.number sides.left sides.right);
+    })
+
+pub emit_one_of-returns-in_ok-put-in-Compare-clause-emits : goal.emit_one_of-returns-in_ok-put-in-Compare-clause-emits
+emit_one_of-returns-in_ok-put-in-Compare-clause-emits t c =
+    let s = scope_of c.args.scope.now in
+    let x = term_of c.deref.result.now in
+    let y = term_of c.deref-in-Compare.result.now in
+    let is : term_of c.args.cond.now ≡ Comparison c.in-Compare.op x y = rw (c.in-Compare.is, c.deref.ensures, c.deref-in-Compare.ensures) refl in
+    let sides = c.in_ok-p-in-Compare.ensures in
+    on_ok c.emit_chosen.result c.emit_chosen.ensures.emits (λ p. record {
+      labels = chosen_labels s.index c.args.draft.now.labels c.label.new.self.labels c.label-2.new.self.labels c.emit_compared.new.draft.labels c.put.new.self.labels c.emit_chosen.new.draft.labels c.in-Compare.op x y (term_of c.args.cond.now) is c.in_ok-other.ensures.count c.in_ok-end.ensures.count sides.emits.labels c.in_ok-put-in-Compare.ensures.labels p.labels;
+      code = λ rest. p.code rest
+          ∙ c.in_ok-put-in-Compare.ensures.code _
+          ∙ sides.emits.code _
           ∙ ap (λ (l : List DraftEntry). c.label-2.new.self.entries ++ l)
-          (chosen_is c.args.places.now (homes_of c.args.homes.now) (scope_of c.args.scope.now) c.side_type-want.result c.args.item.now c.args.draft.now.labels c.label-2.new.self.labels c.in-Compare.op x y (reg_of c.args.places.now c.emit_flags.new.item) c.args.a.number c.args.b.number rest
-          (c.side_type-want.ensures ∙ rw (c.deref-in-Compare-2.ensures, c.deref-in-Compare-3.ensures, c.deref.ensures, c.deref-in-Compare.ensures) refl)
+          (chosen_is c.args.places.now (homes_of c.args.homes.now) s c.side_type-want.result c.args.item.now c.args.draft.now.labels c.label-2.new.self.labels c.in-Compare.op x y (term_of c.args.cond.now) c.compared_number-number.result (word_view c.compare_word.result) c.in_ok-p-in-Compare.p.number c.in_ok-p-in-Compare.q.number (reg_of c.args.places.now (c.emit_compared.new.item + 1)) c.args.a.number c.args.b.number rest
+          is c.side_type-want.ensures c.compared_number-number.ensures.number c.compare_word.ensures.word sides.left sides.right
           (two_more c.args.draft.now.labels c.label.new.self.labels c.label-2.new.self.labels c.in_ok-other.ensures.count c.in_ok-end.ensures.count)
-          (ap (reg_of c.args.places.now) c.in_ok-emit_flags-in-Compare.ensures.item)
-          ∙ ap (λ (e : Term). one_of_code c.args.places.now (homes_of c.args.homes.now) (scope_of c.args.scope.now) c.args.item.now c.args.draft.now.labels e c.args.a.number c.args.b.number rest) is)
-          ∙ ap (λ (l : List DraftEntry). l ++ one_of_code c.args.places.now (homes_of c.args.homes.now) (scope_of c.args.scope.now) c.args.item.now c.args.draft.now.labels (term_of c.args.cond.now) c.args.a.number c.args.b.number rest) (c.in_ok-end.ensures.entries ∙ c.in_ok-other.ensures.entries);
+          (ap (reg_of c.args.places.now) (compared_size s.index c.args.item.now c.emit_compared.new.item c.in-Compare.op x y (term_of c.args.cond.now) is sides.item)))
+          ∙ ap (λ (l : List DraftEntry). l ++ one_of_code c.args.places.now (homes_of c.args.homes.now) s c.args.item.now c.args.draft.now.labels (term_of c.args.cond.now) c.args.a.number c.args.b.number rest) (c.in_ok-end.ensures.entries ∙ c.in_ok-other.ensures.entries);
+    })
+
+-- ---- right sides
+
+pub emit_side-returns-in-Some-clause-emits : goal.emit_side-returns-in-Some-clause-emits
+emit_side-returns-in-Some-clause-emits t c =
+    let s = scope_of c.args.scope.now in
+    let e = term_of c.args.expr.now in
+    let number = sym c.added_number.ensures.number ∙ c.in-Some.is in
+    record {
+      labels = literal_labels s.index c.args.draft.now.labels e (subst (λ (o : Option ℕ). IsHeld o e) c.in-Some.is c.added_number.ensures.held);
+      code = λ rest. ap (λ (l : List DraftEntry). c.args.draft.now.entries ++ l) (side_number (added_number c.args.op c.args.want e) c.in-Some.number _ _ _ rest number);
+    }
+
+pub emit_side-returns-in_ok-emit_parts-in-None-clause-emits : goal.emit_side-returns-in_ok-emit_parts-in-None-clause-emits
+emit_side-returns-in_ok-emit_parts-in-None-clause-emits t c =
+    let e = term_of c.args.expr.now in
+    let number = sym c.added_number.ensures.number ∙ c.in-None.is in
+    let parts = c.in_ok-emit_parts-in-None.ensures.emits in
+    record {
+      labels = parts.labels;
+      code = λ rest. parts.code rest ∙ ap (λ (l : List DraftEntry). c.args.draft.now.entries ++ l) (side_parts (added_number c.args.op c.args.want e) _ _ _ rest number (sym c.is_fused-fused.ensures.fused ∙ c.if-fused.true));
+    }
+
+pub emit_side-returns-in_ok-r-in-None-clause-emits : goal.emit_side-returns-in_ok-r-in-None-clause-emits
+emit_side-returns-in_ok-r-in-None-clause-emits t c =
+    let e = term_of c.args.expr.now in
+    let number = sym c.added_number.ensures.number ∙ c.in-None.is in
+    let whole = c.in_ok-r-in-None.ensures.emits in
+    record {
+      labels = whole.labels;
+      code = λ rest. whole.code rest ∙ ap (λ (l : List DraftEntry). c.args.draft.now.entries ++ l) (side_whole (added_number c.args.op c.args.want e) _ _ _ rest number (sym c.is_fused-fused.ensures.fused ∙ c.if-fused.false));
+    }
+
+-- ---- elements
+
+pub emit_read-returns-in-Some-clause-emits : goal.emit_read-returns-in-Some-clause-emits
+emit_read-returns-in-Some-clause-emits t c =
+    let a = name_of c.args.array.now in
+    let e = term_of c.args.index.now in
+    let L = c.args.places.now in
+    let hs = homes_of c.args.homes.now in
+    let s = scope_of c.args.scope.now in
+    let place = sym c.place_of.ensures ∙ ap (option_map register_number) c.in-Some.is in
+    on_ok c.emit_load.result c.emit_load.ensures.emits (λ p. record {
+      labels = p.labels ∙ placed_labels L hs s c.args.draft.now.labels a e c.in-Some.place.number place;
+      code = λ rest. p.code rest
+          ∙ ap (λ (l : List DraftEntry). c.args.draft.now.entries ++ l)
+          (placed_is L hs s c.args.extent None c.args.item.now c.args.draft.now.labels a e c.array_type-ty.result (reg_of L c.args.item.now) c.in-Some.place.number c.index.result.number rest c.array_type-ty.ensures place refl c.index.ensures);
+    })
+
+pub emit_read-returns-in_ok-x-in-None-clause-emits : goal.emit_read-returns-in_ok-x-in-None-clause-emits
+emit_read-returns-in_ok-x-in-None-clause-emits t c =
+    let a = name_of c.args.array.now in
+    let e = term_of c.args.index.now in
+    let L = c.args.places.now in
+    let hs = homes_of c.args.homes.now in
+    let s = scope_of c.args.scope.now in
+    let place = sym c.place_of.ensures ∙ ap (option_map register_number) c.in-None.is in
+    let index = c.in_ok-x-in-None.ensures in
+    on_ok c.emit_load-in-None.result c.emit_load-in-None.ensures.emits (λ p. record {
+      labels = p.labels ∙ index.emits.labels;
+      code = λ rest. p.code rest
+          ∙ index.emits.code _
+          ∙ ap (λ (l : List DraftEntry). c.args.draft.now.entries ++ l)
+          (computed_is L hs s c.args.extent None c.args.item.now c.args.draft.now.labels a e c.array_type-ty.result (reg_of L c.emit_number.new.item) c.register_at.result.number c.in_ok-x-in-None.x.number rest c.array_type-ty.ensures place (ap (reg_of L) index.item) c.register_at.ensures index.register);
     })

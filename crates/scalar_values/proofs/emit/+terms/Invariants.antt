@@ -8,15 +8,6 @@ use Rattle.scalar_values.proofs.emit.+terms.Given as goal
 abbrev pub decreases-emit_loose : goal.decreases-emit_loose
 decreases-emit_loose l = 4 * term_depth (term_of l.expr.now) + 1
 
-abbrev pub decreases-emit_one : goal.decreases-emit_one
-decreases-emit_one l = 4 * term_depth (term_of l.arg.now) + 2
-
-abbrev pub decreases-emit_moved : goal.decreases-emit_moved
-decreases-emit_moved l = 4 * term_depth (term_of l.arg.now) + 2
-
-abbrev pub decreases-emit_converted : goal.decreases-emit_converted
-decreases-emit_converted l = 4 * term_depth (term_of l.arg.now) + 2
-
 abbrev pub decreases-emit_two : goal.decreases-emit_two
 decreases-emit_two l = 4 * max (term_depth (term_of l.left.now)) (term_depth (term_of l.right.now)) + 4
 
@@ -26,8 +17,8 @@ decreases-emit_sides l = 4 * max (term_depth (term_of l.left.now)) (term_depth (
 abbrev pub decreases-emit_read : goal.decreases-emit_read
 decreases-emit_read l = 4 * term_depth (term_of l.index.now) + 3
 
-abbrev pub decreases-emit_right : goal.decreases-emit_right
-decreases-emit_right l = 4 * term_depth (term_of l.expr.now) + 2
+abbrev pub decreases-emit_compared : goal.decreases-emit_compared
+decreases-emit_compared l = 4 * max (term_depth (term_of l.left.now)) (term_depth (term_of l.right.now)) + 2
 
 abbrev pub decreases-emit_side : goal.decreases-emit_side
 decreases-emit_side l = 4 * term_depth (term_of l.expr.now) + 2
@@ -35,20 +26,11 @@ decreases-emit_side l = 4 * term_depth (term_of l.expr.now) + 2
 abbrev pub decreases-emit_parts : goal.decreases-emit_parts
 decreases-emit_parts l = 4 * term_depth (term_of l.expr.now) + 1
 
-abbrev pub decreases-emit_select : goal.decreases-emit_select
-decreases-emit_select l = 4 * max (term_depth (term_of l.cond.now)) (max (term_depth (term_of l.yes.now)) (term_depth (term_of l.no.now))) + 3
-
 abbrev pub decreases-emit_one_of : goal.decreases-emit_one_of
 decreases-emit_one_of l = 4 * term_depth (term_of l.cond.now) + 2
 
-abbrev pub decreases-emit_flags : goal.decreases-emit_flags
-decreases-emit_flags l = 4 * max (term_depth (term_of l.left.now)) (term_depth (term_of l.right.now)) + 3
-
 abbrev pub decreases-emit_jump : goal.decreases-emit_jump
 decreases-emit_jump l = 4 * term_depth (term_of l.expr.now)
-
-abbrev pub decreases-emit_comparison : goal.decreases-emit_comparison
-decreases-emit_comparison l = 4 * max (term_depth (term_of l.left.now)) (term_depth (term_of l.right.now)) + 3
 
 abbrev pub decreases-emit_both : goal.decreases-emit_both
 decreases-emit_both l = 4 * max (term_depth (term_of l.left.now)) (term_depth (term_of l.right.now)) + 2
