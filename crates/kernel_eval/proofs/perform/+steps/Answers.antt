@@ -1,7 +1,7 @@
 use Rattle.std.proofs.Common.{List, ap, sym, ◌∙◌, arith, Some}
 use Rattle.kernel_eval.specs.declared.step.Step.{Step}
 use Rattle.kernel_eval.specs.Trees.{tree_of, tasks_of, task_of, task_depth, tasks_depth}
-use Rattle.kernel_eval.specs.Slots.{set_slot, quit, do_task, do_tasks}
+use Rattle.kernel_eval.specs.Slots.{do_tasks}
 use Rattle.kernel_eval.proofs.StepLists.{if-is, branch-true, branch-false}
 use Rattle.kernel_eval.proofs.perform.+steps.Goals as goal
 
@@ -34,15 +34,3 @@ perform_step-returns-in-Some-false g t c =
     let z = ap task_of i.is ∙ if-is i.cond i.yes i.no in
     let h = sym c.holds.ensures ∙ c.in-Some-false.is ∙ ap Some c.in-Some-false.field-0-test in
     c.perform-in-Some-false.ensures ∙ ap (λ (s : List Step). do_tasks (tasks_of s) memory c.args.slots.now) c.deref-in-Some-false.ensures.value ∙ branch-false (task_of c.args.step.now) (tree_of i.cond) (tasks_of i.yes.items) (tasks_of i.no.items) memory c.args.slots.now z h
-
-pub perform_step-returns-in-Set : goal.perform_step-returns-in-Set
-perform_step-returns-in-Set g t c =
-    let i = c.in-Set in
-    let memory = g.M.GuestMemory.memory c.args.memory.now in
-    c.set_slot.ensures memory ∙ ap (set_slot i.slot memory c.args.slots.now) c.value-found.ensures ∙ sym (ap (λ (s : Step). do_task (task_of s) memory c.args.slots.now) i.is)
-
-pub perform_step-returns-in-Break : goal.perform_step-returns-in-Break
-perform_step-returns-in-Break g t c =
-    let i = c.in-Break in
-    let memory = g.M.GuestMemory.memory c.args.memory.now in
-    c.leave.ensures memory c.args.slots.now ∙ ap (quit memory c.args.slots.now) c.holds-in-Break.ensures ∙ sym (ap (λ (s : Step). do_task (task_of s) memory c.args.slots.now) i.is)

@@ -9,7 +9,7 @@ use Rattle.kernel_tree.specs.Items.{stream_offset}
 use Rattle.kernel_tree.specs.Plain.{name_of, term_of}
 use Rattle.kernel_tree.specs.Typing.{Scope, array_type}
 use Rattle.kernel_eval.specs.Trees.{Tree, Put, Store}
-use Rattle.kernel_eval.specs.Resolve.{slot_of, index_slot, number_tree, resolved, store_task}
+use Rattle.kernel_eval.specs.Resolve.{slot_of, index_slot, resolved, store_task}
 use Rattle.kernel_scope.specs.Scopes.{scope_of}
 use Rattle.kernel_eval.proofs.statements.resolve_store.Goals as goal
 
