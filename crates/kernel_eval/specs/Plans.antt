@@ -41,10 +41,6 @@ abbrev pub resolved_vars : Scope → List Accumulator → Tasks
 resolved_vars scope [] = Done
 resolved_vars scope (v ∷ vs) = Then (Set (length scope.visible) (resolved scope (Some v.type) v.init)) (resolved_vars (declared scope v.name (binding.Accumulator v.type)) vs)
 
--- the body of a loop whose variable is declared
-abbrev pub resolved_body : Scope → PlainLoop → Tasks
-resolved_body scope l = resolved_block (record scope { inside = true }) l.body
-
 abbrev pub resolved_loop : Scope → PlainLoop → LoopPlan
 resolved_loop scope l = record { bound = slot_of scope l.bound; index = length scope.visible; body = resolved_block (in_loop scope l) l.body }
 
