@@ -3,7 +3,7 @@ use Rattle.std.proofs.Common.{◌≡◌, ℕ, List, [], ◌∷◌, ◌++◌, sym
 use Rattle.kernel_tree.specs.Plain.{Program}
 use Rattle.reg_assign.specs.Registers.{Assignment}
 use Rattle.label_fix.specs.DraftRun.{DraftEntry, Branch, Place, Always}
-use Rattle.scalar_emit.specs.Kernel.{begin_code, scalar_code}
+use Rattle.loop_code.specs.Kernel.{begin_code, scalar_code}
 use Rattle.overlap_guard.specs.Guard.{guard_code}
 use Rattle.vector_emit.specs.VectorCode.{vector_code}
 use Rattle.reserved_registers.specs.Alone.{AreAlone, StaysAlone}

@@ -17,10 +17,10 @@ use Rattle.label_fix.specs.Stretches.{Goes, Resolves}
 use Rattle.label_fix.proofs.StretchSteps.{stop_after, end_after}
 use Rattle.label_fix.proofs.LabelsOnce.{Once, resolves_in}
 use Rattle.label_fix.proofs.PlacedRuns.{runs_as_draft, words_length}
-use Rattle.scalar_emit.specs.Kernel.{begin_code, scalar_code, begin_labels}
-use Rattle.scalar_emit.specs.Runs.{HasArguments, BeginRuns, ScalarRuns}
+use Rattle.loop_code.specs.Kernel.{begin_code, scalar_code, begin_labels}
+use Rattle.loop_code.specs.Runs.{HasArguments, BeginRuns, ScalarRuns}
 use Rattle.scalar_words.specs.Iterations.{Comes, ends_so, faults_so}
-use Rattle.scalar_emit.proofs.Placed.{whole_once}
+use Rattle.loop_code.proofs.Placed.{whole_once}
 use Rattle.promises.specs.Faithful.{Follows, CloseSlowFaithful}
 use Rattle.kernel_compile.proofs.FileStart.{starts, start_memory, words_stand}
 

@@ -8,7 +8,7 @@ use Rattle.label_fix.proofs.LabelsOnce.{Once}
 use Rattle.label_fix.proofs.PlacedRuns.{size-append}
 use Rattle.reg_assign.specs.Registers.{Assignment}
 use Rattle.dependence.specs.Apart.{used_of}
-use Rattle.scalar_emit.specs.Kernel.{begin_code, begin_labels, scalar_code, scalar_labels, for_loop_labels}
+use Rattle.loop_code.specs.Kernel.{begin_code, begin_labels, scalar_code, scalar_labels, for_loop_labels}
 use Rattle.overlap_guard.specs.Guard.{is_free, guard_code}
 use Rattle.overlap_guard.proofs.Placed.{guard_words}
 use Rattle.vector_emit.specs.VectorCode.{vector_code}

@@ -19,7 +19,7 @@ use Rattle.label_fix.specs.Finished.{AreFit, StandAt, size, words_of}
 use Rattle.label_fix.proofs.LabelsOnce.{Once, resolves_in}
 use Rattle.label_fix.proofs.PlacedRuns.{runs_as_draft, cuts_are_suppressed, words_length}
 use Rattle.scalar_words.specs.KernelRegisters.{register_in}
-use Rattle.scalar_emit.specs.Runs.{HasArguments}
+use Rattle.loop_code.specs.Runs.{HasArguments}
 use Rattle.promises.specs.Faithful.{Follows, IsFaithful, IsAny, FreeEnds, CloseFaithful, end_steps}
 use Rattle.kernel_compile.proofs.FileStart.{image_memory, starts, start_memory, words_stand}
 use Rattle.kernel_compile.proofs.VectorPlaced.{whole_code}

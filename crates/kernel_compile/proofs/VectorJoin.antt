@@ -33,10 +33,10 @@ use Rattle.label_fix.specs.Suppressions.{cuts}
 use Rattle.label_fix.specs.Finished.{AreFit}
 use Rattle.label_fix.specs.Stretches.{Goes, Resolves, Paced}
 use Rattle.label_fix.proofs.StretchSteps.{chain, taken_goes}
-use Rattle.scalar_emit.specs.Kernel.{scalar_code}
+use Rattle.loop_code.specs.Kernel.{scalar_code}
 use Rattle.scalar_words.specs.KernelRegisters.{register_in}
 use Rattle.scalar_words.specs.Iterations.{Frame, AtIteration, Comes, faults_so}
-use Rattle.scalar_emit.specs.Runs.{HasArguments, BeginRuns, ScalarRuns}
+use Rattle.loop_code.specs.Runs.{HasArguments, BeginRuns, ScalarRuns}
 use Rattle.overlap_guard.specs.Guard.{guard_code}
 use Rattle.overlap_guard.specs.Meets.{Passes, Chooses, on_where, off_where, MeetsApart}
 use Rattle.vector_emit.proofs.FromBelow.{Ground, IsGround, most_lanes, limit}

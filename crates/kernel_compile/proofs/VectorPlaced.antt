@@ -19,9 +19,9 @@ use Rattle.dependence.specs.Apart.{used_of, bound_place}
 use Rattle.scalar_words.specs.Words.{settle_word}
 use Rattle.scalar_words.specs.Layout.{register_at}
 use Rattle.scalar_words.specs.KernelRegisters.{kernel_homes}
-use Rattle.scalar_emit.specs.Kernel.{begin_code, begin_labels, scalar_code, scalar_labels}
+use Rattle.loop_code.specs.Kernel.{begin_code, begin_labels, scalar_code, scalar_labels}
 use Rattle.scalar_words.proofs.Pieces.{word_put, const_put, binary_put, unplaced_put, once_put}
-use Rattle.scalar_emit.proofs.Placed.{begin_once, scalar_unplaced, scalar_once}
+use Rattle.loop_code.proofs.Placed.{begin_once, scalar_unplaced, scalar_once}
 use Rattle.vector_emit.proofs.FromBelow.{dup_code, identity, reduce_code, vectors, puts, update_of, layout_of_loop, is_loop_break, type_of_var, hold_code, holds_code, start_code, fold_one, folds_code, fold_code, lanes_word, chunk_words, iteration_words, plain_words}
 use Rattle.vector_emit.specs.VectorCode.{any_lane, passes_by, vector_code}
 use Rattle.overlap_guard.specs.Guard.{label_by, is_free, guard_code}

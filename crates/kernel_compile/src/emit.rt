@@ -13,13 +13,14 @@ ghost use Rattle.promises.specs.Reserved.{LeavesReserved};
 
 use kernel_tree::Checked;
 use label_fix::{BranchKind, Draft};
+use loop_code::{begin_runs, scalar_runs};
 use loop_form::LoopFacts;
 use loop_form::laws::few_items;
 use loop_lists::listing;
 use overlap_guard::{guard, meets_apart};
 use reg_assign::{Assigned, VectorRegs};
 use reserved_registers::{guard_leaves, scalar_code_leaves, vector_code_leaves, words_leave};
-use scalar_emit::{begin_runs, emit_begin, emit_scalar, scalar_runs};
+use scalar_emit::{emit_begin, emit_scalar};
 use std::alloc::{AllocError, Global};
 use vector_emit::{emit_vector, vector_runs};
 

@@ -12,16 +12,16 @@ use Rattle.label_fix.specs.DraftRun.{DraftEntry}
 use Rattle.scalar_words.specs.Layout.{Key, OfNumber, OfAddress, Constant, Form, LowBits, Ahead, Behind, Loose, loose_in, Layout, Homes, reg_of, register_at}
 use Rattle.scalar_words.specs.Words.{settle_word, copy_word}
 use Rattle.scalar_words.specs.KernelRegisters.{counted_x, layout_of_kernel, param_homes, var_home, kernel_homes, register_in}
-use Rattle.scalar_values.specs.declared.extent.Extent.TheVariants.{Whole}
-use Rattle.scalar_values.specs.HeldNumbers.{AreNext}
-use Rattle.scalar_values.specs.ValueRegisters.{home}
-use Rattle.scalar_values.specs.Code.{labels}
-use Rattle.scalar_emit.specs.Statements.{block_labels}
-use Rattle.scalar_emit.specs.LoopNumbers.{loop_layout}
-use Rattle.scalar_emit.specs.Loop.{index_home, answer_code, with_index, bare, enter_word, enter_code, settle_form, settle_code, back_code, key_code, numbers_code, loop_code, AreHeldLoosely, FitsLoop}
-use Rattle.scalar_emit.specs.Kernel.{argument_code, arguments_code, vars_code, zero_index, begin_code, for_loop_code, scalar_code, after_var}
-use Rattle.scalar_emit.specs.KernelFits.{KernelFits}
-use Rattle.scalar_emit.proofs.KernelRuns.{fits}
+use Rattle.value_code.specs.declared.extent.Extent.TheVariants.{Whole}
+use Rattle.value_code.specs.HeldNumbers.{AreNext}
+use Rattle.value_code.specs.ValueRegisters.{home}
+use Rattle.value_code.specs.Code.{labels}
+use Rattle.loop_code.specs.Statements.{block_labels}
+use Rattle.loop_code.specs.LoopNumbers.{loop_layout}
+use Rattle.loop_code.specs.Loop.{index_home, answer_code, with_index, bare, enter_word, enter_code, settle_form, settle_code, back_code, key_code, numbers_code, loop_code, AreHeldLoosely, FitsLoop}
+use Rattle.loop_code.specs.Kernel.{argument_code, arguments_code, vars_code, zero_index, begin_code, for_loop_code, scalar_code, after_var}
+use Rattle.loop_code.specs.KernelFits.{KernelFits}
+use Rattle.loop_code.proofs.KernelRuns.{fits}
 use Rattle.reserved_registers.specs.Alone.{AreAlone, StaysAlone}
 use Rattle.reserved_registers.proofs.FreeRegisters.{Free, free_below, counted_free, layout_free, AreFree, more_free, names_free, name_free, assigned_below}
 use Rattle.reserved_registers.proofs.ScalarWords.{written, LeavesIf, one_alone, const_alone, copy_leaves, settle_leaves}

@@ -9,11 +9,11 @@ use Rattle.kernel_meaning.specs.Operators.{operator_of}
 use Rattle.label_fix.specs.DraftRun.{DraftEntry}
 use Rattle.scalar_words.specs.Layout.{Layout, Homes, reg_of, last_use_at, register_at}
 use Rattle.scalar_words.specs.Words.{copy_word, word_code}
-use Rattle.scalar_values.specs.declared.extent.Extent.TheVariants.{Whole}
-use Rattle.scalar_values.specs.Extents.{extent_at}
-use Rattle.scalar_values.specs.ItemWords.{index_word, store_code}
-use Rattle.scalar_values.specs.Code.{place_of, added_number, is_fused, right_side}
-use Rattle.scalar_emit.specs.Statements.{let_home, defined_homes, after_homes, is_bare, put_code, placed_put, update_extent, update_settles, action_code, block_code, otherwise_code, FitsAction, FitsBlock, FitsOtherwise}
+use Rattle.value_code.specs.declared.extent.Extent.TheVariants.{Whole}
+use Rattle.value_code.specs.Extents.{extent_at}
+use Rattle.value_code.specs.ItemWords.{index_word, store_code}
+use Rattle.value_code.specs.Code.{place_of, added_number, is_fused, right_side}
+use Rattle.loop_code.specs.Statements.{let_home, defined_homes, after_homes, is_bare, put_code, placed_put, update_extent, update_settles, action_code, block_code, otherwise_code, FitsAction, FitsBlock, FitsOtherwise}
 use Rattle.kernel_tree.specs.declared.ops.Ty.TheVariants as ty
 use Rattle.reserved_registers.specs.Alone.{AreAlone}
 use Rattle.reserved_registers.proofs.FreeRegisters.{Free, AreFree, more_free, name_free}

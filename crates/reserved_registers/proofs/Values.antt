@@ -14,12 +14,12 @@ use Rattle.kernel_meaning.specs.TypeValues.{fits}
 use Rattle.label_fix.specs.DraftRun.{DraftEntry, Place, word_of}
 use Rattle.scalar_words.specs.Layout.{OfNumber, Layout, Homes, reg_of, constant_at, register_at}
 use Rattle.scalar_words.specs.Words.{const_code, copy_word, extend_word, settle_word, word_code, condition, at_type}
-use Rattle.scalar_values.specs.declared.extent.Extent.{Extent}
-use Rattle.scalar_values.specs.declared.extent.Extent.TheVariants.{Whole}
-use Rattle.scalar_values.specs.Extents.{within_type, converted_extent}
-use Rattle.scalar_values.specs.Leaving.{unary_asks, binary_asks, shift_asks, unary_settles, binary_settles, shift_settles}
-use Rattle.scalar_values.specs.ItemWords.{Side, Number, Register, Product, Moved, cast_word, convert_word, index_word, load, load_code, add_word, sub_word, sum_word, product_word, shift_word, operator_code, unary_code, abs_code, shift_code, compare_word, zero_test, tested_code, pick_code, placed_code}
-use Rattle.scalar_values.specs.Code.{number_code, place_of, signed_side, compared_number, added_number, is_fused, is_led, taken_side, side_code, parts_code, right_code, flag_condition, choice_code, loose_code, flags_code, jump_code}
+use Rattle.value_code.specs.declared.extent.Extent.{Extent}
+use Rattle.value_code.specs.declared.extent.Extent.TheVariants.{Whole}
+use Rattle.value_code.specs.Extents.{within_type, converted_extent}
+use Rattle.value_code.specs.Leaving.{unary_asks, binary_asks, shift_asks, unary_settles, binary_settles, shift_settles}
+use Rattle.value_code.specs.ItemWords.{Side, Number, Register, Product, Moved, cast_word, convert_word, index_word, load, load_code, add_word, sub_word, sum_word, product_word, shift_word, operator_code, unary_code, abs_code, shift_code, compare_word, zero_test, tested_code, pick_code, placed_code}
+use Rattle.value_code.specs.Code.{number_code, place_of, signed_side, compared_number, added_number, is_fused, is_led, taken_side, side_code, parts_code, right_code, flag_condition, choice_code, loose_code, flags_code, jump_code}
 use Rattle.promises.specs.Reserved.{leaves_reserved}
 use Rattle.reserved_registers.specs.Alone.{AreAlone, StaysAlone}
 use Rattle.reserved_registers.proofs.FreeRegisters.{Free}

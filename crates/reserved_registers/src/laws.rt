@@ -10,7 +10,7 @@ ghost use Rattle.promises.specs.Reserved.{LeavesReserved};
 ghost use Rattle.label_fix.specs.DraftRun.{DraftEntry};
 ghost use Rattle.label_fix.specs.Finished.{AreFit, words_of};
 ghost use Rattle.scalar_words.specs.KernelRegisters.{register_in};
-ghost use Rattle.scalar_emit.specs.Kernel.{begin_code, scalar_code};
+ghost use Rattle.loop_code.specs.Kernel.{begin_code, scalar_code};
 ghost use Rattle.vector_emit.specs.VectorCode.{vector_code};
 ghost use Rattle.overlap_guard.specs.Guard.{guard_code};
 ghost use Rattle.reserved_registers.specs.Alone.{AreAlone, StaysAlone};

@@ -10,11 +10,11 @@ use Rattle.label_fix.specs.DraftRun.{DraftEntry, Put, Branch, Place, If, word_of
 use Rattle.scalar_words.specs.Layout.{Constant, Form, Loose, loose_in, Layout, Homes, register_at}
 use Rattle.scalar_words.specs.Words.{copy_word, word_code}
 use Rattle.scalar_words.specs.KernelRegisters.{counted_x, var_home}
-use Rattle.scalar_values.specs.ValueRegisters.{home}
-use Rattle.scalar_values.specs.Code.{value_code}
-use Rattle.scalar_emit.specs.Statements.{block_code}
-use Rattle.scalar_emit.specs.Loop.{with_index, inside_of, enter_code, settle_code, back_code, again_code, numbers_code, entry_code, iterations_code}
-use Rattle.scalar_emit.specs.Kernel.{var_code, var_labels, vars_code, vars_labels}
+use Rattle.value_code.specs.ValueRegisters.{home}
+use Rattle.value_code.specs.Code.{value_code}
+use Rattle.loop_code.specs.Statements.{block_code}
+use Rattle.loop_code.specs.Loop.{with_index, inside_of, enter_code, settle_code, back_code, again_code, numbers_code, entry_code, iterations_code}
+use Rattle.loop_code.specs.Kernel.{var_code, var_labels, vars_code, vars_labels}
 
 pub var_is : (L : Layout) (R : ℕ → ℕ) (hs hs1 : Homes) (s : Scope) (j b n d from : ℕ) (v : Accumulator) (rest : List DraftEntry) → hs1 ≡ hs → d ≡ counted_x (R j) → from ≡ home L hs1 s.index b v.init
     → value_code L hs1 s (Some v.type) b n v.init (word_code (copy_word d from) rest) ≡ var_code L R hs s j b n v rest

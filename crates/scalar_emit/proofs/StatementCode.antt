@@ -8,9 +8,9 @@ use Rattle.label_fix.specs.Draft.{Drafted}
 use Rattle.label_fix.specs.Emits.{Emits}
 use Rattle.label_fix.specs.DraftRun.{DraftEntry, Branch, Place, Always}
 use Rattle.scalar_words.specs.Layout.{Layout, Homes}
-use Rattle.scalar_values.specs.ValueRegisters.{home}
-use Rattle.scalar_values.specs.Code.{labels, value_code, jump_code}
-use Rattle.scalar_emit.specs.Statements.{let_code, action_labels, block_labels, action_code, block_code}
+use Rattle.value_code.specs.ValueRegisters.{home}
+use Rattle.value_code.specs.Code.{labels, value_code, jump_code}
+use Rattle.loop_code.specs.Statements.{let_code, action_labels, block_labels, action_code, block_code}
 
 -- the code of a statement that has been taken apart
 pub emits_as : (L : Layout) (hs hs1 : Homes) (s : Scope) (exit b : ℕ) (d d2 : Drafted) (a a2 : Action) → hs1 ≡ hs → a ≡ a2 → Emits d d2 (d.labels + action_labels s.index a) (action_code L hs1 s exit b d.labels a) → Emits d d2 (d.labels + action_labels s.index a2) (action_code L hs s exit b d.labels a2)

@@ -6,7 +6,7 @@ ghost use Rattle.a64_code.specs.Table as table;
 ghost use Rattle.kernel_tree.specs.Plain.{name_of, for_loop_of, block_of};
 ghost use Rattle.kernel_tree.specs.Kinds.{BlockKinds};
 ghost use Rattle.kernel_scope.specs.Scopes.{scope_of};
-ghost use Rattle.scalar_emit.specs.Statements.{block_labels, block_code};
+ghost use Rattle.loop_code.specs.Statements.{block_labels, block_code};
 ghost use Rattle.label_fix.specs.Emits.{Emits};
 ghost use Rattle.scalar_words.specs.View.{form_of, homes_of, looses_of};
 ghost use Rattle.scalar_words.specs.Words.{word_code};
@@ -14,7 +14,7 @@ ghost use Rattle.scalar_words.specs.Layout.{loose_in};
 ghost use Rattle.kernel_tree.specs.Items as items;
 ghost use Rattle.kernel_tree.specs.Typing as typing;
 ghost use Rattle.label_fix.specs.DraftRun as plain;
-ghost use Rattle.scalar_emit.specs.Loop as loops;
+ghost use Rattle.loop_code.specs.Loop as loops;
 
 use crate::branches::branch_ahead;
 use crate::numbers::emit_numbers;
@@ -24,12 +24,12 @@ use kernel_scope::{Scope, close, declare, declared_count, visible_count};
 use kernel_tree::fault::Binding;
 use kernel_tree::{Loop, Ty};
 use label_fix::{BranchKind, Draft, Label, Word};
-use scalar_values::instructions::{index, next_iteration};
 use scalar_words::instructions::add_sub;
 use scalar_words::operations::emit_settle;
 use scalar_words::places::Places;
 use scalar_words::{Form, Home, Loose, register_at, register_named};
 use std::alloc::AllocError;
+use value_code::instructions::{index, next_iteration};
 use word_rows::Bits;
 
 // The statements of a loop whose variable is declared, after which the scope and the names are those before them.

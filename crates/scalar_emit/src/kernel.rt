@@ -14,31 +14,31 @@ ghost use Rattle.label_fix.specs.Emits.{Emits};
 ghost use Rattle.scalar_words.specs.Drafts.{AppendsWords};
 ghost use Rattle.scalar_words.specs.View.{homes_of};
 ghost use Rattle.scalar_words.specs.Layout.{with_constants};
-ghost use Rattle.scalar_emit.specs.LoopNumbers as numbers;
+ghost use Rattle.loop_code.specs.LoopNumbers as numbers;
 ghost use Rattle.kernel_tree.specs.Items as items;
 ghost use Rattle.kernel_tree.specs.Typing as typing;
-ghost use Rattle.scalar_emit.specs.Loop as loops;
-ghost use Rattle.scalar_emit.specs.Kernel as kernels;
+ghost use Rattle.loop_code.specs.Loop as loops;
+ghost use Rattle.loop_code.specs.Kernel as kernels;
 ghost use Rattle.scalar_words.specs.KernelRegisters as registers;
 
 use crate::for_loop::{emit_head, emit_loop};
-use crate::loosening::{after_loop, loosen_names};
-use crate::numbers::hold_block;
 use kernel_scope::{Scope, empty, loop_index};
 use kernel_tree::laws::{few_params, right_kinds};
 use kernel_tree::{Answer, Checked, Kernel, Loop, Param, Shape, Var};
 use label_fix::{Draft, Label};
+use loop_code::loosening::{after_loop, loosen_names};
+use loop_code::numbers::hold_block;
 use loop_form::laws::few_items;
 use loop_form::{Item, vars_size_of};
 use reg_assign::Assigned;
 use scalar_values::emit_value;
-use scalar_values::instructions::{exit_call, small};
 use scalar_words::Home;
 use scalar_words::laws::each_has_a_register;
 use scalar_words::names::{declare_names, declare_params, declare_var};
 use scalar_words::operations::{emit_copy, emit_settle};
 use scalar_words::places::{Places, counted_register, places_of};
 use std::alloc::{AllocError, Global};
+use value_code::instructions::{exit_call, small};
 use word_rows::Bits;
 
 // ---- before the loop

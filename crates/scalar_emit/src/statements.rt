@@ -8,9 +8,9 @@ ghost use Rattle.kernel_scope.specs.Scopes.{scope_of};
 ghost use Rattle.label_fix.specs.Emits.{Emits};
 ghost use Rattle.scalar_words.specs.View.{homes_of};
 ghost use Rattle.kernel_tree.specs.Typing as typing;
-ghost use Rattle.scalar_values.specs.Code as code;
-ghost use Rattle.scalar_values.specs.ItemWords as words;
-ghost use Rattle.scalar_emit.specs.Statements as statements;
+ghost use Rattle.value_code.specs.Code as code;
+ghost use Rattle.value_code.specs.ItemWords as words;
+ghost use Rattle.loop_code.specs.Statements as statements;
 
 use crate::branches::{branch_ahead, land};
 use a64_code::Reg;
@@ -20,19 +20,19 @@ use kernel_scope::{
 };
 use kernel_tree::{Expr, Name, Part, Stmt, Ty, UpdateOp, parts};
 use label_fix::{BranchKind, Draft, Label};
-use scalar_values::covers::held_extent;
-use scalar_values::extent::{
-    Extent, binary_extent, binary_joins, converted_extent, extent_at, fits_at, settles, within,
-    within_type,
-};
-use scalar_values::instructions::{index as loop_variable, index_word, store};
 use scalar_values::operations::{emit_offset, want_operator};
-use scalar_values::place::place_of;
 use scalar_values::{emit_jump, emit_loose, emit_side, emit_value};
 use scalar_words::operations::{emit_copy, update_operator};
 use scalar_words::places::Places;
 use scalar_words::{Home, register_at};
 use std::alloc::AllocError;
+use value_code::covers::held_extent;
+use value_code::extent::{
+    Extent, binary_extent, binary_joins, converted_extent, extent_at, fits_at, settles, within,
+    within_type,
+};
+use value_code::instructions::{index as loop_variable, index_word, store};
+use value_code::place::place_of;
 
 // The value of a `let` into its register, where something reads it.
 fn emit_kept(draft: &mut Draft, places: &Places, item: usize, from: Reg) -> Result<(), AllocError>

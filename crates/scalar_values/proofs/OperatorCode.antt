@@ -9,11 +9,11 @@ use Rattle.kernel_tree.specs.Typing.{Scope}
 use Rattle.label_fix.specs.DraftRun.{DraftEntry}
 use Rattle.scalar_words.specs.Layout.{Layout, Homes, reg_of}
 use Rattle.scalar_words.specs.Words.{at_type}
-use Rattle.scalar_values.specs.declared.extent.Extent.{Extent}
-use Rattle.scalar_values.specs.Leaving.{binary_asks, binary_settles}
-use Rattle.scalar_values.specs.ItemWords.{Side, operator_code}
-use Rattle.scalar_values.specs.Code.{labels, added_number, is_fused, side_code, is_led, taken_side, other_home, parts_code, loose_code, sides_code}
-use Rattle.scalar_values.proofs.Fused.{led_is, alone_code}
+use Rattle.value_code.specs.declared.extent.Extent.{Extent}
+use Rattle.value_code.specs.Leaving.{binary_asks, binary_settles}
+use Rattle.value_code.specs.ItemWords.{Side, operator_code}
+use Rattle.value_code.specs.Code.{labels, added_number, is_fused, side_code, is_led, taken_side, other_home, parts_code, loose_code, sides_code}
+use Rattle.value_code.proofs.Fused.{led_is, alone_code}
 
 pub two_is : (L : Layout) (hs : Homes) (s : Scope) (w asked : Extent) (want : Option Ty) (b n : ℕ) (op : BinaryOp) (x y : Term) (side : Side) (leaves : Bool) (d a : ℕ) (rest : List DraftEntry) → asked ≡ binary_asks s want op x y w
     → side ≡ taken_side L hs s op asked want b x y → leaves ≡ binary_settles s want op x y w → d ≡ reg_of L (b + term_size s.index x + term_size s.index y) → a ≡ other_home L hs s op asked want b x y

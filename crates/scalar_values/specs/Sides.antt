@@ -1,7 +1,7 @@
 -- What contracts see of a right side.
 use Rattle.scalar_values.specs.declared.side.Side.{Side}
 use Rattle.scalar_values.specs.declared.side.Side.TheVariants as side
-use Rattle.scalar_values.specs.ItemWords as plain
+use Rattle.value_code.specs.ItemWords as plain
 
 abbrev pub side_view : Side → plain.Side
 side_view (side.Number v) = plain.Number v

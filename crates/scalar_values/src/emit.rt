@@ -7,24 +7,18 @@ ghost use Rattle.kernel_tree.specs.Kinds.{IsValue, IsTruth};
 ghost use Rattle.kernel_scope.specs.Scopes.{scope_of};
 ghost use Rattle.label_fix.specs.Emits.{Emits};
 ghost use Rattle.scalar_words.specs.View.{homes_of};
-ghost use Rattle.scalar_values.specs.ValueRegisters as placed;
+ghost use Rattle.value_code.specs.ValueRegisters as placed;
 ghost use Rattle.scalar_words.specs.Layout as layout;
-ghost use Rattle.scalar_values.specs.Extents.{Whole};
-ghost use Rattle.scalar_values.specs.Code as code;
+ghost use Rattle.value_code.specs.declared.extent.Extent.TheVariants.{Whole};
+ghost use Rattle.value_code.specs.Code as code;
 ghost use Rattle.scalar_values.specs.Sides.{side_view};
 
-use crate::extent::{Extent, converted_extent, within_type};
 use crate::fusion::{is_fused, is_led, part_side};
-use crate::instructions::{
-    added_number, compare_word, compared_number, index as loop_variable, index_word,
-};
-use crate::leaving::{binary_asks, shift_asks, unary_asks};
 use crate::literal::emit_literal;
 use crate::operations::{
     emit_branch, emit_chosen, emit_load, emit_offset, emit_pick, emit_placed, want_cast,
     want_operator, want_shift, want_unary,
 };
-use crate::place::place_of;
 use crate::registers::{home_of, take, take_held};
 use crate::side::Side;
 use a64_code::Reg;
@@ -34,6 +28,12 @@ use label_fix::{Draft, Label};
 use scalar_words::places::Places;
 use scalar_words::{Home, register_at};
 use std::alloc::AllocError;
+use value_code::extent::{Extent, converted_extent, within_type};
+use value_code::instructions::{
+    added_number, compare_word, compared_number, index as loop_variable, index_word,
+};
+use value_code::leaving::{binary_asks, shift_asks, unary_asks};
+use value_code::place::place_of;
 
 /// The code of an expression of which a type is wanted and so much is asked for, and the register of its value.
 #[cycle(terms)]
@@ -274,7 +274,7 @@ fn emit_parts(
 
 // An element, by its index.
 #[cycle(terms)]
-#[tactic(auto, using(crate::proofs::NearOffsets::no_items))]
+#[tactic(auto, using(value_code::proofs::NearOffsets::no_items))]
 fn emit_read(
     draft: &mut Draft,
     places: &Places,
@@ -518,7 +518,7 @@ fn emit_either(
 
 // The code of an index, and the register that holds it.
 #[cycle(terms)]
-#[tactic(auto, using(crate::proofs::IndexCode::index_is))]
+#[tactic(auto, using(value_code::proofs::IndexCode::index_is))]
 fn emit_number(
     draft: &mut Draft,
     places: &Places,

@@ -5,12 +5,9 @@ ghost use Rattle.kernel_tree.specs.Plain.{Operation, term_of};
 ghost use Rattle.kernel_tree.specs.Items.{term_size};
 ghost use Rattle.kernel_scope.specs.Scopes.{scope_of};
 ghost use Rattle.scalar_words.specs.View.{homes_of};
-ghost use Rattle.scalar_values.specs.Code as code;
+ghost use Rattle.value_code.specs.Code as code;
 ghost use Rattle.scalar_values.specs.Sides.{side_view};
 
-use crate::extent::{Extent, fits_at, within_type};
-use crate::instructions::{added_number, shift_count};
-use crate::leaving::{binary_asks, shift_asks};
 use crate::operations::signed_side;
 use crate::registers::{expr_size, home_of};
 use crate::side::Side;
@@ -20,6 +17,9 @@ use kernel_tree::{BinaryOp, Expr, Ty};
 use scalar_words::Home;
 use scalar_words::instructions::is_narrow;
 use scalar_words::places::Places;
+use value_code::extent::{Extent, fits_at, within_type};
+use value_code::instructions::{added_number, shift_count};
+use value_code::leaving::{binary_asks, shift_asks};
 
 // Whether a result is not extended, by whether it would be at types that are narrower than 64 bits.
 fn stays(ends: bool, want: Option<Ty>) -> bool
@@ -185,7 +185,7 @@ pub fn part_side(
 }
 
 /// Whether the left side of an operator, the items of which begin at one, stands in its word.
-#[tactic(auto, unfolding(crate::specs::Code::is_led))]
+#[tactic(auto, unfolding(value_code::specs::Code::is_led))]
 pub fn is_led(
     places: &Places,
     homes: &[Home],

@@ -2,8 +2,8 @@
 
 ghost use Rattle.std.specs.Prelude.{◌≡◌, ◌+◌, ◌<◌, ◌^◌, IfOk, OnOk};
 ghost use Rattle.label_fix.specs.Emits.{Emits};
-ghost use Rattle.scalar_values.specs.ValueRegisters as placed;
-ghost use Rattle.scalar_values.specs.Code as code;
+ghost use Rattle.value_code.specs.ValueRegisters as placed;
+ghost use Rattle.value_code.specs.Code as code;
 
 use crate::registers::take;
 use a64_code::Reg;

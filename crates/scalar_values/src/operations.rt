@@ -7,16 +7,12 @@ ghost use Rattle.label_fix.specs.Finished.{is_plain, has_register};
 ghost use Rattle.a64_code.specs.Table as table;
 ghost use Rattle.kernel_tree.specs.Wrap as wrap;
 ghost use Rattle.label_fix.specs.DraftRun as plain;
-ghost use Rattle.scalar_values.specs.ItemWords as words;
+ghost use Rattle.value_code.specs.ItemWords as words;
 ghost use Rattle.scalar_words.specs.Words as common;
 ghost use Rattle.scalar_words.specs.Layout as layout;
-ghost use Rattle.scalar_values.specs.Code as code;
+ghost use Rattle.value_code.specs.Code as code;
 ghost use Rattle.scalar_values.specs.Sides.{side_view};
 
-use crate::instructions::{
-    compare_word, index, load, product_word, scratch, shift_count, shift_word, shifted, sum_word,
-    turned, zero_test,
-};
 use crate::registers::take;
 use crate::side::Side;
 use a64_code::{AddSubOp, Cond, LogicalOp, Reg, SelectOp, zero};
@@ -27,6 +23,10 @@ use scalar_words::instructions::{add_sub, condition, extending, is_narrow, logic
 use scalar_words::operations::{emit_copy, emit_operation, emit_settle};
 use scalar_words::places::Places;
 use std::alloc::AllocError;
+use value_code::instructions::{
+    compare_word, index, load, product_word, scratch, shift_count, shift_word, shifted, sum_word,
+    turned, zero_test,
+};
 
 // A word whose result is extended in place where it may have left the extended form.
 fn emit_settled(

@@ -5,15 +5,15 @@ ghost use Rattle.kernel_tree.specs.Plain.{name_of, term_of};
 ghost use Rattle.kernel_tree.specs.Items.{term_size, index_items};
 ghost use Rattle.kernel_scope.specs.Scopes.{scope_of};
 ghost use Rattle.scalar_words.specs.View.{homes_of};
-ghost use Rattle.scalar_values.specs.ValueRegisters as placed;
+ghost use Rattle.value_code.specs.ValueRegisters as placed;
 ghost use Rattle.scalar_words.specs.Layout as layout;
 
-use crate::instructions::index_word;
 use a64_code::{Reg, zero};
 use kernel_scope::Scope;
 use kernel_tree::{Expr, Name};
 use scalar_words::places::Places;
 use scalar_words::{Home, Key, register_at};
+use value_code::instructions::index_word;
 
 /// The register of an item's value, after which the next item stands.
 pub fn take(places: &Places, item: &mut usize) -> Reg
@@ -48,7 +48,7 @@ fn number_home(places: &Places, value: i128, item: usize) -> Reg
 
 // The items of an index.
 #[cycle(sizes)]
-#[tactic(auto, using(crate::proofs::IndexCode::no_items, crate::proofs::IndexCode::all_items))]
+#[tactic(auto, using(value_code::proofs::IndexCode::no_items, value_code::proofs::IndexCode::all_items))]
 fn index_size(scope: &Scope, index: &Expr) -> usize
     requires { index_items (scope_of scope.now).index (term_of index.now) < 2 ^ 32 }
     ensures { result ≡ index_items (scope_of scope.now).index (term_of index.now) }

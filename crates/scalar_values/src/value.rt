@@ -7,11 +7,10 @@ ghost use Rattle.kernel_tree.specs.Kinds.{IsValue};
 ghost use Rattle.kernel_scope.specs.Scopes.{scope_of};
 ghost use Rattle.label_fix.specs.Emits.{Emits};
 ghost use Rattle.scalar_words.specs.View.{homes_of};
-ghost use Rattle.scalar_values.specs.ValueRegisters as placed;
-ghost use Rattle.scalar_values.specs.Code as code;
+ghost use Rattle.value_code.specs.ValueRegisters as placed;
+ghost use Rattle.value_code.specs.Code as code;
 
 use crate::emit::emit_loose;
-use crate::extent::Extent;
 use a64_code::Reg;
 use kernel_scope::Scope;
 use kernel_tree::{Expr, Ty};
@@ -19,6 +18,7 @@ use label_fix::Draft;
 use scalar_words::Home;
 use scalar_words::places::Places;
 use std::alloc::AllocError;
+use value_code::extent::Extent;
 
 /// The code of an expression of which a type is wanted, and the register of its value.
 pub fn emit_value(

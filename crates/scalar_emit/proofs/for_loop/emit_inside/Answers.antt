@@ -4,9 +4,9 @@ use Rattle.kernel_tree.specs.Plain.{block_of}
 use Rattle.kernel_tree.specs.Typing.{Scope, after_block}
 use Rattle.kernel_scope.specs.Scopes.{scope_of, closed}
 use Rattle.scalar_words.specs.View.{homes_of}
-use Rattle.scalar_emit.specs.Statements.{block_homes}
-use Rattle.scalar_emit.specs.Loop.{inside_of}
-use Rattle.scalar_emit.proofs.Emission.{homes_back, restored}
+use Rattle.loop_code.specs.Statements.{block_homes}
+use Rattle.loop_code.specs.Loop.{inside_of}
+use Rattle.loop_code.proofs.Emission.{homes_back, restored}
 use Rattle.scalar_emit.proofs.for_loop.emit_inside.Goals as goal
 
 pub returns-clause-scope : goal.returns-clause-scope

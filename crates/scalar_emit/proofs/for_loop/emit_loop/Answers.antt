@@ -4,8 +4,8 @@ use Rattle.kernel_tree.specs.Typing.{Scope}
 use Rattle.kernel_scope.specs.Scopes.{scope_of}
 use Rattle.label_fix.specs.DraftRun.{DraftEntry}
 use Rattle.scalar_words.specs.View.{homes_of}
-use Rattle.scalar_emit.specs.Statements.{block_labels}
-use Rattle.scalar_emit.proofs.Emission.{index_named}
+use Rattle.loop_code.specs.Statements.{block_labels}
+use Rattle.loop_code.proofs.Emission.{index_named}
 use Rattle.scalar_emit.proofs.LoopCode.{loop_is}
 use Rattle.scalar_emit.proofs.for_loop.emit_loop.Goals as goal
 

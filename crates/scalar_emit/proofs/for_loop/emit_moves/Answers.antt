@@ -1,8 +1,8 @@
 use Rattle.std.proofs.Common.{◌+◌, List, ◌++◌, drop, ap, ◌∙◌}
 use Rattle.label_fix.specs.DraftRun.{DraftEntry}
 use Rattle.scalar_words.specs.View.{homes_of, looses_of}
-use Rattle.scalar_emit.specs.Loop.{enter_code}
-use Rattle.scalar_emit.proofs.Emission.{enter_step}
+use Rattle.loop_code.specs.Loop.{enter_code}
+use Rattle.loop_code.proofs.Emission.{enter_step}
 use Rattle.scalar_emit.proofs.for_loop.emit_moves.Goals as goal
 
 pub loop-held-preserved : goal.loop-held-preserved

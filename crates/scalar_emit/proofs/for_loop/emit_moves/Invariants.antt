@@ -1,7 +1,7 @@
 use Rattle.std.proofs.Common.{◌≡◌, List, ◌++◌, drop}
 use Rattle.label_fix.specs.DraftRun as plain
 use Rattle.scalar_words.specs.View.{homes_of, looses_of}
-use Rattle.scalar_emit.specs.Loop.{enter_code}
+use Rattle.loop_code.specs.Loop.{enter_code}
 use Rattle.scalar_emit.proofs.for_loop.emit_moves.Given as goal
 
 abbrev pub invariant-loop-held : goal.invariant-loop-held

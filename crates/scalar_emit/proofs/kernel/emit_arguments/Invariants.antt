@@ -1,7 +1,7 @@
 use Rattle.std.proofs.Common.{◌≡◌, List, ◌++◌, drop}
 use Rattle.kernel_tree.specs.Plain.{parameters_of}
 use Rattle.label_fix.specs.DraftRun as plain
-use Rattle.scalar_emit.specs.Kernel as kernels
+use Rattle.loop_code.specs.Kernel as kernels
 use Rattle.scalar_emit.proofs.kernel.emit_arguments.Given as goal
 
 abbrev pub invariant-loop-param : goal.invariant-loop-param

@@ -5,8 +5,8 @@ use Rattle.kernel_tree.specs.Plain.{program_of}
 use Rattle.kernel_tree.specs.Items.{size_of}
 use Rattle.loop_form.specs.View.{program}
 use Rattle.scalar_words.specs.KernelRegisters.{register_in}
-use Rattle.scalar_emit.specs.Kernel.{begin_labels, begin_code}
-use Rattle.scalar_emit.proofs.Counts.{begin_words, words_added}
+use Rattle.loop_code.specs.Kernel.{begin_labels, begin_code}
+use Rattle.loop_code.proofs.Counts.{begin_words, words_added}
 use Rattle.scalar_emit.proofs.kernel.emit_begin.Goals as goal
 
 pub returns-clause-emits : goal.returns-clause-emits

@@ -7,9 +7,9 @@ use Rattle.kernel_tree.specs.Typing.{Scope, empty, after_params}
 use Rattle.kernel_scope.specs.Scopes.{scope_of}
 use Rattle.label_fix.specs.DraftRun.{DraftEntry, Put}
 use Rattle.scalar_words.specs.KernelRegisters.{register_in, param_homes}
-use Rattle.scalar_emit.specs.Kernel.{zero_index}
+use Rattle.loop_code.specs.Kernel.{zero_index}
 use Rattle.scalar_words.specs.View.{homes_of}
-use Rattle.scalar_emit.proofs.Emission.{begin_is, begin_count}
+use Rattle.loop_code.proofs.Emission.{begin_is, begin_count}
 use Rattle.scalar_words.proofs.Layouts.{count_params}
 use Rattle.scalar_emit.proofs.kernel.emit_first.Goals as goal
 

@@ -8,8 +8,8 @@ use Rattle.scalar_words.specs.Layout.{with_constants}
 use Rattle.scalar_words.specs.KernelRegisters.{register_in}
 use Rattle.scalar_words.proofs.Layouts.{count_params}
 use Rattle.scalar_words.specs.View.{homes_of}
-use Rattle.scalar_emit.specs.Loop.{bare}
-use Rattle.scalar_emit.proofs.Emission.{known_index, numbers_are, for_loop_is, for_loop_count, held_is, loop_ends, loop_room, answer_room, at_end}
+use Rattle.loop_code.specs.Loop.{bare}
+use Rattle.loop_code.proofs.Emission.{known_index, numbers_are, for_loop_is, for_loop_count, held_is, loop_ends, loop_room, answer_room, at_end}
 use Rattle.scalar_emit.proofs.kernel.emit_for_loop.Goals as goal
 
 pub emit_loop-requires-clause-kinds : goal.emit_loop-requires-clause-kinds

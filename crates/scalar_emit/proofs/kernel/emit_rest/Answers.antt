@@ -6,7 +6,7 @@ use Rattle.kernel_scope.specs.Scopes.{scope_of}
 use Rattle.label_fix.specs.DraftRun.{DraftEntry}
 use Rattle.scalar_words.specs.KernelRegisters.{register_in}
 use Rattle.scalar_words.specs.View.{homes_of}
-use Rattle.scalar_emit.proofs.Emission.{bare_code, bare_count, answer_room, at_start}
+use Rattle.loop_code.proofs.Emission.{bare_code, bare_count, answer_room, at_start}
 use Rattle.scalar_emit.proofs.kernel.emit_rest.Goals as goal
 
 pub emit_answer-requires-clause-kind : goal.emit_answer-requires-clause-kind

@@ -6,8 +6,8 @@ use Rattle.kernel_tree.specs.Plain.{accumulators_of, program_of}
 use Rattle.kernel_tree.specs.Items.{loop_index, vars_size, size_of}
 use Rattle.loop_form.specs.View.{program}
 use Rattle.scalar_words.specs.KernelRegisters.{register_in}
-use Rattle.scalar_emit.specs.Kernel.{scalar_labels, scalar_code}
-use Rattle.scalar_emit.proofs.Counts.{scalar_words, words_added}
+use Rattle.loop_code.specs.Kernel.{scalar_labels, scalar_code}
+use Rattle.loop_code.proofs.Counts.{scalar_words, words_added}
 use Rattle.scalar_words.proofs.Layouts.{count_params}
 use Rattle.scalar_emit.proofs.kernel.emit_scalar.Goals as goal
 

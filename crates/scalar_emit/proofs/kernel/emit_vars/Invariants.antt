@@ -5,7 +5,7 @@ use Rattle.kernel_tree.specs.Kinds.{VarsKinds}
 use Rattle.kernel_scope.specs.Scopes.{scope_of}
 use Rattle.scalar_words.specs.View.{homes_of}
 use Rattle.label_fix.specs.DraftRun as plain
-use Rattle.scalar_emit.specs.Kernel as kernels
+use Rattle.loop_code.specs.Kernel as kernels
 use Rattle.scalar_words.specs.KernelRegisters as registers
 use Rattle.scalar_emit.proofs.kernel.emit_vars.Given as goal
 

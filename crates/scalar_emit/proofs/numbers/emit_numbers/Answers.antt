@@ -2,8 +2,8 @@ use Rattle.std.proofs.Common.{◌+◌, List, ◌++◌, drop, ap, ◌∙◌}
 use Rattle.label_fix.specs.DraftRun.{DraftEntry}
 use Rattle.loop_form.proofs.LoopLists.{next-entry}
 use Rattle.scalar_words.specs.View.{constants_of}
-use Rattle.scalar_emit.specs.Loop.{numbers_code}
-use Rattle.scalar_emit.proofs.Emission.{number_step}
+use Rattle.loop_code.specs.Loop.{numbers_code}
+use Rattle.loop_code.proofs.Emission.{number_step}
 use Rattle.scalar_emit.proofs.numbers.emit_numbers.Goals as goal
 
 pub loop-constant-preserved : goal.loop-constant-preserved

@@ -1,7 +1,7 @@
 use Rattle.std.proofs.Common.{◌≡◌, List, ◌++◌, drop}
 use Rattle.label_fix.specs.DraftRun as plain
 use Rattle.scalar_words.specs.View.{constants_of}
-use Rattle.scalar_emit.specs.Loop.{numbers_code}
+use Rattle.loop_code.specs.Loop.{numbers_code}
 use Rattle.scalar_emit.proofs.numbers.emit_numbers.Given as goal
 
 abbrev pub invariant-loop-constant : goal.invariant-loop-constant

@@ -8,9 +8,9 @@ use Rattle.kernel_scope.specs.Scopes.{scope_of, kept}
 use Rattle.kernel_scope.proofs.Growth.{kept-block}
 use Rattle.scalar_words.specs.View.{homes_of}
 use Rattle.label_fix.specs.DraftRun.{DraftEntry}
-use Rattle.scalar_emit.specs.Statements.{action_code}
-use Rattle.scalar_emit.proofs.Emission.{homes_back}
-use Rattle.scalar_emit.proofs.StatementWalks.{next_statement, emits_on}
+use Rattle.loop_code.specs.Statements.{action_code}
+use Rattle.loop_code.proofs.Emission.{homes_back}
+use Rattle.loop_code.proofs.StatementWalks.{next_statement, emits_on}
 use Rattle.scalar_emit.proofs.StatementCode.{emits_as, if_is, if_count, if_else_is, if_else_count, first_given, second_given, first_room, second_room}
 use Rattle.scalar_emit.proofs.statements.+statements.Goals as goal
 

@@ -8,7 +8,7 @@ use Rattle.kernel_scope.specs.Scopes.{scope_of}
 use Rattle.scalar_words.specs.View.{homes_of}
 use Rattle.kernel_tree.specs.Typing as typing
 use Rattle.label_fix.specs.DraftRun as plain
-use Rattle.scalar_emit.specs.Statements as statements
+use Rattle.loop_code.specs.Statements as statements
 use Rattle.scalar_emit.proofs.statements.+statements.Given as goal
 
 -- what is left of the statements leads from here to where they all lead

@@ -16,11 +16,11 @@ use Rattle.kernel_tree.specs.Typing.{first}
 use Rattle.std.specs.Prelude.{Option, None, Some, option_map}
 use Rattle.kernel_tree.specs.declared.ops.Ty.{Ty}
 use Rattle.scalar_values.specs.Sides.{side_view}
-use Rattle.scalar_values.specs.Code.{labels, added_number, IsHeld, loose_code, jump_code, one_of_code}
-use Rattle.scalar_values.specs.Extents.{Whole}
+use Rattle.value_code.specs.Code.{labels, added_number, IsHeld, loose_code, jump_code, one_of_code}
+use Rattle.value_code.specs.declared.extent.Extent.TheVariants.{Whole}
 use Rattle.scalar_values.proofs.OperatorCode.{two_is, led_sides, straight_sides}
-use Rattle.scalar_values.proofs.TermCode.{unary_is, shift_is, cast_is, parts_binary, operation_labels, parts_shift, parts_cast, compare_is, compared_labels, chosen_is, chosen_labels, two_more, compared_size, literal_item, literal_labels, held_code, side_number, side_parts, side_whole, placed_is, placed_labels, computed_is, both_is, either_is, joined_labels, choice_is, choice_labels, offset_code, offset_labels, computed_labels, on_ok, on_and}
-use Rattle.scalar_values.proofs.IndexCode.{index_is}
+use Rattle.value_code.proofs.TermCode.{unary_is, shift_is, cast_is, parts_binary, operation_labels, parts_shift, parts_cast, compare_is, compared_labels, chosen_is, chosen_labels, two_more, compared_size, literal_item, literal_labels, held_code, side_number, side_parts, side_whole, placed_is, placed_labels, computed_is, both_is, either_is, joined_labels, choice_is, choice_labels, offset_code, offset_labels, computed_labels, on_ok, on_and}
+use Rattle.value_code.proofs.IndexCode.{index_is}
 use Rattle.scalar_values.proofs.emit.+terms.Goals as goal
 use Rattle.scalar_values.proofs.emit.+terms.Goals.{emit_both-then-sense, emit_both-else-sense, emit_either-then-sense, emit_either-else-sense}
 

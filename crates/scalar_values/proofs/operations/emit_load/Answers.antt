@@ -5,8 +5,8 @@ use Rattle.kernel_tree.specs.declared.ops.Ty.{Ty}
 use Rattle.label_fix.specs.Draft.{word_view}
 use Rattle.label_fix.specs.DraftRun.{DraftEntry, Put}
 use Rattle.scalar_words.specs.Layout.{reg_of}
-use Rattle.scalar_values.specs.ItemWords.{load, load_code}
-use Rattle.scalar_values.proofs.TermCode.{on_and}
+use Rattle.value_code.specs.ItemWords.{load, load_code}
+use Rattle.value_code.proofs.TermCode.{on_and}
 use Rattle.scalar_values.proofs.operations.emit_load.Goals as goal
 
 load_is : (want : Option Ty) (t : Ty) (word : Listed) (d e p r : ℕ) (rest : List DraftEntry) → want ≡ Some t → word ≡ load t d p r → d ≡ e → Put word ∷ rest ≡ load_code want e p r rest

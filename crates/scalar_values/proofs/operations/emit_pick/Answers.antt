@@ -3,8 +3,8 @@ use Rattle.std.specs.Prelude.{◌∷◌}
 use Rattle.label_fix.specs.DraftRun.{DraftEntry, Branch, Place, Always}
 use Rattle.scalar_words.specs.Layout.{reg_of}
 use Rattle.scalar_words.specs.Words.{word_code, copy_word}
-use Rattle.scalar_values.specs.ItemWords.{pick_code}
-use Rattle.scalar_values.proofs.TermCode.{on_and}
+use Rattle.value_code.specs.ItemWords.{pick_code}
+use Rattle.value_code.proofs.TermCode.{on_and}
 use Rattle.scalar_values.proofs.operations.emit_pick.Goals as goal
 
 pick_is : (d e a b other end : ℕ) (rest : List DraftEntry) → d ≡ e → end ≡ other + 1 → word_code (copy_word d a) (Branch Always end ∷ Place other ∷ word_code (copy_word d b) (Place end ∷ rest)) ≡ pick_code e a b other rest

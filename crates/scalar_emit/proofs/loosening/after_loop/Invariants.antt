@@ -1,9 +1,0 @@
-use Rattle.std.proofs.Common.{◌≡◌, ◌++◌, drop}
-use Rattle.scalar_words.specs.View.{looses_of}
-use Rattle.scalar_emit.specs.Loosening as loosening
-use Rattle.scalar_emit.proofs.loosening.after_loop.Given as goal
-
-abbrev pub invariant-loop-held : goal.invariant-loop-held
-invariant-loop-held l = record {
-  kept : looses_of l.kept.items ++ loosening.after_loop (looses_of (drop l.held-index l.loose)) ≡ loosening.after_loop (looses_of l.loose);
-}
