@@ -8,7 +8,7 @@ use Rattle.kernel_tree.specs.Typing.{Local, local, has_name}
 use Rattle.kernel_meaning.specs.Eval.{Named, Names, is_named, value_of, value_at}
 use Rattle.kernel_meaning.specs.Iterate.{named, with_name, assigned}
 use Rattle.kernel_eval.specs.Slots.{Slots, slot_at}
-use Rattle.kernel_eval.specs.Resolve.{most_slots, place}
+use Rattle.kernel_plan.specs.Resolve.{most_slots, place}
 
 -- each visible name has its value in the slot of its place
 abbrev pub AreInSlots : List Local → Names → Slots → Type 0

@@ -7,7 +7,8 @@ use Rattle.kernel_meaning.specs.Ends.{BlockEnd, Going, go_on}
 use Rattle.kernel_meaning.specs.Eval.{value_of}
 use Rattle.kernel_meaning.specs.ScalarRun.{argument, argument_names}
 use Rattle.kernel_eval.specs.Slots.{Slots}
-use Rattle.kernel_eval.specs.Plans.{LoopPlan, slot_iteration, slot_iterations}
+use Rattle.kernel_plan.specs.Plans.{LoopPlan}
+use Rattle.kernel_eval.specs.SlotRuns.{slot_iteration, slot_iterations}
 
 pub iterations_step : (l : LoopPlan) (count at : ℕ) (m : Memory) (vs : Slots) (stand : BlockEnd Slots) → at < count → stand ≡ slot_iteration l at m vs → go_on stand at (slot_iterations l (count - (at + 1)) (at + 1)) ≡ slot_iterations l (count - at) at m vs
 unfolding slot_iterations

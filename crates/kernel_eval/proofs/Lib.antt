@@ -1,6 +1,4 @@
-pub mod StepLists
-pub mod ListWalks
-pub mod SameNames
+pub mod Branches
 pub mod HeldSlots
 pub mod ResolvedValues
 pub mod ResolvedStatements

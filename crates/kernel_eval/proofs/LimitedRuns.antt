@@ -14,8 +14,8 @@ use Rattle.kernel_meaning.specs.ScalarRun.{iterations, bound_of, Run, End, Fault
 use Rattle.kernel_meaning.specs.Answers.{IsOutcome}
 use Rattle.kernel_meaning.specs.declared.outcome.ScalarOutcome.{ScalarOutcome}
 use Rattle.kernel_meaning.specs.declared.outcome.ScalarOutcome.TheVariants as outcome
-use Rattle.kernel_eval.specs.Resolve.{most_slots}
-use Rattle.kernel_eval.specs.Plans.{Ended, Cut, limited_of}
+use Rattle.kernel_plan.specs.Resolve.{most_slots}
+use Rattle.kernel_eval.specs.SlotRuns.{Ended, Cut, limited_of}
 use Rattle.kernel_eval.proofs.ResolvedStatements.{action_lets, block_lets, otherwise_lets}
 use Rattle.kernel_eval.proofs.ResolvedRuns.{finish_limited, loop_limited, for_loop_limited, run_limited, for_loop_lets}
 use Rattle.kernel_meaning.proofs.RunsFrom.{Ends, GoesOn, LeftAt, FailedAt, iterations-ends, further, iterations-further}

@@ -13,8 +13,9 @@ use Rattle.kernel_meaning.specs.Eval.{Names, value_of, value}
 use Rattle.kernel_meaning.specs.Iterate.{with_name, do_block, iterate}
 use Rattle.kernel_meaning.specs.ScalarRun.{argument_names, initial, iterations, bound_of, Fault, returned, ended, closed, started}
 use Rattle.kernel_eval.specs.Slots.{Slots, set_slot, then_go, do_tasks}
-use Rattle.kernel_eval.specs.Resolve.{most_slots, resolved_block}
-use Rattle.kernel_eval.specs.Plans.{resolved_vars, resolved_loop, resolved_for_loop, resolved_answer, planned, filled, slot_iteration, slot_iterations, slot_answer, slot_closed, Limited, Ended, Cut, slot_finish, slot_loop, slot_for_loop, slot_begun, slot_run}
+use Rattle.kernel_plan.specs.Resolve.{most_slots, resolved_block}
+use Rattle.kernel_plan.specs.Plans.{resolved_vars, resolved_loop, resolved_for_loop, resolved_answer, planned}
+use Rattle.kernel_eval.specs.SlotRuns.{filled, slot_iteration, slot_iterations, slot_answer, slot_closed, Limited, Ended, Cut, slot_finish, slot_loop, slot_for_loop, slot_begun, slot_run}
 use Rattle.kernel_eval.proofs.HeldSlots.{AreInSlots, value-held, named-held, held-length}
 use Rattle.kernel_eval.proofs.ResolvedValues.{same}
 use Rattle.kernel_meaning.proofs.Extends.{Extends, extends_one, extends_on, visible_block}

@@ -17,8 +17,8 @@ use Rattle.kernel_meaning.specs.Operators.{word, binary_value, operator_of}
 use Rattle.kernel_meaning.specs.Eval.{Names, value_at, address, byte_count, iteration, element_number, on_both, value, holds}
 use Rattle.kernel_meaning.specs.Iterate.{with_name, assigned, cut, define, update, write, put, choose, leave, then_do, act, do_block, do_otherwise}
 use Rattle.kernel_eval.specs.Slots.{Slots, slot_at, stream_number, tree_value, set_slot, write as write_slots, store, branch, quit, then_go, do_task, do_tasks}
-use Rattle.kernel_eval.specs.Trees.{Tree}
-use Rattle.kernel_eval.specs.Resolve.{most_slots, slot_of, index_slot, let_slot, store_task, resolved, resolved_action, resolved_block, resolved_otherwise}
+use Rattle.kernel_plan.specs.Trees.{Tree}
+use Rattle.kernel_plan.specs.Resolve.{most_slots, slot_of, index_slot, let_slot, store_task, resolved, resolved_action, resolved_block, resolved_otherwise}
 use Rattle.kernel_eval.proofs.HeldSlots.{AreInSlots, value-held, assigned-held, named-held, cut-held, held-length}
 use Rattle.kernel_eval.proofs.ResolvedValues.{same, stream-alike, address-word}
 use Rattle.kernel_meaning.proofs.Extends.{Extends, extends_none, extends_on, visible_after, visible_block}

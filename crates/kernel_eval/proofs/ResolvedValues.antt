@@ -11,9 +11,9 @@ use Rattle.kernel_tree.specs.Typing.{Scope, Local, own, index_type, side_type, a
 use Rattle.guest_types.specs.Memory.{Memory, loaded}
 use Rattle.kernel_meaning.specs.Operators.{word, unary_value, binary_value, shift_value, compare_on}
 use Rattle.kernel_meaning.specs.Eval.{Names, value_at, address, byte_count, read_value, read_element, iteration, element_number, on_both, chosen, and_then, or_else, value, holds}
-use Rattle.kernel_eval.specs.Trees.{Tree}
+use Rattle.kernel_plan.specs.Trees.{Tree}
 use Rattle.kernel_eval.specs.Slots.{Slots, slot_at, stream_number, tree_value, tree_holds}
-use Rattle.kernel_eval.specs.Resolve.{most_slots, index_slot, read_tree, resolved}
+use Rattle.kernel_plan.specs.Resolve.{most_slots, index_slot, read_tree, resolved}
 use Rattle.kernel_meaning.proofs.Residues.{word-below, word-mul, word-add}
 use Rattle.kernel_eval.proofs.HeldSlots.{AreInSlots, value-held}
 

@@ -1,4 +1,2 @@
-pub mod Trees
 pub mod Slots
-pub mod Resolve
-pub mod Plans
+pub mod SlotRuns

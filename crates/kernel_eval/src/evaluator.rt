@@ -6,11 +6,11 @@ ghost use Rattle.kernel_tree.specs.Checked.{kernel_of};
 ghost use Rattle.kernel_meaning.specs.ScalarRun.{scalar_run, first_leave};
 ghost use Rattle.kernel_meaning.specs.Answers.{IsOutcome};
 
-use crate::kernels::resolve_kernel;
 use crate::run::run;
 use crate::start::start;
 use guest_types::guest::GuestMemory;
 use kernel_meaning::ScalarOutcome;
+use kernel_plan::resolve_kernel;
 use kernel_tree::Checked;
 use std::alloc::{AllocError, Global};
 

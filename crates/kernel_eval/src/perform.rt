@@ -1,7 +1,7 @@
 //! Does resolved statements.
 
 ghost use Rattle.std.specs.Prelude.{◌≡◌};
-ghost use Rattle.kernel_eval.specs.Trees.{task_of, tasks_of};
+ghost use Rattle.kernel_plan.specs.Trees.{task_of, tasks_of};
 ghost use Rattle.kernel_eval.specs.Slots as meaning;
 ghost use Rattle.kernel_eval.specs.Slots.{block_end_of};
 ghost use Rattle.guest_types.specs.Memory.{Memory};
@@ -9,9 +9,9 @@ ghost use Rattle.guest_types.specs.Memory.{Memory};
 use crate::block_end::BlockEnd;
 use crate::element::write;
 use crate::operate::stream_number;
-use crate::step::Step;
 use crate::value::{holds, slot_at, value};
 use guest_types::guest::GuestMemory;
+use kernel_plan::Step;
 
 fn set_slot(slots: &mut [i128], slot: usize, value: Option<i128>) -> BlockEnd
     ensures { (memory : Memory) → block_end_of result memory slots.new ≡ meaning.set_slot slot memory slots.old value }

@@ -3,19 +3,19 @@
 ghost use Rattle.std.specs.Prelude.{◌≡◌, option_map, slice_set};
 ghost use Rattle.kernel_meaning.specs.Operators as operators;
 ghost use Rattle.kernel_meaning.specs.ScalarRun as running;
-ghost use Rattle.kernel_eval.specs.Trees.{tree_of};
+ghost use Rattle.kernel_plan.specs.Trees.{tree_of};
 ghost use Rattle.kernel_eval.specs.Slots as slots_of;
-ghost use Rattle.kernel_eval.specs.Plans as plans;
-ghost use Rattle.kernel_eval.specs.Plans.{limited_of, loop_plan_of, planned_of, loop_state_of};
+ghost use Rattle.kernel_eval.specs.SlotRuns as runs;
+ghost use Rattle.kernel_plan.specs.Plans.{loop_plan_of, planned_of};
+ghost use Rattle.kernel_eval.specs.SlotRuns.{limited_of, loop_state_of};
 
 use crate::block_end::BlockEnd;
 use crate::loop_state::{At, LoopState};
-use crate::node::Node;
 use crate::perform::perform;
-use crate::plan::{Plan, ResolvedLoop};
 use crate::value::{slot_at, value};
 use guest_types::guest::GuestMemory;
 use kernel_meaning::{ScalarOutcome, word};
+use kernel_plan::{Node, Plan, ResolvedLoop};
 
 fn put(slots: &mut [i128], slot: usize, value: i128)
     ensures { slots.new ≡ slice_set slots.old slot value }
@@ -33,7 +33,7 @@ fn follow<M: GuestMemory>(
     slots: &mut [i128],
 ) -> LoopState
     ensures { loop_state_of result (M.memory memory.new) slots.new
-        ≡ plans.slot_iterations (loop_plan_of resolved.now) count 0 (M.memory memory.old) slots.old }
+        ≡ runs.slot_iterations (loop_plan_of resolved.now) count 0 (M.memory memory.old) slots.old }
 {
     for at in 0..count {
         put(slots, resolved.index, at as i128);
@@ -53,8 +53,8 @@ fn ended<M: GuestMemory>(
     slots: &[i128],
     begun: u64,
 ) -> ScalarOutcome
-    ensures { limited_of result (M.memory memory.now) ≡ plans.Ended (running.ended (M.memory memory.now) begun
-        (plans.slot_answer (option_map tree_of answer.now) (M.memory memory.now) slots.now)) }
+    ensures { limited_of result (M.memory memory.now) ≡ runs.Ended (running.ended (M.memory memory.now) begun
+        (runs.slot_answer (option_map tree_of answer.now) (M.memory memory.now) slots.now)) }
 {
     match answer {
         None => ScalarOutcome::End { result: 0, begun },
@@ -78,7 +78,7 @@ fn close<M: GuestMemory>(
     begun: u64,
 ) -> ScalarOutcome
     ensures { limited_of result (M.memory memory.now)
-        ≡ plans.Ended (plans.slot_closed (option_map tree_of answer.now) index
+        ≡ runs.Ended (runs.slot_closed (option_map tree_of answer.now) index
         (M.memory memory.now) slots.old done begun) }
 {
     put(slots, index, done as i128);
@@ -93,7 +93,7 @@ fn run_loop<M: GuestMemory>(
     slots: &mut [i128],
 ) -> ScalarOutcome
     ensures { limited_of result (M.memory memory.new)
-        ≡ plans.slot_loop (option_map tree_of answer.now) (loop_plan_of resolved.now) limit
+        ≡ runs.slot_loop (option_map tree_of answer.now) (loop_plan_of resolved.now) limit
         (operators.word (slots_of.slot_at slots.old resolved.now.bound)) (M.memory memory.old) slots.old }
 {
     let count = word(slot_at(slots, resolved.bound));
@@ -127,7 +127,7 @@ pub fn run<M: GuestMemory>(
     slots: &mut [i128],
 ) -> ScalarOutcome
     ensures { limited_of result (M.memory memory.new)
-        ≡ plans.slot_run (planned_of plan.now) limit (M.memory memory.old) slots.old }
+        ≡ runs.slot_run (planned_of plan.now) limit (M.memory memory.old) slots.old }
 {
     match perform(&plan.start, memory, slots) {
         BlockEnd::Next => match &plan.for_loop {

@@ -4,10 +4,10 @@ ghost use Rattle.std.specs.Prelude.{◌≡◌, IfOk, map, slice_index};
 ghost use Rattle.kernel_tree.specs.Plain.{parameters_of};
 ghost use Rattle.kernel_meaning.specs.Eval.{value_of};
 ghost use Rattle.kernel_meaning.specs.ScalarRun as running;
-ghost use Rattle.kernel_eval.specs.Plans.{filled};
+ghost use Rattle.kernel_eval.specs.SlotRuns.{filled};
 
-use crate::names::MOST_SLOTS;
 use kernel_meaning::wrap;
+use kernel_plan::MOST_SLOTS;
 use kernel_tree::{Param, Shape};
 use std::alloc::{AllocError, Global};
 

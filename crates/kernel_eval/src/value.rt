@@ -1,13 +1,13 @@
 //! Values of resolved expressions.
 
 ghost use Rattle.std.specs.Prelude.{◌≡◌};
-ghost use Rattle.kernel_eval.specs.Trees.{tree_of};
+ghost use Rattle.kernel_plan.specs.Trees.{tree_of};
 ghost use Rattle.kernel_eval.specs.Slots as meaning;
 
 use crate::element::read;
-use crate::node::Node;
 use crate::operate::{binary, cast, compare, select, shift, stream_number, unary};
 use guest_types::guest::GuestMemory;
+use kernel_plan::Node;
 
 /// The value of a slot, and 0 past the last one.
 #[inline(always)]

@@ -7,9 +7,9 @@ use Rattle.kernel_tree.specs.declared.mark.Mark.TheVariants as mark
 use Rattle.kernel_tree.specs.TextToken.{TextToken, IsName, IsNumber, IsType, IsCompare, IsUpdate, IsMark}
 use Rattle.kernel_tree.specs.Plain.{Term, Action, Define, Put, Update, Choose, Leave, Block, Done, Then, Nothing, Else}
 use Rattle.kernel_tree.specs.Grammar.{Spells, SpellsType, untyped, typed, SpellsAction, define, put, update, choose, choose_else, leave, SpellsBlock, done, then, beginning_of_mark}
-use Rattle.kernel_syntax.specs.Reading.{◌>>=◌, given, following, past, name_at, type_at, update_front, unary_at, chain_at}
+use Rattle.expression_syntax.specs.Reading.{◌>>=◌, given, following, past, name_at, type_at, update_front, unary_at, chain_at}
 use Rattle.kernel_syntax.specs.Statements.{Statement, Statements, term_at, type_part, define_at, put_at, update_at, target_at, leave_at, choose_by, begun_by, statement_by, block_by, block_at}
-use Rattle.kernel_syntax.proofs.Sound.{bind_ok, ok_is, not_err, after-is, following-is, name-is, type-is, update-is, reads_spells, before_spells}
+use Rattle.expression_syntax.proofs.Sound.{bind_ok, ok_is, not_err, after-is, following-is, name-is, type-is, update-is, reads_spells, before_spells}
 
 -- an expression and the mark after it
 pub term_spells : (m : Mark) (words : List TextToken) (x : Term × List TextToken) → term_at m words ≡ Ok x → Spells 10 words x.0 (IsMark m ∷ x.1)

@@ -7,11 +7,11 @@ use Rattle.kernel_tree.specs.declared.mark.Beginning.{Beginning}
 use Rattle.kernel_tree.specs.Grammar.{beginning_of_mark}
 use Rattle.kernel_tree.specs.TextToken.{TextToken}
 use Rattle.kernel_tree.specs.Plain.{Block, Done, Then, action_of, block_of}
-use Rattle.kernel_syntax.specs.declared.fault.Stop.{Stop}
-use Rattle.kernel_syntax.specs.Reading.{◌>>=◌, Fails, given, following, mark_at}
+use Rattle.expression_syntax.specs.declared.stop.Stop.{Stop}
+use Rattle.expression_syntax.specs.Reading.{◌>>=◌, Fails, given, following, mark_at}
 use Rattle.kernel_syntax.specs.Statements.{Statement, Statements, block_by, begun_by, statement_by, block_at}
-use Rattle.kernel_syntax.proofs.Chain.{fails_on}
-use Rattle.kernel_syntax.proofs.Sound.{mark-is}
+use Rattle.expression_syntax.proofs.Chain.{fails_on}
+use Rattle.expression_syntax.proofs.Sound.{mark-is}
 
 -- statements in front of a block
 abbrev pub before : List Stmt → Block → Block

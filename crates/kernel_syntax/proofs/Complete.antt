@@ -11,9 +11,9 @@ use Rattle.kernel_tree.specs.declared.mark.Operator.TheVariants.{Joined, Compare
 use Rattle.kernel_tree.specs.TextToken.{TextToken, IsNumber, IsType, IsMark}
 use Rattle.kernel_tree.specs.Plain.{Term}
 use Rattle.kernel_tree.specs.Grammar.{Spells, number, name, element, group, pair, absolute, choice, negative, prefix, up, conversion, shift, operation, comparison, operator_of, operator_of_mark, level_of}
-use Rattle.kernel_syntax.specs.Reading.{following, past, type_at, count_at, operator_at, chain_at, term_before, name_by, pair_by, absolute_by, choice_by, signed_by, unary_at}
-use Rattle.kernel_syntax.proofs.Chain.{Goes, begins, ends, goes_joined, goes_shifted, goes_as, ends_compared}
-use Rattle.kernel_syntax.proofs.Sound.{joined_is_no_8, other_is_no_8}
+use Rattle.expression_syntax.specs.Reading.{following, past, type_at, count_at, operator_at, chain_at, term_before, name_by, pair_by, absolute_by, choice_by, signed_by, unary_at}
+use Rattle.expression_syntax.proofs.Chain.{Goes, begins, ends, goes_joined, goes_shifted, goes_as, ends_compared}
+use Rattle.expression_syntax.proofs.Sound.{joined_is_no_8, other_is_no_8}
 
 -- nothing at the front goes on with an expression of a level
 pub record Stops (level : ℕ) (rest : List TextToken) : Type 0 where

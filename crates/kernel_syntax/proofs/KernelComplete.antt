@@ -6,10 +6,10 @@ use Rattle.kernel_tree.specs.TextToken.{TextToken, IsType, IsMark}
 use Rattle.kernel_tree.specs.Plain.{Term, Action, Block, Parameter, Accumulator, PlainLoop, Program}
 use Rattle.kernel_tree.specs.Grammar.{Spells, SpellsType, untyped, typed, SpellsAction, define, put, update, choose, choose_else, leave, SpellsBlock, done, then, SpellsParam, scalar, array, SpellsSome, last, more, SpellsParams, none, some, SpellsVars, no_var, var, SpellsLoop, no_loop, loop, Tree, procedure, function}
 use Rattle.kernel_tree.proofs.OneTerm.{shorter}
-use Rattle.kernel_syntax.specs.Reading.{following, past, name_at, type_at}
+use Rattle.expression_syntax.specs.Reading.{following, past, name_at, type_at}
 use Rattle.kernel_syntax.specs.Statements.{term_at, type_part, define_at, put_at, update_at, target_at, leave_at, choose_by, statement_by, block_by, block_at}
 use Rattle.kernel_syntax.specs.Headers.{shape_at, param_at, some_at, params_at, var_at, vars_by, vars_at, zero_at, for_loop_at, loop_at, tail_at, answer_by, kernel_at}
-use Rattle.kernel_syntax.proofs.Sound.{not_err}
+use Rattle.expression_syntax.proofs.Sound.{not_err}
 use Rattle.kernel_syntax.proofs.Complete.{spells_before}
 
 pub semicolon_reads : (words : List TextToken) (e : Term) (rest : List TextToken) → Spells 10 words e (IsMark mark.Semicolon ∷ rest) → term_at mark.Semicolon words ≡ Ok (e, rest)

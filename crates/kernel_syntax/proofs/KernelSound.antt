@@ -9,10 +9,10 @@ use Rattle.kernel_tree.specs.declared.mark.Mark.TheVariants as mark
 use Rattle.kernel_tree.specs.TextToken.{TextToken, IsName, IsNumber, IsType, IsMark}
 use Rattle.kernel_tree.specs.Plain.{Term, Parameter, Accumulator, PlainLoop, Returned, Program}
 use Rattle.kernel_tree.specs.Grammar.{Spells, SpellsBlock, SpellsParam, scalar, array, SpellsSome, last, more, SpellsParams, none, some, SpellsVars, no_var, var, SpellsLoop, no_loop, loop, Tree, procedure, function, number_at}
-use Rattle.kernel_syntax.specs.Reading.{◌>>=◌, given, following, past, name_at, type_at}
+use Rattle.expression_syntax.specs.Reading.{◌>>=◌, given, following, past, name_at, type_at}
 use Rattle.kernel_syntax.specs.Statements.{term_at, block_at}
 use Rattle.kernel_syntax.specs.Headers.{Read, shape_at, param_at, some_at, params_at, var_at, vars_by, vars_at, zero_at, for_loop_at, loop_at, tail_at, answer_by, alone, kernel_at}
-use Rattle.kernel_syntax.proofs.Sound.{bind_ok, bind_then, ok_is, not_err, cond_is, after-is, following-is, name-is, type-is, number-is, until_spells}
+use Rattle.expression_syntax.proofs.Sound.{bind_ok, bind_then, ok_is, not_err, cond_is, after-is, following-is, name-is, type-is, number-is, until_spells}
 use Rattle.kernel_syntax.proofs.ActionSound.{term_spells, block_spells}
 
 -- what stands after the colon of a parameter

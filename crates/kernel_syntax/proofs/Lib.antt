@@ -1,6 +1,4 @@
-pub mod Chain
 pub mod Blocks
-pub mod Sound
 pub mod Complete
 pub mod ActionSound
 pub mod KernelSound
@@ -8,13 +6,9 @@ pub mod KernelComplete
 pub mod ParamLists
 pub mod NestingWalk
 pub mod Outcomes
-pub mod Rooms
-pub mod SignRows
 pub mod Decided
-pub mod Stuck
 pub mod StuckActions
 pub mod StuckKernel
-pub mod Within
 pub mod Reach
 pub mod WithinKernel
 pub mod Shorter

@@ -2,9 +2,9 @@
 use Rattle.std.proofs.Common.{◌≡◌, List, ℕ, Result, Ok, Err, refl, ap, ◌∙◌}
 use Rattle.kernel_tree.specs.declared.mark.Mark.{Mark}
 use Rattle.kernel_tree.specs.TextToken.{TextToken}
-use Rattle.kernel_syntax.specs.declared.fault.Stop.{Stop}
-use Rattle.kernel_syntax.specs.declared.fault.Stop.TheVariants as stop
-use Rattle.kernel_syntax.specs.Reading.{◌>>=◌, Fails, name_at, past, name_before}
+use Rattle.expression_syntax.specs.declared.stop.Stop.{Stop}
+use Rattle.expression_syntax.specs.declared.stop.Stop.TheVariants as stop
+use Rattle.expression_syntax.specs.Reading.{◌>>=◌, Fails, name_at, past, name_before}
 
 abbrev both : List ℕ → List TextToken → List ℕ × List TextToken
 both x rest = (x, rest)

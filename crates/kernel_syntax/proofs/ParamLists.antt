@@ -4,10 +4,10 @@ use Rattle.std.proofs.lemmas.List.{append-nil}
 use Rattle.kernel_tree.specs.declared.mark.Mark.TheVariants as mark
 use Rattle.kernel_tree.specs.TextToken.{TextToken}
 use Rattle.kernel_tree.specs.Plain.{Parameter, Accumulator}
-use Rattle.kernel_syntax.specs.declared.fault.Stop.{Stop}
-use Rattle.kernel_syntax.specs.Reading.{◌>>=◌, Fails, given, following, past}
+use Rattle.expression_syntax.specs.declared.stop.Stop.{Stop}
+use Rattle.expression_syntax.specs.Reading.{◌>>=◌, Fails, given, following, past}
 use Rattle.kernel_syntax.specs.Headers.{Read, param_at, some_at, params_at, var_at, vars_by, vars_at}
-use Rattle.kernel_syntax.proofs.Chain.{fails_on}
+use Rattle.expression_syntax.proofs.Chain.{fails_on}
 use Rattle.kernel_syntax.proofs.Blocks.{bind_assoc}
 
 -- what was read in front of more

@@ -17,11 +17,11 @@ use Rattle.kernel_tree.specs.Plain.{Term, Literal, Element, Unary, Operation, Sh
 use Rattle.kernel_tree.specs.Grammar.{Spells, number, name, element, group, pair, absolute, choice, negative, prefix, up, conversion, shift, operation, comparison, operator_of, level_of, joined, opening_of_mark, signed, number_following}
 use Rattle.kernel_tree.specs.Front.{Fronts, nothing, above, in_element, end_element, in_group, end_group, at_pair, first_pair, comma_pair, second_pair, end_pair, at_absolute, in_absolute, end_absolute, at_choice, first_choice, comma_choice, second_choice, next_choice, third_choice, end_choice, in_sign, at_operator, at_type, at_count, in_operation, in_comparison}
 use Rattle.kernel_tree.proofs.OneTerm.{shorter}
-use Rattle.kernel_syntax.specs.Reading.{◌>>=◌, given, Outcome, following, past, type_at, count_at, by_operator, more, chain_at, term_before, name_by, pair_by, absolute_by, choice_by, signed_by, unary_at}
-use Rattle.kernel_syntax.proofs.Chain.{Goes, begins, step}
-use Rattle.kernel_syntax.proofs.Sound.{joined_is_no_8, other_is_no_8, number-is}
+use Rattle.expression_syntax.specs.Reading.{◌>>=◌, given, Outcome, following, past, type_at, count_at, by_operator, more, chain_at, term_before, name_by, pair_by, absolute_by, choice_by, signed_by, unary_at}
+use Rattle.expression_syntax.proofs.Chain.{Goes, begins, step}
+use Rattle.expression_syntax.proofs.Sound.{joined_is_no_8, other_is_no_8, number-is}
 use Rattle.kernel_syntax.proofs.Complete.{finish, goes_of, before_reads, reads, stops_before, operator_there, type_there, count_there}
-use Rattle.kernel_syntax.proofs.Within.{Passes, passes_bind, passes_is, passes_same, term_passes, type_passes, count_passes, more_passes, name_goes, pair_goes, absolute_goes, choice_goes, unary_goes, reads_go}
+use Rattle.expression_syntax.proofs.Within.{Passes, passes_bind, passes_is, passes_same, term_passes, type_passes, count_passes, more_passes, name_goes, pair_goes, absolute_goes, choice_goes, unary_goes, reads_go}
 
 abbrev pub any : ℕ → List TextToken → Outcome
 any room words = chain_at (unary_at room) 10 words

@@ -9,11 +9,11 @@ use Rattle.kernel_tree.specs.Plain.{Term, Action, Define, Put, Update, Choose, L
 use Rattle.kernel_tree.specs.Grammar.{Spells, SpellsType, untyped, typed, SpellsAction, define, put, update, choose, choose_else, leave, SpellsBlock}
 use Rattle.kernel_tree.specs.Front.{Fronts, TypeFronts, no_type, at_type_word, ActionFronts, no_action, define_name, define_type, define_equals, define_value, define_end, at_target, put_index, put_bracket, put_equals, put_value, put_end, update_value, update_end, choose_condition, choose_brace, choose_block, else_brace, else_block, leave_if, leave_condition, leave_end, whole_action, BlockFronts, in_action, next_action, whole_block}
 use Rattle.kernel_tree.proofs.OneTerm.{shorter}
-use Rattle.kernel_syntax.specs.Reading.{◌>>=◌, given, following, past, name_at, type_at}
+use Rattle.expression_syntax.specs.Reading.{◌>>=◌, given, following, past, name_at, type_at}
 use Rattle.kernel_syntax.specs.Statements.{Statement, Statements, term_at, type_part, define_at, put_at, update_at, target_at, leave_at, choose_by, statement_by, block_by, block_at}
-use Rattle.kernel_syntax.proofs.Sound.{following-is}
+use Rattle.expression_syntax.proofs.Sound.{following-is}
 use Rattle.kernel_syntax.proofs.KernelComplete.{semicolon_reads, bracket_reads, brace_reads, action_closes, type_reads, action_shorter, block_shorter, block_from, action_reads, block_goes}
-use Rattle.kernel_syntax.proofs.Within.{Passes, passes_bind, passes_one, passes_is, passes_same, after_passes, type_passes}
+use Rattle.expression_syntax.proofs.Within.{Passes, passes_bind, passes_one, passes_is, passes_same, after_passes, type_passes}
 use Rattle.kernel_syntax.proofs.WithinKernel.{term_goes, type_part_goes, define_passes, define_goes, put_passes, target_goes, else_passes, block_passes, choose_passes, statement_goes, block_by_goes, block_at_goes}
 use Rattle.kernel_syntax.proofs.Reach.{spelled_reaches, front_reaches}
 

@@ -8,13 +8,13 @@ use Rattle.kernel_tree.specs.Plain.{Term, Parameter, Accumulator, PlainLoop, Pro
 use Rattle.kernel_tree.specs.Grammar.{Spells, SpellsParams, SpellsVars, no_var, var, SpellsLoop}
 use Rattle.kernel_tree.specs.Front.{ParamFronts, no_param, param_colon, param_shape, param_element, param_bracket, whole_param, SomeFronts, in_param, next_param, VarFronts, no_var_yet, var_name, var_colon, var_type, var_equals, var_value, var_end, next_var, LoopFronts, no_loop_yet, loop_name, loop_in, loop_zero, loop_range, loop_bound, loop_brace, loop_block, BlockFronts, BodyFronts, in_vars, in_loop, end_body, in_answer, end_answer, at_brace, end_function, KernelFronts, no_kernel, kernel_name, kernel_paren, in_params, kernel_tail, kernel_type, kernel_brace, in_procedure, in_function}
 use Rattle.kernel_tree.proofs.OneTerm.{shorter}
-use Rattle.kernel_syntax.specs.Reading.{◌>>=◌, given, following, past, name_at, type_at}
+use Rattle.expression_syntax.specs.Reading.{◌>>=◌, given, following, past, name_at, type_at}
 use Rattle.kernel_syntax.specs.Statements.{term_at}
 use Rattle.kernel_syntax.specs.Headers.{Read, shape_at, param_at, some_at, params_at, var_at, vars_by, vars_at, zero_at, for_loop_at, loop_at, tail_at, answer_by, kernel_at}
-use Rattle.kernel_syntax.proofs.Sound.{following-is}
+use Rattle.expression_syntax.proofs.Sound.{following-is}
 use Rattle.kernel_syntax.proofs.KernelComplete.{semicolon_reads, param_reads, params_reads, vars_reads, loop_reads, ends_vars}
 use Rattle.kernel_syntax.proofs.StuckKernel.{returns}
-use Rattle.kernel_syntax.proofs.Within.{Passes, passes_bind, passes_one, passes_is, passes_same, after_passes, type_passes}
+use Rattle.expression_syntax.proofs.Within.{Passes, passes_bind, passes_one, passes_is, passes_same, after_passes, type_passes}
 use Rattle.kernel_syntax.proofs.WithinKernel.{array_passes, shaped, shape_passes, shape_goes, colon_passes, param_goes, some_passes, initial, value_passes, equals_passes, type_passes_on, named_passes, var_goes, var_passes, vars_by_go, inside_passes, bound_passes, end_passes, range_passes, zero_of_passes, index_passes, for_loop_goes, loop_goes, opened, type_opens, returned, close_passes, return_passes, PassesEnd, ends_bind, by_answer, by_for_loop, by_vars, by_tail, by_params, by_inside, answer_ends, for_loop_ends, vars_end, tail_ends, params_end, name_ends, kernel_ends, whole_ends}
 use Rattle.kernel_syntax.proofs.ReachActions.{passes_more, term_spelled, term_front, block_front_reaches}
 

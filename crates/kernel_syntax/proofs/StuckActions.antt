@@ -8,11 +8,11 @@ use Rattle.kernel_tree.specs.TextToken.{TextToken, IsName, IsNumber, IsType, IsC
 use Rattle.kernel_tree.specs.Plain.{Term, Define, Put, Update, Choose, Leave, Block, Done, Then, Nothing, Else}
 use Rattle.kernel_tree.specs.Grammar.{Spells, SpellsType, SpellsBlock, beginning_of_mark}
 use Rattle.kernel_tree.specs.Front.{Fronts, TypeFronts, at_type_word, ActionFronts, no_action, define_name, define_type, define_equals, define_value, at_target, put_index, put_equals, put_value, update_value, choose_condition, choose_block, else_brace, else_block, leave_if, leave_condition, BlockFronts, in_action, next_action}
-use Rattle.kernel_syntax.specs.Reading.{◌>>=◌, given, following, past, name_at, type_at, update_front, unary_at, chain_at}
+use Rattle.expression_syntax.specs.Reading.{◌>>=◌, given, following, past, name_at, type_at, update_front, unary_at, chain_at}
 use Rattle.kernel_syntax.specs.Statements.{Statement, Statements, term_at, type_part, define_at, put_at, update_at, target_at, leave_at, choose_by, begun_by, statement_by, block_by, block_at}
-use Rattle.kernel_syntax.proofs.Sound.{after-is, following-is, name-is, type-is, update-is, reads_spells}
+use Rattle.expression_syntax.proofs.Sound.{after-is, following-is, name-is, type-is, update-is, reads_spells}
 use Rattle.kernel_syntax.proofs.ActionSound.{term_spells, type_part_spells, SoundBlock, statement_spells, block_spells}
-use Rattle.kernel_syntax.proofs.Stuck.{Stuck, err_is, ok_not_err, stuck_bind, stuck_from, after-stops, name-stops, type-stops, before_stops, reads_stops}
+use Rattle.expression_syntax.proofs.Stuck.{Stuck, err_is, ok_not_err, stuck_bind, stuck_from, after-stops, name-stops, type-stops, before_stops, reads_stops}
 
 -- what was read stands in front
 pub past_mark : (Front : List TextToken → List TextToken → Type 0) (before : List TextToken → List TextToken) (m : Mark) (words from : List TextToken) (n : ℕ) → past m words ≡ Ok from → Stuck Front (before (IsMark m ∷ from)) n → Stuck Front (before words) n

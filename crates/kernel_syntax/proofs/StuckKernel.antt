@@ -8,13 +8,13 @@ use Rattle.kernel_tree.specs.TextToken.{TextToken, IsName, IsNumber, IsType, IsM
 use Rattle.kernel_tree.specs.Plain.{Parameter, Accumulator, PlainLoop, Returned, Program}
 use Rattle.kernel_tree.specs.Grammar.{SpellsParam, SpellsParams, SpellsVars, SpellsLoop, no_loop, loop, number_at}
 use Rattle.kernel_tree.specs.Front.{ParamFronts, no_param, param_colon, param_shape, param_element, param_bracket, whole_param, SomeFronts, in_param, next_param, VarFronts, no_var_yet, var_name, var_colon, var_type, var_equals, var_value, next_var, LoopFronts, no_loop_yet, loop_name, loop_in, loop_zero, loop_range, loop_bound, loop_brace, loop_block, whole_block, BodyFronts, in_vars, in_loop, end_body, in_answer, at_brace, end_function, KernelFronts, no_kernel, kernel_name, kernel_paren, in_params, kernel_tail, kernel_type, kernel_brace, in_procedure, in_function}
-use Rattle.kernel_syntax.specs.Reading.{◌>>=◌, given, following, past, name_at, type_at}
+use Rattle.expression_syntax.specs.Reading.{◌>>=◌, given, following, past, name_at, type_at}
 use Rattle.kernel_syntax.specs.Statements.{term_at, block_at}
 use Rattle.kernel_syntax.specs.Headers.{Read, shape_at, param_at, some_at, params_at, var_at, vars_by, vars_at, zero_at, for_loop_at, loop_at, tail_at, answer_by, alone, kernel_at}
-use Rattle.kernel_syntax.proofs.Sound.{after-is, type-is}
+use Rattle.expression_syntax.proofs.Sound.{after-is, type-is}
 use Rattle.kernel_syntax.proofs.ActionSound.{term_spells}
 use Rattle.kernel_syntax.proofs.KernelSound.{param_spells, params_spells, var_spells, vars_spells, zero-is, loop_spells, SpellsTail, no_type, with_type, tail_spells, SpellsAnswer, no_answer, with_answer, answer_spells}
-use Rattle.kernel_syntax.proofs.Stuck.{Stuck, err_is, ok_not_err, stuck_bind, stuck_from, after-stops, name-stops, type-stops}
+use Rattle.expression_syntax.proofs.Stuck.{Stuck, err_is, ok_not_err, stuck_bind, stuck_from, after-stops, name-stops, type-stops}
 use Rattle.kernel_syntax.proofs.StuckActions.{past_mark, past_following, past_name, past_type, term_stops, block_stops}
 
 -- ---- parameters

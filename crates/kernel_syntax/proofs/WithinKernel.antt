@@ -11,13 +11,13 @@ use Rattle.kernel_tree.specs.declared.mark.Beginning.TheVariants as beginning
 use Rattle.kernel_tree.specs.TextToken.{TextToken, IsName, IsNumber, IsType, IsCompare, IsUpdate, IsMark}
 use Rattle.kernel_tree.specs.Plain.{Term, Define, Put, Update, Choose, Leave, Block, Done, Then, Nothing, Else, Parameter, Accumulator, PlainLoop, Returned, Program}
 use Rattle.kernel_tree.specs.Grammar.{beginning_of_mark}
-use Rattle.kernel_syntax.specs.Reading.{◌>>=◌, given, following, past, name_at, type_at, update_front, unary_at, chain_at}
+use Rattle.expression_syntax.specs.Reading.{◌>>=◌, given, following, past, name_at, type_at, update_front, unary_at, chain_at}
 use Rattle.kernel_syntax.specs.Statements.{Statement, Statements, term_at, type_part, define_at, put_at, update_at, target_at, leave_at, choose_by, begun_by, statement_by, block_by, block_at}
 use Rattle.kernel_syntax.specs.Headers.{Read, shape_at, param_at, some_at, params_at, var_at, vars_by, vars_at, zero_at, for_loop_at, loop_at, tail_at, answer_by, alone, kernel_at}
-use Rattle.kernel_syntax.proofs.Sound.{update-is}
+use Rattle.expression_syntax.proofs.Sound.{update-is}
 use Rattle.kernel_syntax.proofs.KernelSound.{zero-is}
 use Rattle.kernel_syntax.proofs.StuckKernel.{zero-stops}
-use Rattle.kernel_syntax.proofs.Within.{Passes, PassesOne, passes_bind, passes_one, passes_given, after_passes, name_passes, type_passes, Going, term_passes, reads_go}
+use Rattle.expression_syntax.proofs.Within.{Passes, PassesOne, passes_bind, passes_one, passes_given, after_passes, name_passes, type_passes, Going, term_passes, reads_go}
 
 -- ---- statements
 

@@ -7,7 +7,7 @@ use Rattle.kernel_tree.specs.declared.mark.Mark.TheVariants as mark
 use Rattle.kernel_tree.specs.TextToken.{TextToken}
 use Rattle.kernel_tree.specs.Plain.{Parameter, Accumulator, PlainLoop, Returned, Program}
 use Rattle.kernel_tree.specs.Grammar.{number_at}
-use Rattle.kernel_syntax.specs.Reading.{◌>>=◌, given, following, past, name_at, type_at}
+use Rattle.expression_syntax.specs.Reading.{◌>>=◌, given, following, past, name_at, type_at}
 use Rattle.kernel_syntax.specs.Statements.{term_at, block_at}
 
 abbrev pub Read : Type 0 → Type 0

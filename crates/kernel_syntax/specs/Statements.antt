@@ -9,7 +9,7 @@ use Rattle.kernel_tree.specs.declared.mark.Beginning.TheVariants as beginning
 use Rattle.kernel_tree.specs.TextToken.{TextToken, IsName, IsNumber, IsType, IsCompare, IsUpdate, IsMark}
 use Rattle.kernel_tree.specs.Plain.{Action, Define, Put, Update, Choose, Leave, Block, Done, Then, Nothing, Else}
 use Rattle.kernel_tree.specs.Grammar.{beginning_of_mark}
-use Rattle.kernel_syntax.specs.Reading.{◌>>=◌, given, Outcome, following, past, name_at, type_at, update_front, term_before, chain_at, unary_at}
+use Rattle.expression_syntax.specs.Reading.{◌>>=◌, given, Outcome, following, past, name_at, type_at, update_front, term_before, chain_at, unary_at}
 
 abbrev pub Statement : Type 0
 Statement = Result (Action × List TextToken) ℕ

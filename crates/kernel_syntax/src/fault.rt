@@ -2,9 +2,8 @@
 
 ghost use Rattle.std.specs.Prelude.{◌≡◌};
 ghost use Rattle.kernel_syntax.specs.declared.fault.ReadFault.TheVariants as faults;
-ghost use Rattle.kernel_syntax.specs.declared.fault.Stop.TheVariants as stop;
 
-use std::alloc::{AllocError, AllocFailed};
+use std::alloc::AllocError;
 use std::error::Error;
 use std::fmt;
 
@@ -68,29 +67,5 @@ impl From<AllocError> for ReadFault {
 
     fn from(_e: AllocError) -> ReadFault {
         ReadFault::Memory
-    }
-}
-
-/// Why the reading of tokens stopped.
-#[derive(Clone, Copy)]
-pub enum Stop {
-    Memory,
-    /// So many tokens were left where no kernel goes on.
-    Syntax { left: usize },
-}
-
-impl From<AllocError> for Stop {
-    ghost from_gives = { λ _ e. e ≡ stop.Memory };
-
-    fn from(_e: AllocError) -> Stop {
-        Stop::Memory
-    }
-}
-
-impl<T: Drop> From<AllocFailed<T>> for Stop {
-    ghost from_gives = { λ _ e. e ≡ stop.Memory };
-
-    fn from(_e: AllocFailed<T>) -> Stop {
-        Stop::Memory
     }
 }

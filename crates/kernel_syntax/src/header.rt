@@ -2,12 +2,11 @@
 
 ghost use Rattle.std.specs.Prelude.{option_map};
 ghost use Rattle.kernel_tree.specs.Plain.{words_of, parameter_of, parameters_of, accumulator_of, accumulators_of, for_loop_of, returned_of};
-ghost use Rattle.kernel_syntax.specs.Reading.{Gives};
+ghost use Rattle.expression_syntax.specs.Reading.{Gives};
 ghost use Rattle.kernel_syntax.specs.Headers.{shape_at, param_at, params_at, var_at, vars_at, zero_at, loop_at, tail_at, answer_by};
 
-use crate::fault::Stop;
-use crate::front::{accept, copy_name, expect, expect_type, name_then};
 use crate::statement::{block, term};
+use expression_syntax::{Stop, accept, copy_name, expect, expect_type, name_then};
 use kernel_tree::mark::Mark;
 use kernel_tree::token::Token;
 use kernel_tree::{Answer, Loop, Param, Shape, Ty, Var};

@@ -2,14 +2,14 @@
 
 ghost use Rattle.std.specs.Prelude.{◌≡◌, ℕ, IfOk, Err, Some, None};
 ghost use Rattle.kernel_tree.specs.Plain.{words_of, program_of};
-ghost use Rattle.kernel_syntax.specs.Reading.{Gives};
+ghost use Rattle.expression_syntax.specs.Reading.{Gives};
 ghost use Rattle.kernel_syntax.specs.Headers.{kernel_at};
 ghost use Rattle.kernel_syntax.specs.Refusals.{limit_fault, WordsGive, TextGives, IsReadFrom, HasNoTree, StopsAt};
 
-use crate::fault::{ReadFault, Stop};
-use crate::front::{copy_name, expect, name_then};
+use crate::fault::ReadFault;
 use crate::header::{body, params, read_answer, tail, vars};
 use crate::nesting::too_deep;
+use expression_syntax::{Stop, copy_name, expect, name_then};
 use kernel_tokens::{TokenFault, read_tokens};
 use kernel_tree::Kernel;
 use kernel_tree::mark::Mark;

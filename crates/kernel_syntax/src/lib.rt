@@ -1,11 +1,7 @@
 //! The reader of the kernel language.
 #![tactic(auto)]
 
-mod build;
-mod class;
-mod expression;
 mod fault;
-mod front;
 mod header;
 mod kernel;
 mod laws;

@@ -1,18 +1,28 @@
 //! Statements.
 
-ghost use Rattle.std.specs.Prelude.{false};
+ghost use Rattle.std.specs.Prelude.{◌≡◌, false};
 ghost use Rattle.kernel_tree.specs.Plain.{term_of, name_of, words_of, action_of, block_of};
-ghost use Rattle.kernel_syntax.specs.Reading.{Gives};
+ghost use Rattle.kernel_tree.specs.Grammar.{beginning_of_mark};
+ghost use Rattle.expression_syntax.specs.Reading.{Gives};
 ghost use Rattle.kernel_syntax.specs.Statements.{term_at, type_part, define_at, put_at, target_at, leave_at, choose_by, statement_by, block_at};
 
-use crate::class;
-use crate::expression::term_then;
-use crate::fault::Stop;
-use crate::front::{accept, copy_name, expect, expect_name, expect_type};
+use expression_syntax::{Stop, accept, copy_name, expect, expect_name, expect_type, term_then};
 use kernel_tree::mark::{Beginning, Mark};
 use kernel_tree::token::Token;
 use kernel_tree::{Expr, Name, Stmt, Ty, make};
 use std::alloc::Global;
+
+// What a mark begins at the front of a statement.
+fn beginning(mark: Mark) -> Option<Beginning>
+    ensures { result ≡ beginning_of_mark mark }
+{
+    match mark {
+        Mark::Let => Some(Beginning::Definition),
+        Mark::If => Some(Beginning::Choice),
+        Mark::Break => Some(Beginning::Leaving),
+        _ => None,
+    }
+}
 
 // An expression and a mark after it.
 #[tactic(auto, unfolding(crate::specs::Statements::term_at))]
@@ -147,7 +157,7 @@ fn statement<'a>(
 {
     match tokens {
         [Token::Name(name), rest @ ..] => target(alloc, name, rest),
-        [Token::Mark(mark), rest @ ..] => match class::beginning(*mark) {
+        [Token::Mark(mark), rest @ ..] => match beginning(*mark) {
             Some(Beginning::Definition) => definition(alloc, rest),
             Some(Beginning::Choice) => choice(alloc, rest, room),
             Some(Beginning::Leaving) => leaving(alloc, rest, whole),

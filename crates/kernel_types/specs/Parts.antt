@@ -1,5 +1,5 @@
 -- What the code makes of a part of a kernel, as the rules of typing have it.
-use Rattle.std.specs.Prelude.{◌≡◌, false, ℕ, ℤ, unsigned_abs, List, [], ◌∷◌, ◌++◌, Option, Some, None, option_map, ◌+◌}
+use Rattle.std.specs.Prelude.{◌≡◌, false, ℕ, List, [], ◌∷◌, ◌++◌, Option, Some, None, ◌+◌}
 use Rattle.kernel_tree.specs.declared.ops.Ty.{Ty}
 use Rattle.kernel_tree.specs.declared.fault.Found.{Found}
 use Rattle.kernel_tree.specs.Plain.{Accumulator}
@@ -17,10 +17,6 @@ role_of role.Condition = typing.Condition
 pub record Adds (old new : Notes) (ts : List (Option Ty)) : Type 0 where
   pub kept : new.lost ≡ false → old.lost ≡ false
   pub items : new.lost ≡ false → new.types.items ≡ old.types.items ++ ts
-
--- how far from the loop variable a stream index is
-abbrev pub distance_of : Option ℤ → Option ℕ
-distance_of c = option_map unsigned_abs c
 
 -- the faults of an accumulator and of its initial value, and the wanted types of their items
 abbrev pub var_faults : typing.Scope → ℕ → Accumulator → List Found

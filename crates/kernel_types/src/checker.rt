@@ -9,7 +9,7 @@ ghost use Rattle.kernel_types.specs.Causes.{IsCause};
 
 use crate::fault::TypeFault;
 use crate::kernels::walk_kernel;
-use crate::measure::{kernel_depth, kernel_size};
+use kernel_size::{kernel_depth, kernel_size};
 use kernel_tree::fault::{Fault, Found};
 use kernel_tree::{Checked, Kernel, Ty};
 use std::alloc::Global;

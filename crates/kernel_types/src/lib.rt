@@ -2,10 +2,8 @@
 #![tactic(auto)]
 
 mod checker;
-mod distance;
 mod fault;
 mod kernels;
-mod measure;
 mod notes;
 mod rules;
 mod statements;

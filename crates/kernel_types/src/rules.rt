@@ -4,7 +4,8 @@ ghost use Rattle.std.specs.Prelude.{◌≡◌, [], ℤ, pos, unsigned_abs, Optio
 ghost use Rattle.kernel_tree.specs.declared.fault.Fault.TheVariants as fault;
 ghost use Rattle.kernel_tree.specs.Wrap.{bits_of, is_signed};
 ghost use Rattle.kernel_tree.specs.Typing as typing;
-ghost use Rattle.kernel_types.specs.Parts.{role_of, distance_of};
+ghost use Rattle.kernel_types.specs.Parts.{role_of};
+ghost use Rattle.kernel_size.specs.Distances.{distance_of};
 
 use crate::notes::Role;
 use kernel_scope::{accumulator_type, element_type, value_type};

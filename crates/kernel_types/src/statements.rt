@@ -8,13 +8,13 @@ ghost use Rattle.kernel_tree.specs.Typing as typing;
 ghost use Rattle.kernel_scope.specs.Scopes.{scope_of};
 ghost use Rattle.kernel_types.specs.Parts.{Adds};
 
-use crate::distance::stream_distance;
 use crate::notes::{Notes, Role};
 use crate::rules::{
     sooner, stored_type, stream_fault, target_fault, twice, untyped, update_fault, updated_type,
 };
 use crate::terms::{end, walk_expr};
 use kernel_scope::{Scope, define, first, is_taken, leave, lookup, own_type, visible_count};
+use kernel_size::stream_distance;
 use kernel_tree::{Expr, Name, Part, Stmt, Ty, parts};
 use std::alloc::AllocError;
 

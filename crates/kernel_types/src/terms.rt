@@ -11,13 +11,13 @@ ghost use Rattle.kernel_tree.specs.Typing.{Value};
 ghost use Rattle.kernel_scope.specs.Scopes.{scope_of};
 ghost use Rattle.kernel_types.specs.Parts.{role_of, Adds};
 
-use crate::distance::stream_distance;
 use crate::notes::{Notes, Role};
 use crate::rules::{
     as_condition, as_value, index_fault, literal_fault, mismatch, name_fault, read_fault,
     shift_fault, sooner, untyped, wanted,
 };
 use kernel_scope::{Scope, first, lookup, own_type};
+use kernel_size::stream_distance;
 use kernel_tree::fault::Found;
 use kernel_tree::{Expr, Name, Ty};
 

@@ -2,7 +2,7 @@
 
 ghost use Rattle.std.specs.Prelude.{◌≡◌, ◌+◌, ◌<◌, ◌^◌};
 ghost use Rattle.kernel_tree.specs.Plain.{name_of, term_of};
-ghost use Rattle.kernel_tree.specs.Items.{term_size, index_items};
+ghost use Rattle.kernel_tree.specs.Items.{term_size};
 ghost use Rattle.kernel_scope.specs.Scopes.{scope_of};
 ghost use Rattle.scalar_words.specs.View.{homes_of};
 ghost use Rattle.value_code.specs.ValueRegisters as placed;
@@ -10,10 +10,10 @@ ghost use Rattle.scalar_words.specs.Layout as layout;
 
 use a64_code::{Reg, zero};
 use kernel_scope::Scope;
+use kernel_size::term_size;
 use kernel_tree::{Expr, Name};
 use scalar_words::places::Places;
 use scalar_words::{Home, Key, register_at};
-use value_code::instructions::index_word;
 
 /// The register of an item's value, after which the next item stands.
 pub fn take(places: &Places, item: &mut usize) -> Reg
@@ -46,40 +46,12 @@ fn number_home(places: &Places, value: i128, item: usize) -> Reg
     }
 }
 
-// The items of an index.
-#[cycle(sizes)]
-#[tactic(auto, using(value_code::proofs::IndexCode::no_items, value_code::proofs::IndexCode::all_items))]
-fn index_size(scope: &Scope, index: &Expr) -> usize
-    requires { index_items (scope_of scope.now).index (term_of index.now) < 2 ^ 32 }
-    ensures { result ≡ index_items (scope_of scope.now).index (term_of index.now) }
-{
-    match index_word(scope, index) {
-        Some(_) => 0,
-        None => expr_size(scope, index),
-    }
-}
-
 /// The items of an expression.
-#[cycle(sizes)]
 pub fn expr_size(scope: &Scope, expr: &Expr) -> usize
     requires { term_size (scope_of scope.now).index (term_of expr.now) < 2 ^ 32 }
     ensures { result ≡ term_size (scope_of scope.now).index (term_of expr.now) }
 {
-    match expr {
-        Expr::Lit(_) | Expr::Var(_) => 1,
-        Expr::Read { index, .. } => index_size(scope, index) + 1,
-        Expr::Unary { arg, .. }
-        | Expr::Shift { arg, .. }
-        | Expr::Cast { arg, .. }
-        | Expr::Not { arg } => expr_size(scope, arg) + 1,
-        Expr::Binary { left, right, .. }
-        | Expr::Compare { left, right, .. }
-        | Expr::And { left, right } => expr_size(scope, left) + expr_size(scope, right) + 1,
-        Expr::Or { left, right } => expr_size(scope, left) + 1 + expr_size(scope, right) + 1,
-        Expr::Select { cond, yes, no } => {
-            expr_size(scope, yes) + expr_size(scope, no) + expr_size(scope, cond) + 1
-        }
-    }
+    term_size(scope.index, expr) as usize
 }
 
 /// The register of the value of an expression, whose items begin at one.

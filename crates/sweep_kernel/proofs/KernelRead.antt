@@ -1,7 +1,7 @@
 -- The tokens of a sweep's text are read as its kernel.
 use Rattle.std.proofs.Common.{◌≡◌, ℕ, Ok, refl, None}
 use Rattle.kernel_tree.specs.Grammar.{Tree}
-use Rattle.kernel_syntax.specs.Reading.{following, past, name_at, type_at, count_at, operator_at, more, chain_at, term_before, name_by, unary_at}
+use Rattle.expression_syntax.specs.Reading.{following, past, name_at, type_at, count_at, operator_at, more, chain_at, term_before, name_by, unary_at}
 use Rattle.kernel_syntax.specs.Statements.{term_at, type_part, define_at, put_at, update_at, target_at, choose_by, statement_by, block_by, block_at}
 use Rattle.kernel_syntax.specs.Headers.{shape_at, param_at, some_at, params_at, var_at, vars_by, vars_at, zero_at, for_loop_at, loop_at, tail_at, answer_by, kernel_at}
 use Rattle.kernel_syntax.specs.Nesting.{deep_from}

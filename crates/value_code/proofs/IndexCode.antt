@@ -7,7 +7,7 @@ use Rattle.value_code.specs.Extents.{Whole}
 use Rattle.value_code.specs.ItemWords.{index_word}
 use Rattle.value_code.specs.Code.{number_code, loose_code, index_code}
 use Rattle.kernel_tree.specs.Plain.{Term}
-use Rattle.kernel_tree.specs.Items.{term_size, index_size, index_items, stream_offset}
+use Rattle.kernel_tree.specs.Items.{stream_offset}
 use Rattle.kernel_tree.specs.Typing.{Scope, index_type}
 use Rattle.label_fix.specs.DraftRun.{DraftEntry}
 use Rattle.scalar_words.specs.Layout.{Constant, Form, Loose, Layout, Homes}
@@ -23,22 +23,6 @@ index_by L hs s b n e rest (Some c) h = absurd cc
 -- the code of an index that is computed
 pub index_is : (L : Layout) (hs : Homes) (s : Scope) (b n : ℕ) (e : Term) (want : Option Ty) (rest : List DraftEntry) → option_map index_word (stream_offset s.index e) ≡ None → want ≡ index_type s e → loose_code L hs s Whole want b n e rest ≡ index_code L hs s b n e rest
 index_is L hs s b n e want rest h q = ap (λ w. loose_code L hs s Whole w b n e rest) q ∙ index_by L hs s b n e rest (stream_offset s.index e) h
-
--- ---- the items of an index
-
-none_by : (o : Option ℤ) (n : ℕ) (w : Option Listed) → option_map index_word o ≡ Some w → 0 ≡ index_size o n
-none_by None n w h = absurd cc
-none_by (Some c) n w h = refl
-
-pub no_items : (i : Option (List ℕ)) (e : Term) (w : Option Listed) → option_map index_word (stream_offset i e) ≡ Some w → 0 ≡ index_items i e
-no_items i e w h = none_by (stream_offset i e) (term_size i e) w h
-
-all_by : (o : Option ℤ) (n : ℕ) → option_map index_word o ≡ None → n ≡ index_size o n
-all_by None n h = refl
-all_by (Some c) n h = absurd cc
-
-pub all_items : (i : Option (List ℕ)) (e : Term) → option_map index_word (stream_offset i e) ≡ None → term_size i e ≡ index_items i e
-all_items i e h = all_by (stream_offset i e) (term_size i e) h
 
 -- ---- numbers of indexes
 

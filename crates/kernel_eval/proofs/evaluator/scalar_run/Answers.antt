@@ -5,7 +5,8 @@ use Rattle.kernel_tree.specs.Plain.{program_of, parameters_of}
 use Rattle.kernel_tree.specs.Checked.{kernel_of}
 use Rattle.kernel_meaning.specs.ScalarRun.{argument_names}
 use Rattle.kernel_eval.specs.Slots.{Slots}
-use Rattle.kernel_eval.specs.Plans.{Planned, planned, filled, slot_run}
+use Rattle.kernel_plan.specs.Plans.{Planned, planned}
+use Rattle.kernel_eval.specs.SlotRuns.{filled, slot_run}
 use Rattle.kernel_eval.proofs.ResolvedRuns.{planned-same}
 use Rattle.kernel_eval.proofs.LimitedRuns.{run-outcome, checked-room}
 use Rattle.kernel_eval.proofs.evaluator.scalar_run.Goals as goal

@@ -1,8 +1,9 @@
 use Rattle.std.proofs.Common.{List, ap, sym, ◌∙◌, arith, Some}
-use Rattle.kernel_eval.specs.declared.step.Step.{Step}
-use Rattle.kernel_eval.specs.Trees.{tree_of, tasks_of, task_of, task_depth, tasks_depth}
+use Rattle.kernel_plan.specs.declared.step.Step.{Step}
+use Rattle.kernel_plan.specs.Trees.{tree_of, tasks_of, task_of, task_depth, tasks_depth}
 use Rattle.kernel_eval.specs.Slots.{do_tasks}
-use Rattle.kernel_eval.proofs.StepLists.{if-is, branch-true, branch-false}
+use Rattle.kernel_plan.proofs.StepLists.{if-is}
+use Rattle.kernel_eval.proofs.Branches.{branch-true, branch-false}
 use Rattle.kernel_eval.proofs.perform.+steps.Goals as goal
 
 pub perform_step-perform-requires : goal.perform_step-perform-requires

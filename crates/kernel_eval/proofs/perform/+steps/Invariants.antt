@@ -1,5 +1,5 @@
 use Rattle.std.proofs.Common.{◌≡◌, ◌+◌, ◌*◌, ◌≤◌, drop}
-use Rattle.kernel_eval.specs.Trees.{task_of, tasks_of, task_depth, tasks_depth}
+use Rattle.kernel_plan.specs.Trees.{task_of, tasks_of, task_depth, tasks_depth}
 use Rattle.kernel_eval.specs.Slots as meaning
 use Rattle.kernel_eval.proofs.perform.+steps.Given as goal
 

@@ -1,10 +1,10 @@
 use Rattle.std.proofs.Common.{◌≡◌, ◌-◌, ◌∙◌, List, ap₂, pos, rules, arith}
 use Rattle.std.specs.Prelude.{slice_set}
 use Rattle.kernel_meaning.specs.Ends.{Next, Broke, Faulted}
-use Rattle.kernel_eval.specs.declared.step.Step.{Step}
-use Rattle.kernel_eval.specs.Trees.{tasks_of}
+use Rattle.kernel_plan.specs.declared.step.Step.{Step}
+use Rattle.kernel_plan.specs.Trees.{tasks_of}
 use Rattle.kernel_eval.specs.Slots.{Slots, do_tasks}
-use Rattle.kernel_eval.specs.Plans.{loop_plan_of}
+use Rattle.kernel_plan.specs.Plans.{loop_plan_of}
 use Rattle.kernel_eval.proofs.IterationWalks.{iterations_step, iterations_done}
 use Rattle.kernel_eval.proofs.run.follow.Goals as goal
 

@@ -1,5 +1,6 @@
 use Rattle.std.proofs.Common.{◌≡◌, ◌-◌}
-use Rattle.kernel_eval.specs.Plans.{slot_iterations, loop_plan_of}
+use Rattle.kernel_plan.specs.Plans.{loop_plan_of}
+use Rattle.kernel_eval.specs.SlotRuns.{slot_iterations}
 use Rattle.kernel_eval.proofs.run.follow.Given as goal
 
 abbrev pub invariant-loop-at : goal.invariant-loop-at

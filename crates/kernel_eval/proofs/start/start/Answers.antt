@@ -3,7 +3,7 @@ use Rattle.std.proofs.lemmas.List.{append-nil, length-map}
 use Rattle.kernel_tree.specs.Plain.{parameters_of}
 use Rattle.kernel_meaning.specs.Eval.{value_of}
 use Rattle.kernel_meaning.specs.ScalarRun as running
-use Rattle.kernel_eval.specs.Resolve.{most_slots}
+use Rattle.kernel_plan.specs.Resolve.{most_slots}
 use Rattle.kernel_eval.proofs.IterationWalks.{pad_step}
 use Rattle.kernel_eval.proofs.start.start.Goals as goal
 

@@ -3,8 +3,8 @@ use Rattle.std.specs.Prelude.{option_map}
 use Rattle.kernel_tree.specs.Wrap.{wrap}
 use Rattle.kernel_meaning.specs.Operators.{unary_value, binary_value, compare_on}
 use Rattle.kernel_meaning.specs.Eval.{on_both}
-use Rattle.kernel_eval.specs.declared.node.Node.{Node}
-use Rattle.kernel_eval.specs.Trees.{tree_of}
+use Rattle.kernel_plan.specs.declared.node.Node.{Node}
+use Rattle.kernel_plan.specs.Trees.{tree_of}
 use Rattle.kernel_eval.specs.Slots.{tree_value, tree_holds}
 use Rattle.kernel_eval.proofs.value.+values.Goals as goal
 

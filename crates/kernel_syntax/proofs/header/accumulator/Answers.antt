@@ -1,7 +1,7 @@
 use Rattle.std.proofs.Common.{refl}
 use Rattle.std.proofs.lemmas.Result.{err_from_is_err_and}
 use Rattle.kernel_syntax.specs.Headers.{var_at}
-use Rattle.kernel_syntax.proofs.Chain.{fails_on}
+use Rattle.expression_syntax.proofs.Chain.{fails_on}
 use Rattle.kernel_syntax.proofs.Names.{names, fails_name}
 use Rattle.kernel_syntax.proofs.header.accumulator.Goals as goal
 

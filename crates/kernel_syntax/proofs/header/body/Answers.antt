@@ -3,7 +3,7 @@ use Rattle.std.proofs.lemmas.Result.{err_from_is_err_and}
 use Rattle.std.proofs.lemmas.List.{length-map}
 use Rattle.kernel_tree.specs.Plain.{word_of}
 use Rattle.kernel_syntax.specs.Headers.{loop_at, for_loop_at}
-use Rattle.kernel_syntax.proofs.Chain.{fails_on}
+use Rattle.expression_syntax.proofs.Chain.{fails_on}
 use Rattle.kernel_syntax.proofs.Names.{names, fails_name}
 use Rattle.kernel_syntax.proofs.header.body.Goals as goal
 

@@ -5,7 +5,8 @@ use Rattle.kernel_tree.specs.declared.mark.Mark.TheVariants as mark
 use Rattle.kernel_tree.specs.Plain.{word_of, words_of, parameter_of, parameters_of}
 use Rattle.kernel_syntax.specs.Headers.{params_at}
 use Rattle.kernel_syntax.proofs.ParamLists.{params_start, fails_param, ends_params, full_params, fails_comma, takes_param}
-use Rattle.kernel_syntax.proofs.Shorter.{param_short, past_short}
+use Rattle.expression_syntax.proofs.Shorter.{past_short}
+use Rattle.kernel_syntax.proofs.Shorter.{param_short}
 use Rattle.kernel_syntax.proofs.header.params.Goals as goal
 
 pub more-init : goal.more-init

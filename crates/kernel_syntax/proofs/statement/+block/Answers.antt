@@ -6,11 +6,11 @@ use Rattle.kernel_tree.specs.declared.ast.Stmt.{Stmt}
 use Rattle.kernel_tree.specs.declared.mark.Beginning.TheVariants as beginning
 use Rattle.kernel_tree.specs.declared.token.Token.{Token}
 use Rattle.kernel_tree.specs.Grammar.{beginning_of_mark}
-use Rattle.kernel_syntax.specs.Reading.{mark_at}
+use Rattle.expression_syntax.specs.Reading.{mark_at}
 use Rattle.kernel_tree.specs.Plain.{words_of, word_of}
 use Rattle.kernel_syntax.specs.Statements.{Statements, statement_by, block_at, choose_by}
 use Rattle.kernel_syntax.proofs.Blocks.{Follows, begins, unbegun, starts, closes, fails_inside, takes, block-none, block-some}
-use Rattle.kernel_syntax.proofs.Chain.{fails_on}
+use Rattle.expression_syntax.proofs.Chain.{fails_on}
 use Rattle.kernel_syntax.proofs.Shorter.{statement_short}
 use Rattle.kernel_syntax.proofs.statement.+block.Goals as goal
 

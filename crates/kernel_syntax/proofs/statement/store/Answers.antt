@@ -1,7 +1,7 @@
 use Rattle.std.proofs.Common.{refl}
 use Rattle.std.proofs.lemmas.Result.{err_from_is_err_and}
 use Rattle.kernel_syntax.specs.Statements.{put_at}
-use Rattle.kernel_syntax.proofs.Chain.{fails_on}
+use Rattle.expression_syntax.proofs.Chain.{fails_on}
 use Rattle.kernel_syntax.proofs.statement.store.Goals as goal
 
 pub returns-in_err-index : goal.returns-in_err-index

@@ -2,7 +2,7 @@ use Rattle.std.proofs.Common.{◌≡◌, ◌-◌, length, take, drop, Some, None
 use Rattle.std.proofs.lemmas.Grind.{common_steps}
 use Rattle.std.proofs.lemmas.List.{length-map}
 use Rattle.kernel_tree.specs.Plain.{words_of, word_of}
-use Rattle.kernel_syntax.specs.Reading.{update_front}
+use Rattle.expression_syntax.specs.Reading.{update_front}
 use Rattle.kernel_syntax.specs.Statements.{target_at, update_at}
 use Rattle.kernel_syntax.proofs.statement.target.Goals as goal
 

@@ -1,7 +1,7 @@
 use Rattle.std.proofs.lemmas.Grind.{common_steps}
 use Rattle.std.proofs.Common.{◌≡◌, ℕ, ◌+◌, Bool, List, ◌++◌, refl, sym, ap, subst, ◌∙◌, arith, rules}
 use Rattle.std.specs.Prelude.{if◌then◌else◌}
-use Rattle.kernel_tree.specs.Plain.{Term, Unary, Operation, Shift, Conversion, Choice, Comparison, Both, Either, name_of, term_of}
+use Rattle.kernel_tree.specs.Plain.{Term, Element, Unary, Operation, Shift, Conversion, Choice, Comparison, Both, Either, Not, name_of, term_of}
 use mir.Syntax.{w128}
 use mir.Val.{SFits, of_z, to_z}
 use Rattle.std.proofs.lemmas.Int.{to_z-of_z}
@@ -12,11 +12,13 @@ use Rattle.scalar_words.specs.View.{homes_of, register_number}
 use Rattle.label_fix.specs.Draft.{word_view}
 use Rattle.kernel_tree.specs.declared.ops.Ty.TheVariants as ty
 use Rattle.kernel_tree.specs.Items.{term_size, stream_offset}
+use Rattle.kernel_tree.specs.Limits.{term_depth}
+use Rattle.kernel_tree.specs.Kinds.{IsValue, IsTruth}
 use Rattle.kernel_tree.specs.Typing.{first}
 use Rattle.std.specs.Prelude.{Option, None, Some, option_map}
 use Rattle.kernel_tree.specs.declared.ops.Ty.{Ty}
 use Rattle.scalar_values.specs.Sides.{side_view}
-use Rattle.value_code.specs.Code.{labels, added_number, IsHeld, loose_code, jump_code, one_of_code}
+use Rattle.value_code.specs.Code.{HasParts, labels, added_number, IsHeld, loose_code, jump_code, one_of_code}
 use Rattle.value_code.specs.declared.extent.Extent.TheVariants.{Whole}
 use Rattle.scalar_values.proofs.OperatorCode.{two_is, led_sides, straight_sides}
 use Rattle.value_code.proofs.TermCode.{unary_is, shift_is, cast_is, parts_binary, operation_labels, parts_shift, parts_cast, compare_is, compared_labels, chosen_is, chosen_labels, two_more, compared_size, literal_item, literal_labels, held_code, side_number, side_parts, side_whole, placed_is, placed_labels, computed_is, both_is, either_is, joined_labels, choice_is, choice_labels, offset_code, offset_labels, computed_labels, on_ok, on_and}
@@ -344,3 +346,142 @@ emit_read-returns-in_ok-x-in-None-clause-emits t c =
           ∙ ap (λ (l : List DraftEntry). c.args.draft.now.entries ++ l)
           (computed_is L hs s c.args.extent None c.args.item.now c.args.draft.now.labels a e c.array_type-ty.result (reg_of L c.emit_number.new.item) c.register_at.result.number c.in_ok-x-in-None.x.number rest c.array_type-ty.ensures place (ap (reg_of L) index.item) c.register_at.ensures index.register);
     })
+
+-- ---- what calls ask for: operands below what is emitted, of their kinds, whose items are numbered
+
+pub emit_loose-emit_loose-requires : goal.emit_loose-emit_loose-requires
+emit_loose-emit_loose-requires t c =
+    let is : term_of c.args.expr.now ≡ Unary c.in-Unary.op (term_of c.deref-arg.result.now) = rw (c.in-Unary.is, c.deref-arg.ensures) refl in
+    (omega (arith, ap term_depth is), (subst IsValue is c.requires.kind, omega (arith, ap (term_size (scope_of c.args.scope.now).index) is, c.requires.fits)))
+
+pub emit_loose-want_unary-requires : goal.emit_loose-want_unary-requires
+emit_loose-want_unary-requires t c =
+    let is : term_of c.args.expr.now ≡ Unary c.in-Unary.op (term_of c.deref-arg.result.now) = rw (c.in-Unary.is, c.deref-arg.ensures) refl in
+    omega (arith, c.in_ok-a-in-Unary.ensures.item, ap (term_size (scope_of c.args.scope.now).index) is, c.requires.fits)
+
+pub emit_loose-emit_loose-requires-in-Shift : goal.emit_loose-emit_loose-requires-in-Shift
+emit_loose-emit_loose-requires-in-Shift t c =
+    let is : term_of c.args.expr.now ≡ Shift c.in-Shift.left_shift (term_of c.deref-arg-in-Shift.result.now) c.in-Shift.count = rw (c.in-Shift.is, c.deref-arg-in-Shift.ensures) refl in
+    (omega (arith, ap term_depth is), (subst IsValue is c.requires.kind, omega (arith, ap (term_size (scope_of c.args.scope.now).index) is, c.requires.fits)))
+
+pub emit_loose-want_shift-requires : goal.emit_loose-want_shift-requires
+emit_loose-want_shift-requires t c =
+    let is : term_of c.args.expr.now ≡ Shift c.in-Shift.left_shift (term_of c.deref-arg-in-Shift.result.now) c.in-Shift.count = rw (c.in-Shift.is, c.deref-arg-in-Shift.ensures) refl in
+    omega (arith, c.in_ok-a-in-Shift.ensures.item, ap (term_size (scope_of c.args.scope.now).index) is, c.requires.fits)
+
+pub emit_loose-emit_loose-requires-in-Cast : goal.emit_loose-emit_loose-requires-in-Cast
+emit_loose-emit_loose-requires-in-Cast t c =
+    let is : term_of c.args.expr.now ≡ Conversion (term_of c.deref-arg-in-Cast.result.now) c.in-Cast.ty = rw (c.in-Cast.is, c.deref-arg-in-Cast.ensures) refl in
+    (omega (arith, ap term_depth is), (subst IsValue is c.requires.kind, omega (arith, ap (term_size (scope_of c.args.scope.now).index) is, c.requires.fits)))
+
+pub emit_loose-want_cast-requires : goal.emit_loose-want_cast-requires
+emit_loose-want_cast-requires t c =
+    let is : term_of c.args.expr.now ≡ Conversion (term_of c.deref-arg-in-Cast.result.now) c.in-Cast.ty = rw (c.in-Cast.is, c.deref-arg-in-Cast.ensures) refl in
+    omega (arith, c.in_ok-a-in-Cast.ensures.item, ap (term_size (scope_of c.args.scope.now).index) is, c.requires.fits)
+
+pub emit_loose-emit_two-requires : goal.emit_loose-emit_two-requires
+emit_loose-emit_two-requires t c =
+    let is : term_of c.args.expr.now ≡ Operation c.in-Binary.op (term_of c.deref.result.now) (term_of c.deref-in-Binary.result.now) = rw (c.in-Binary.is, c.deref.ensures, c.deref-in-Binary.ensures) refl in
+    let both = subst IsValue is c.requires.kind in
+    (omega (arith, ap term_depth is), (both.0, (both.1, omega (arith, ap (term_size (scope_of c.args.scope.now).index) is, c.requires.fits))))
+
+pub emit_loose-emit_read-requires : goal.emit_loose-emit_read-requires
+emit_loose-emit_read-requires t c =
+    let is : term_of c.args.expr.now ≡ Element (name_of c.in-Read.array) (term_of c.deref-in-Read.result.now) = rw (c.in-Read.is, c.deref-in-Read.ensures) refl in
+    (omega (arith, ap term_depth is), (subst IsValue is c.requires.kind, omega (arith, ap (term_size (scope_of c.args.scope.now).index) is, c.requires.fits)))
+
+pub emit_loose-emit_loose-requires-in-Select : goal.emit_loose-emit_loose-requires-in-Select
+emit_loose-emit_loose-requires-in-Select t c =
+    let is : term_of c.args.expr.now ≡ Choice (term_of c.in-Select.cond.value) (term_of c.deref-in-Select.result.now) (term_of c.in-Select.no.value) = rw (c.in-Select.is, c.deref-in-Select.ensures) refl in
+    let parts = subst IsValue is c.requires.kind in
+    (omega (arith, ap term_depth is), (parts.0, omega (arith, ap (term_size (scope_of c.args.scope.now).index) is, c.requires.fits)))
+
+pub emit_loose-emit_loose-requires-in-Select-2 : goal.emit_loose-emit_loose-requires-in-Select-2
+emit_loose-emit_loose-requires-in-Select-2 t c =
+    let is : term_of c.args.expr.now ≡ Choice (term_of c.in-Select.cond.value) (term_of c.deref-in-Select.result.now) (term_of c.deref-in-Select-2.result.now) = rw (c.in-Select.is, c.deref-in-Select.ensures, c.deref-in-Select-2.ensures) refl in
+    let parts = subst IsValue is c.requires.kind in
+    (omega (arith, ap term_depth is), (parts.1, omega (arith, c.in_ok-a-in-Select.ensures.item, ap (term_size (scope_of c.args.scope.now).index) is, c.requires.fits)))
+
+pub emit_loose-emit_one_of-requires : goal.emit_loose-emit_one_of-requires
+emit_loose-emit_one_of-requires t c =
+    let is : term_of c.args.expr.now ≡ Choice (term_of c.deref-in-Select-3.result.now) (term_of c.deref-in-Select.result.now) (term_of c.deref-in-Select-2.result.now) = rw (c.in-Select.is, c.deref-in-Select.ensures, c.deref-in-Select-2.ensures, c.deref-in-Select-3.ensures) refl in
+    let parts = subst IsValue is c.requires.kind in
+    (omega (arith, ap term_depth is), (parts.2, omega (arith, c.in_ok-a-in-Select.ensures.item, c.in_ok-b-in-Select.ensures.item, ap (term_size (scope_of c.args.scope.now).index) is, c.requires.fits)))
+
+pub emit_two-emit_sides-requires : goal.emit_two-emit_sides-requires
+emit_two-emit_sides-requires t c = (omega arith, (c.requires.left, (c.requires.right, c.requires.fits)))
+
+pub emit_sides-emit_parts-requires : goal.emit_sides-emit_parts-requires
+emit_sides-emit_parts-requires t c = (omega arith, (c.requires.left, (subst (λ (b : Bool). HasParts b (term_of c.args.left.now)) c.if-is_led.true c.is_led.ensures.parts, omega (arith, c.requires.fits))))
+
+pub emit_sides-emit_loose-requires : goal.emit_sides-emit_loose-requires
+emit_sides-emit_loose-requires t c = (omega arith, (c.requires.right, omega (arith, c.in_ok-emit_parts.ensures.item, c.requires.fits)))
+
+pub emit_sides-emit_loose-requires-else-is_led : goal.emit_sides-emit_loose-requires-else-is_led
+emit_sides-emit_loose-requires-else-is_led t c = (omega arith, (c.requires.left, omega (arith, c.requires.fits)))
+
+pub emit_sides-emit_side-requires : goal.emit_sides-emit_side-requires
+emit_sides-emit_side-requires t c = (omega arith, (c.requires.right, omega (arith, c.in_ok-r-2.ensures.item, c.requires.fits)))
+
+pub emit_side-emit_parts-requires : goal.emit_side-emit_parts-requires
+emit_side-emit_parts-requires t c = (omega arith, (c.requires.kind, (subst (λ (b : Bool). HasParts b (term_of c.args.expr.now)) c.if-fused.true c.is_fused-fused.ensures.parts, c.requires.fits)))
+
+pub emit_side-emit_loose-requires : goal.emit_side-emit_loose-requires
+emit_side-emit_loose-requires t c = (omega arith, (c.requires.kind, c.requires.fits))
+
+pub emit_parts-emit_loose-requires : goal.emit_parts-emit_loose-requires
+emit_parts-emit_loose-requires t c =
+    let is : term_of c.args.expr.now ≡ Operation c.in-Binary.op (term_of c.deref.result.now) (term_of c.deref-in-Binary.result.now) = rw (c.in-Binary.is, c.deref.ensures, c.deref-in-Binary.ensures) refl in
+    let both = subst IsValue is c.requires.kind in
+    (omega (arith, ap term_depth is), (both.0, omega (arith, ap (term_size (scope_of c.args.scope.now).index) is, c.requires.fits)))
+
+pub emit_parts-emit_loose-requires-in-Binary : goal.emit_parts-emit_loose-requires-in-Binary
+emit_parts-emit_loose-requires-in-Binary t c =
+    let is : term_of c.args.expr.now ≡ Operation c.in-Binary.op (term_of c.deref.result.now) (term_of c.deref-in-Binary.result.now) = rw (c.in-Binary.is, c.deref.ensures, c.deref-in-Binary.ensures) refl in
+    let both = subst IsValue is c.requires.kind in
+    (omega (arith, ap term_depth is), (both.1, omega (arith, c.in_ok-emit_loose-in-Binary.ensures.item, ap (term_size (scope_of c.args.scope.now).index) is, c.requires.fits)))
+
+pub emit_parts-emit_loose-requires-in-Shift : goal.emit_parts-emit_loose-requires-in-Shift
+emit_parts-emit_loose-requires-in-Shift t c =
+    let is : term_of c.args.expr.now ≡ Shift c.in-Shift.left_shift (term_of c.deref-arg.result.now) c.in-Shift.count = rw (c.in-Shift.is, c.deref-arg.ensures) refl in
+    (omega (arith, ap term_depth is), (subst IsValue is c.requires.kind, omega (arith, ap (term_size (scope_of c.args.scope.now).index) is, c.requires.fits)))
+
+pub emit_parts-emit_loose-requires-in-Cast : goal.emit_parts-emit_loose-requires-in-Cast
+emit_parts-emit_loose-requires-in-Cast t c =
+    let is : term_of c.args.expr.now ≡ Conversion (term_of c.deref-arg-in-Cast.result.now) c.in-Cast.ty = rw (c.in-Cast.is, c.deref-arg-in-Cast.ensures) refl in
+    (omega (arith, ap term_depth is), (subst IsValue is c.requires.kind, omega (arith, ap (term_size (scope_of c.args.scope.now).index) is, c.requires.fits)))
+
+pub emit_compared-emit_loose-requires : goal.emit_compared-emit_loose-requires
+emit_compared-emit_loose-requires t c = (omega arith, (c.requires.left, omega (arith, c.requires.fits)))
+
+pub emit_compared-emit_loose-requires-in-None : goal.emit_compared-emit_loose-requires-in-None
+emit_compared-emit_loose-requires-in-None t c = (omega arith, (c.requires.right, omega (arith, c.in_ok-a.ensures.item, c.requires.fits)))
+
+pub emit_jump-emit_compared-requires : goal.emit_jump-emit_compared-requires
+emit_jump-emit_compared-requires t c =
+    let is : term_of c.args.expr.now ≡ Comparison c.in-Compare.op (term_of c.deref.result.now) (term_of c.deref-in-Compare.result.now) = rw (c.in-Compare.is, c.deref.ensures, c.deref-in-Compare.ensures) refl in
+    let both = subst IsTruth is c.requires.kind in
+    (omega (arith, ap term_depth is), (both.0, (both.1, (c.compared_number-number.ensures.held, omega (arith, ap (term_size (scope_of c.args.scope.now).index) is, c.requires.fits)))))
+
+pub emit_one_of-emit_compared-requires : goal.emit_one_of-emit_compared-requires
+emit_one_of-emit_compared-requires t c =
+    let is : term_of c.args.cond.now ≡ Comparison c.in-Compare.op (term_of c.deref.result.now) (term_of c.deref-in-Compare.result.now) = rw (c.in-Compare.is, c.deref.ensures, c.deref-in-Compare.ensures) refl in
+    let both = subst IsTruth is c.requires.kind in
+    (omega (arith, ap term_depth is), (both.0, (both.1, (c.compared_number-number.ensures.held, omega (arith, ap (term_size (scope_of c.args.scope.now).index) is, c.requires.fits)))))
+
+pub emit_jump-emit_both-requires : goal.emit_jump-emit_both-requires
+emit_jump-emit_both-requires t c =
+    let is : term_of c.args.expr.now ≡ Both (term_of c.deref-in-And.result.now) (term_of c.deref-in-And-2.result.now) = rw (c.in-And.is, c.deref-in-And.ensures, c.deref-in-And-2.ensures) refl in
+    let both = subst IsTruth is c.requires.kind in
+    (omega (arith, ap term_depth is), (c.requires.given, (both.0, (both.1, omega (arith, ap (term_size (scope_of c.args.scope.now).index) is, c.requires.fits)))))
+
+pub emit_jump-emit_either-requires : goal.emit_jump-emit_either-requires
+emit_jump-emit_either-requires t c =
+    let is : term_of c.args.expr.now ≡ Either (term_of c.deref-in-Or.result.now) (term_of c.deref-in-Or-2.result.now) = rw (c.in-Or.is, c.deref-in-Or.ensures, c.deref-in-Or-2.ensures) refl in
+    let both = subst IsTruth is c.requires.kind in
+    (omega (arith, ap term_depth is), (c.requires.given, (both.0, (both.1, omega (arith, ap (term_size (scope_of c.args.scope.now).index) is, c.requires.fits)))))
+
+pub emit_jump-emit_jump-requires : goal.emit_jump-emit_jump-requires
+emit_jump-emit_jump-requires t c =
+    let is : term_of c.args.expr.now ≡ Not (term_of c.deref-in-Not.result.now) = rw (c.in-Not.is, c.deref-in-Not.ensures) refl in
+    (omega (arith, ap term_depth is), (c.requires.given, (subst IsTruth is c.requires.kind, omega (arith, ap (term_size (scope_of c.args.scope.now).index) is, c.requires.fits))))

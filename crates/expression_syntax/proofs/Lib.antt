@@ -1,0 +1,7 @@
+pub mod Chain
+pub mod Sound
+pub mod Rooms
+pub mod SignRows
+pub mod Stuck
+pub mod Within
+pub mod Shorter

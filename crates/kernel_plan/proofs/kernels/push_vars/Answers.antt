@@ -1,0 +1,27 @@
+use Rattle.std.proofs.Common.{◌+◌, List, sym, ap, ap₂, ◌∙◌, drop}
+use Rattle.std.proofs.Math.ListN.{drop_of_length-le}
+use Rattle.kernel_tree.specs.declared.ast.Var.{Var}
+use Rattle.kernel_tree.specs.Plain.{accumulator_of, accumulators_of}
+use Rattle.kernel_scope.specs.Scopes.{scope_of}
+use Rattle.kernel_plan.specs.Trees.{Set, tasks_of, followed}
+use Rattle.kernel_plan.specs.declared.step.Step.TheVariants as step
+use Rattle.kernel_plan.specs.Plans as plans
+use Rattle.kernel_plan.proofs.ListWalks.{next_item, vars_go_on, followed-done}
+use Rattle.kernel_plan.proofs.kernels.push_vars.Goals as goal
+
+pub loop-var-preserved : goal.loop-var-preserved
+loop-var-preserved c =
+    let l = c.loop-var in
+    let e = ap accumulators_of (next_item c.args.vars.now l.var-index c.var-item.result c.loop-var-test.true c.var-item.is) in
+    let made = ap₂ Set c.visible_count-slot.ensures c.in_ok-value.ensures in
+    let on = vars_go_on (scope_of l.scope) (scope_of c.declare.new.scope) l.steps.items c.push.new.self.items (step.Set c.visible_count-slot.result c.in_ok-value.value) (accumulator_of c.var-item.result) (accumulators_of (drop (l.var-index + 1) c.args.vars.now)) (accumulators_of (drop l.var-index c.args.vars.now)) e c.in_ok-declare.ensures c.in_ok-push.ensures.items made in
+    record {
+      scope = on.scope ∙ l.invariant.scope;
+      steps = on.steps ∙ l.invariant.steps;
+    }
+
+pub returns-clause-steps : goal.returns-clause-steps
+returns-clause-steps c =
+    let l = c.loop-var in
+    let e = drop_of_length-le c.args.vars.now c.loop-var-test.false in
+    sym (followed-done (tasks_of l.steps.items)) ∙ ap (λ (xs : List Var). followed (tasks_of l.steps.items) (plans.resolved_vars (scope_of l.scope) (accumulators_of xs))) (sym e) ∙ l.invariant.steps
