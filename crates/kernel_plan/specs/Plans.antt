@@ -1,4 +1,4 @@
--- A resolved kernel as plain data.
+-- The plan of a kernel: what sets its accumulators, its loop with the slots of its bound and variable, and what it returns.
 use Rattle.std.specs.Prelude.{ℕ, List, [], ◌∷◌, length, Option, Some, None, option_map}
 use Rattle.kernel_tree.specs.declared.fault.Binding.TheVariants as binding
 use Rattle.kernel_tree.specs.Plain.{Accumulator, PlainLoop, Returned, Program}

@@ -8,7 +8,7 @@ ghost use Rattle.kernel_plan.specs.Resolve.{place, slot_of, index_slot};
 use kernel_scope::{Local, Scope};
 use kernel_tree::Name;
 
-// More slots than a checked kernel has names.
+/// More slots than a checked kernel has names.
 pub const MOST_SLOTS: usize = 1000;
 
 /// The place of a name among others, and past the last slot for a name that is none of them.
