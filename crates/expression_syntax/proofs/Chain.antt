@@ -12,7 +12,7 @@ use Rattle.kernel_tree.specs.Grammar.{joined}
 use Rattle.expression_syntax.specs.declared.stop.Stop.{Stop}
 use Rattle.expression_syntax.specs.declared.stop.Stop.TheVariants as stop
 use Rattle.expression_syntax.specs.Operands.{joined_by, compared_by, shifted_by, converted_by, extended_by, is_comparison}
-use Rattle.expression_syntax.specs.Reading.{◌>>=◌, Fails, given, Outcome, by_operator, operator_at, type_at, count_at, more, chain_at}
+use Rattle.expression_syntax.specs.Reading.{◌>>=◌, Fails, Misses, given, Outcome, by_operator, operator_at, type_at, count_at, more, chain_at}
 
 pub chain-zero : (unary : List TextToken → Outcome) (level : ℕ) (words : List TextToken) → level ≡ 0 → chain_at unary level words ≡ unary words
 unfolding chain_at
@@ -26,6 +26,14 @@ chain-above unary (suc level) words h = let e : suc level - 1 ≡ level = omega 
 pub fails_on : {A B : Type 0} (e : Stop) (read : Result A ℕ) (f : A → Result B ℕ) (whole : Result B ℕ) → whole ≡ (read >>= f) → Fails e read → Fails e whole
 fails_on stop.Memory read f whole w h = tt
 fails_on (stop.Syntax left) read f whole w h = w ∙ ap (λ r. r >>= f) h
+
+pub missed : {A : Type 0} (e : Stop) (read : Result A ℕ) → Misses e read → Fails e read
+missed stop.Memory read h = tt
+missed (stop.Syntax left) read h = h
+
+-- the same after a reader that takes no memory
+pub missed_on : {A B : Type 0} (e : Stop) (read : Result A ℕ) (f : A → Result B ℕ) (whole : Result B ℕ) → whole ≡ (read >>= f) → Misses e read → Fails e whole
+missed_on e read f whole w h = fails_on e read f whole w (missed e read h)
 
 -- what is read is made into an expression, with which the chain goes on
 ok_made : {A : Type 0} (read : Result A ℕ) (made : A → Term × List TextToken) (again : Term → List TextToken → Outcome) (new : Term) (next : List TextToken) → (read >>= (λ r. Ok (made r))) ≡ Ok (new, next) → (read >>= (λ r. again (made r).0 (made r).1)) ≡ again new next

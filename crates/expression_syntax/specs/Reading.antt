@@ -32,6 +32,15 @@ abbrev pub Gives : {X Y : Type 0} → (X → Y) → Result X Stop → Result Y �
 Gives view (Ok x) read = read ≡ Ok (view x)
 Gives view (Err e) read = Fails e read
 
+-- The same of a function that takes no memory: it stops exactly where reading does.
+abbrev pub Misses : {Y : Type 0} → Stop → Result Y ℕ → Type 0
+Misses stop.Memory read = ⊥
+Misses (stop.Syntax left) read = read ≡ Err left
+
+abbrev pub Finds : {X Y : Type 0} → (X → Y) → Result X Stop → Result Y ℕ → Type 0
+Finds view (Ok x) read = read ≡ Ok (view x)
+Finds view (Err e) read = Misses e read
+
 -- what must be there, or the number of tokens left
 abbrev pub needed : {A : Type 0} → Option A → ℕ → Result A ℕ
 needed None left = Err left

@@ -3,7 +3,7 @@
 ghost use Rattle.std.specs.Prelude.{◌≡◌, ◌<◌, length, IfOk, IfSome, option_map};
 ghost use Rattle.kernel_tree.specs.Plain.{name_of, words_of};
 ghost use Rattle.kernel_tree.specs.Grammar.{number_at};
-ghost use Rattle.expression_syntax.specs.Reading.{Gives, following, past, name_at, name_before, type_at, operator_at};
+ghost use Rattle.expression_syntax.specs.Reading.{Finds, following, past, name_at, name_before, type_at, operator_at};
 
 use crate::class;
 use crate::stop::Stop;
@@ -37,7 +37,7 @@ pub fn accept<'a>(tokens: &'a [Token], mark: Mark) -> Option<&'a [Token]>
 /// The tokens after a mark, which must stand at the front.
 #[tactic(auto, unfolding(crate::specs::Reading::past))]
 pub fn expect<'a>(tokens: &'a [Token], mark: Mark) -> Result<&'a [Token], Stop>
-    ensures { Gives (λ rest. words_of rest.now) result (past mark (words_of tokens.now)) }
+    ensures { Finds (λ rest. words_of rest.now) result (past mark (words_of tokens.now)) }
 {
     match accept(tokens, mark) {
         Some(rest) => Ok(rest),
@@ -58,7 +58,7 @@ pub fn copy_name(alloc: Global, name: &Name) -> Result<Name, AllocError>
 /// The name that must stand at the front.
 #[tactic(auto, unfolding(crate::specs::Reading::name_at))]
 pub fn expect_name<'a>(tokens: &'a [Token]) -> Result<(&'a Name, &'a [Token]), Stop>
-    ensures { Gives (λ x. (name_of x.0.now, words_of x.1.now)) result (name_at (words_of tokens.now)) }
+    ensures { Finds (λ x. (name_of x.0.now, words_of x.1.now)) result (name_at (words_of tokens.now)) }
 {
     match tokens {
         [Token::Name(name), rest @ ..] => Ok((name, rest)),
@@ -69,7 +69,7 @@ pub fn expect_name<'a>(tokens: &'a [Token]) -> Result<(&'a Name, &'a [Token]), S
 /// The name that must stand at the front, and the tokens after a mark that must follow it.
 #[tactic(auto, unfolding(crate::specs::Reading::name_before))]
 pub fn name_then<'a>(tokens: &'a [Token], mark: Mark) -> Result<(&'a Name, &'a [Token]), Stop>
-    ensures { Gives (λ x. (name_of x.0.now, words_of x.1.now)) result (name_before mark (words_of tokens.now)) }
+    ensures { Finds (λ x. (name_of x.0.now, words_of x.1.now)) result (name_before mark (words_of tokens.now)) }
 {
     let (name, following) = expect_name(tokens)?;
     Ok((name, expect(following, mark)?))
@@ -78,7 +78,7 @@ pub fn name_then<'a>(tokens: &'a [Token], mark: Mark) -> Result<(&'a Name, &'a [
 /// The type that must stand at the front.
 #[tactic(auto, unfolding(crate::specs::Reading::type_at))]
 pub fn expect_type<'a>(tokens: &'a [Token]) -> Result<(Ty, &'a [Token]), Stop>
-    ensures { Gives (λ x. (x.0, words_of x.1.now)) result (type_at (words_of tokens.now)) }
+    ensures { Finds (λ x. (x.0, words_of x.1.now)) result (type_at (words_of tokens.now)) }
 {
     match tokens {
         [Token::Type(ty), rest @ ..] => Ok((*ty, rest)),

@@ -4,7 +4,7 @@ use Rattle.kernel_tree.specs.declared.mark.Mark.{Mark}
 use Rattle.kernel_tree.specs.TextToken.{TextToken}
 use Rattle.expression_syntax.specs.declared.stop.Stop.{Stop}
 use Rattle.expression_syntax.specs.declared.stop.Stop.TheVariants as stop
-use Rattle.expression_syntax.specs.Reading.{◌>>=◌, Fails, name_at, past, name_before}
+use Rattle.expression_syntax.specs.Reading.{◌>>=◌, Fails, Misses, name_at, past, name_before}
 
 abbrev both : List ℕ → List TextToken → List ℕ × List TextToken
 both x rest = (x, rest)
@@ -34,7 +34,7 @@ names m words name rest e = go (name_at words) refl e
     go (Ok x) p e = marks x (past m x.1) p refl e
     go (Err n) p e = absurd cc
 
-pub fails_name : {B : Type 0} (e : Stop) (m : Mark) (words : List TextToken) (f : List ℕ × List TextToken → List TextToken → Result B ℕ) (whole : Result B ℕ) → whole ≡ (name_at words >>= (λ x. past m x.1 >>= f x)) → Fails e (name_before m words) → Fails e whole
+pub fails_name : {B : Type 0} (e : Stop) (m : Mark) (words : List TextToken) (f : List ℕ × List TextToken → List TextToken → Result B ℕ) (whole : Result B ℕ) → whole ≡ (name_at words >>= (λ x. past m x.1 >>= f x)) → Misses e (name_before m words) → Fails e whole
 unfolding name_before
 fails_name stop.Memory m words f whole w h = tt
 fails_name (stop.Syntax left) m words f whole w h = w ∙ go (name_at words) h

@@ -5,9 +5,9 @@ use Rattle.kernel_tree.specs.declared.mark.Mark.TheVariants as mark
 use Rattle.kernel_tree.specs.TextToken.{TextToken}
 use Rattle.kernel_tree.specs.Plain.{Parameter, Accumulator}
 use Rattle.expression_syntax.specs.declared.stop.Stop.{Stop}
-use Rattle.expression_syntax.specs.Reading.{◌>>=◌, Fails, given, following, past}
+use Rattle.expression_syntax.specs.Reading.{◌>>=◌, Fails, Misses, given, following, past}
 use Rattle.kernel_syntax.specs.Headers.{Read, param_at, some_at, params_at, var_at, vars_by, vars_at}
-use Rattle.expression_syntax.proofs.Chain.{fails_on}
+use Rattle.expression_syntax.proofs.Chain.{fails_on, missed_on}
 use Rattle.kernel_syntax.proofs.Blocks.{bind_assoc}
 
 -- what was read in front of more
@@ -63,10 +63,10 @@ module _ (whole : Read (List Parameter)) (others : ℕ) (ps : List Parameter) (r
   comma : (p : Parameter) (next : List TextToken) (k : ℕ) → others ≡ suc k → param_at rest ≡ Ok (p, next) → None ≡ following mark.CloseParen next → whole ≡ (past mark.Comma next >>= (λ to. (some_at k to >>= (λ ps. Ok (p ∷ ps.0, ps.1))) >>= in_list ps))
   comma p next k z h e = step p next None h e ∙ ap (λ k. others_next k (p, next) >>= in_list ps) z ∙ bind_assoc (past mark.Comma next) (λ to. some_at k to >>= (λ ps. Ok (p ∷ ps.0, ps.1))) (in_list ps)
 
-  pub fails_comma : (p : Parameter) (next : List TextToken) (e : Stop) → 0 < others → param_at rest ≡ Ok (p, next) → None ≡ following mark.CloseParen next → Fails e (past mark.Comma next) → Fails e whole
+  pub fails_comma : (p : Parameter) (next : List TextToken) (e : Stop) → 0 < others → param_at rest ≡ Ok (p, next) → None ≡ following mark.CloseParen next → Misses e (past mark.Comma next) → Fails e whole
   fails_comma p next e z h n q =
       let k : others ≡ suc (others - 1) = omega arith in
-      fails_on e (past mark.Comma next) (λ to. (some_at (others - 1) to >>= (λ ps. Ok (p ∷ ps.0, ps.1))) >>= in_list ps) whole (comma p next (others - 1) k h n) q
+      missed_on e (past mark.Comma next) (λ to. (some_at (others - 1) to >>= (λ ps. Ok (p ∷ ps.0, ps.1))) >>= in_list ps) whole (comma p next (others - 1) k h n) q
 
   pub takes_param : (p : Parameter) (next to : List TextToken) → 0 < others → param_at rest ≡ Ok (p, next) → None ≡ following mark.CloseParen next → past mark.Comma next ≡ Ok to → ParamsFollow whole (others - 1) (ps ++ p ∷ []) to
   takes_param p next to z h n q =

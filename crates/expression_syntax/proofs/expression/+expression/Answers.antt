@@ -8,7 +8,7 @@ use Rattle.kernel_tree.specs.declared.token.Token.{Token}
 use Rattle.kernel_tree.specs.Grammar.{opening_of_mark}
 use Rattle.expression_syntax.specs.Reading.{mark_at, chain_at, unary_at, signed_by, choice_by, pair_by, absolute_by, term_before}
 use Rattle.expression_syntax.specs.Operands.{joined_by, compared_by}
-use Rattle.expression_syntax.proofs.Chain.{chain-zero, chain-above, fails_on, begins, ends, takes, ends_at, refuses}
+use Rattle.expression_syntax.proofs.Chain.{chain-zero, chain-above, fails_on, missed_on, begins, ends, takes, ends_at, refuses}
 use Rattle.expression_syntax.proofs.Rooms.{opens, unopened}
 use Rattle.expression_syntax.proofs.Within.{reads_go}
 use Rattle.expression_syntax.proofs.Shorter.{chain_short, extended_short}
@@ -115,7 +115,7 @@ pub choice-returns-in_err-from : goal.choice-returns-in_err-from
 unfolding choice_by
 choice-returns-in_err-from t c =
     let p = err_from_is_err_and c.from_residual.result c.from_residual.ensures.1 in
-    rw (p.1, p.2) (fails_on _ _ _ _ refl c.in_err-from.ensures)
+    rw (p.1, p.2) (missed_on _ _ _ _ refl c.in_err-from.ensures)
 
 pub choice-returns-in_err-cond : goal.choice-returns-in_err-cond
 unfolding choice_by
@@ -139,7 +139,7 @@ pub pair-returns-in_err-from : goal.pair-returns-in_err-from
 unfolding pair_by
 pair-returns-in_err-from t c =
     let p = err_from_is_err_and c.from_residual.result c.from_residual.ensures.1 in
-    rw (p.1, p.2) (fails_on _ _ _ _ refl c.in_err-from.ensures)
+    rw (p.1, p.2) (missed_on _ _ _ _ refl c.in_err-from.ensures)
 
 pub pair-returns-in_err-left : goal.pair-returns-in_err-left
 unfolding pair_by
@@ -157,7 +157,7 @@ pub absolute-returns-in_err-from : goal.absolute-returns-in_err-from
 unfolding absolute_by
 absolute-returns-in_err-from t c =
     let p = err_from_is_err_and c.from_residual.result c.from_residual.ensures.1 in
-    rw (p.1, p.2) (fails_on _ _ _ _ refl c.in_err-from.ensures)
+    rw (p.1, p.2) (missed_on _ _ _ _ refl c.in_err-from.ensures)
 
 pub absolute-returns-in_err-arg : goal.absolute-returns-in_err-arg
 unfolding absolute_by
@@ -175,7 +175,7 @@ pub term_then-returns-in_err-expect : goal.term_then-returns-in_err-expect
 unfolding term_before
 term_then-returns-in_err-expect t c =
     let p = err_from_is_err_and c.from_residual-in_err-expect.result c.from_residual-in_err-expect.ensures.1 in
-    rw (p.1, p.2, c.in_ok-e.ensures) (fails_on _ _ _ _ refl c.in_err-expect.ensures)
+    rw (p.1, p.2, c.in_ok-e.ensures) (missed_on _ _ _ _ refl c.in_err-expect.ensures)
 
 pub extended-returns-in_err-right-in-Joined : goal.extended-returns-in_err-right-in-Joined
 unfolding joined_by

@@ -1,7 +1,7 @@
 use Rattle.std.proofs.Common.{refl}
 use Rattle.std.proofs.lemmas.Result.{err_from_is_err_and}
 use Rattle.kernel_syntax.specs.Headers.{var_at}
-use Rattle.expression_syntax.proofs.Chain.{fails_on}
+use Rattle.expression_syntax.proofs.Chain.{fails_on, missed_on}
 use Rattle.kernel_syntax.proofs.Names.{names, fails_name}
 use Rattle.kernel_syntax.proofs.header.accumulator.Goals as goal
 
@@ -16,14 +16,14 @@ unfolding var_at
 returns-in_err-ty c =
     let p = err_from_is_err_and c.from_residual-in_err-ty.result c.from_residual-in_err-ty.ensures.1 in
     let name = names _ _ _ _ c.in_ok-name.ensures in
-    rw (p.1, p.2, name.read, name.marked) (fails_on _ _ _ _ refl c.in_err-ty.ensures)
+    rw (p.1, p.2, name.read, name.marked) (missed_on _ _ _ _ refl c.in_err-ty.ensures)
 
 pub returns-in_err-value : goal.returns-in_err-value
 unfolding var_at
 returns-in_err-value c =
     let p = err_from_is_err_and c.from_residual-in_err-value.result c.from_residual-in_err-value.ensures.1 in
     let name = names _ _ _ _ c.in_ok-name.ensures in
-    rw (p.1, p.2, name.read, name.marked, c.in_ok-ty.ensures) (fails_on _ _ _ _ refl c.in_err-value.ensures)
+    rw (p.1, p.2, name.read, name.marked, c.in_ok-ty.ensures) (missed_on _ _ _ _ refl c.in_err-value.ensures)
 
 pub returns-in_err-init : goal.returns-in_err-init
 unfolding var_at

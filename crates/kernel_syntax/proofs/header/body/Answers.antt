@@ -3,7 +3,7 @@ use Rattle.std.proofs.lemmas.Result.{err_from_is_err_and}
 use Rattle.std.proofs.lemmas.List.{length-map}
 use Rattle.kernel_tree.specs.Plain.{word_of}
 use Rattle.kernel_syntax.specs.Headers.{loop_at, for_loop_at}
-use Rattle.expression_syntax.proofs.Chain.{fails_on}
+use Rattle.expression_syntax.proofs.Chain.{fails_on, missed_on}
 use Rattle.kernel_syntax.proofs.Names.{names, fails_name}
 use Rattle.kernel_syntax.proofs.header.body.Goals as goal
 
@@ -25,7 +25,7 @@ unfolding loop_at for_loop_at
 returns-in_err-end c =
     let p = err_from_is_err_and c.from_residual-in_err-end.result c.from_residual-in_err-end.ensures.1 in
     let index = names _ _ _ _ c.in_ok-index.ensures in
-    rw (p.1, p.2, ← c.in-Some.ensures.value, index.read, index.marked, c.in_ok-range.ensures) (fails_on _ _ _ _ refl (fails_on _ _ _ _ refl c.in_err-end.ensures))
+    rw (p.1, p.2, ← c.in-Some.ensures.value, index.read, index.marked, c.in_ok-range.ensures) (fails_on _ _ _ _ refl (missed_on _ _ _ _ refl c.in_err-end.ensures))
 
 pub returns-in_err-bound : goal.returns-in_err-bound
 unfolding loop_at for_loop_at

@@ -1,7 +1,7 @@
 use Rattle.std.proofs.Common.{refl, arith}
 use Rattle.std.proofs.lemmas.Result.{err_from_is_err_and}
 use Rattle.kernel_syntax.specs.Headers.{kernel_at}
-use Rattle.expression_syntax.proofs.Chain.{fails_on}
+use Rattle.expression_syntax.proofs.Chain.{fails_on, missed_on}
 use Rattle.kernel_syntax.proofs.Names.{names, fails_name}
 use Rattle.kernel_syntax.proofs.Outcomes.{left_following, nothing_following}
 use Rattle.kernel_syntax.proofs.kernel.all.Goals as goal
@@ -16,7 +16,7 @@ pub returns-in_err-from : goal.returns-in_err-from
 unfolding kernel_at
 returns-in_err-from c =
     let p = err_from_is_err_and c.from_residual.result c.from_residual.ensures.1 in
-    rw (p.1, p.2) (fails_on _ _ _ _ refl c.in_err-from.ensures)
+    rw (p.1, p.2) (missed_on _ _ _ _ refl c.in_err-from.ensures)
 
 pub returns-in_err-name : goal.returns-in_err-name
 unfolding kernel_at

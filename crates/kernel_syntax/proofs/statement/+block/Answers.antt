@@ -10,7 +10,7 @@ use Rattle.expression_syntax.specs.Reading.{mark_at}
 use Rattle.kernel_tree.specs.Plain.{words_of, word_of}
 use Rattle.kernel_syntax.specs.Statements.{Statements, statement_by, block_at, choose_by}
 use Rattle.kernel_syntax.proofs.Blocks.{Follows, begins, unbegun, starts, closes, fails_inside, takes, block-none, block-some}
-use Rattle.expression_syntax.proofs.Chain.{fails_on}
+use Rattle.expression_syntax.proofs.Chain.{fails_on, missed_on}
 use Rattle.kernel_syntax.proofs.Shorter.{statement_short}
 use Rattle.kernel_syntax.proofs.statement.+block.Goals as goal
 
@@ -65,7 +65,7 @@ pub choice-returns-in_err-from-in-Some : goal.choice-returns-in_err-from-in-Some
 unfolding choose_by
 choice-returns-in_err-from-in-Some t c =
     let p = err_from_is_err_and c.from_residual-in_err-from-in-Some.result c.from_residual-in_err-from-in-Some.ensures.1 in
-    rw (p.1, p.2, c.in_ok-cond.ensures, c.in_ok-then_part.ensures, ← c.in-Some.ensures.value) (fails_on _ _ _ _ refl c.in_err-from-in-Some.ensures)
+    rw (p.1, p.2, c.in_ok-cond.ensures, c.in_ok-then_part.ensures, ← c.in-Some.ensures.value) (missed_on _ _ _ _ refl c.in_err-from-in-Some.ensures)
 
 pub choice-returns-in_err-other-in-Some : goal.choice-returns-in_err-other-in-Some
 unfolding choose_by

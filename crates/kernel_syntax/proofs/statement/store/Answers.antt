@@ -1,7 +1,7 @@
 use Rattle.std.proofs.Common.{refl}
 use Rattle.std.proofs.lemmas.Result.{err_from_is_err_and}
 use Rattle.kernel_syntax.specs.Statements.{put_at}
-use Rattle.expression_syntax.proofs.Chain.{fails_on}
+use Rattle.expression_syntax.proofs.Chain.{fails_on, missed_on}
 use Rattle.kernel_syntax.proofs.statement.store.Goals as goal
 
 pub returns-in_err-index : goal.returns-in_err-index
@@ -14,7 +14,7 @@ pub returns-in_err-next : goal.returns-in_err-next
 unfolding put_at
 returns-in_err-next c =
     let p = err_from_is_err_and c.from_residual-in_err-next.result c.from_residual-in_err-next.ensures.1 in
-    rw (p.1, p.2, c.in_ok-index.ensures) (fails_on _ _ _ _ refl c.in_err-next.ensures)
+    rw (p.1, p.2, c.in_ok-index.ensures) (missed_on _ _ _ _ refl c.in_err-next.ensures)
 
 pub returns-in_err-value : goal.returns-in_err-value
 unfolding put_at
