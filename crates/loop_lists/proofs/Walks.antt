@@ -87,3 +87,10 @@ module _ (k : Program) (from last_use : ℕ) (old new : List Entry) where
   choice_listed h e f m n o e1 e2 e3 p q r a b c d =
       let parts = λ (m n o : ℕ). old ++ (term_entries k from (from + m + n + o) e ++ (term_entries k (from + m) (from + m + n + o) f ++ (term_entries k (from + m + n) (from + m + n + o) h ++ entry k (from + m + n + o) (IsPlain kind.Select) last_use ∷ []))) in
       four_more old e1 e2 e3 new _ _ _ _ a b c d ∙ ap₂ (parts m) q r ∙ ap (λ (m : ℕ). parts m (term_size (loop_index k) f) (term_size (loop_index k) h)) p
+
+-- an item that stands for its own user
+pub ended : (k : Program) (from : ℕ) (x : Content) (old new : List Entry) (e : Term) (m : ℕ) (middle : List Entry) → m ≡ term_size (loop_index k) e → middle ≡ old ++ term_entries k from (from + m) e → new ≡ middle ++ entry k (from + m) x (from + m) ∷ []
+    → let item = from + term_size (loop_index k) e in new ≡ old ++ (term_entries k from item e ++ entry k item x item ∷ [])
+ended k from x old new e m middle size a b =
+    two_parts old middle new (term_entries k from (from + m) e) (entry k (from + m) x (from + m) ∷ []) a b
+    ∙ ap (λ (n : ℕ). old ++ (term_entries k from (from + n) e ++ entry k (from + n) x (from + n) ∷ [])) size

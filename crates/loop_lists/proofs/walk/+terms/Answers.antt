@@ -1,7 +1,7 @@
-use Rattle.std.proofs.Common.{◌≡◌, ℕ, List, sym, ap, ◌∙◌, arith, refl}
+use Rattle.std.proofs.Common.{◌≡◌, ℕ, ◌+◌, List, sym, ap, ◌∙◌, arith, refl}
 use Rattle.kernel_tree.specs.Plain.{Literal, Variable, Element, Unary, Operation, Shift, Conversion, Choice, Comparison, Both, Either, Not, name_of, term_of}
-use Rattle.kernel_tree.specs.Items.{loop_index, term_size, stream_offset}
-use Rattle.loop_form.specs.Entries.{IsRead, IsPlain}
+use Rattle.kernel_tree.specs.Items.{loop_index, term_size, stream_offset, index_items}
+use Rattle.loop_form.specs.Entries.{IsRead, IsPlain, term_entries}
 use Rattle.loop_form.specs.View.{program, entries_view}
 use Rattle.loop_lists.proofs.Walks.{called, has_place, listed, counted, computed, streamed, stream_read, computed_read, one_operand, two_operands, either_listed, choice_listed}
 use Rattle.loop_lists.proofs.walk.+terms.Goals as goal
@@ -334,7 +334,7 @@ list_read-put-requires-else-is_stream t c =
 pub list_read-returns-then-is_stream-clause-items : goal.list_read-returns-then-is_stream-clause-items
 list_read-returns-then-is_stream-clause-items t c =
     let content = ap (λ (x : List ℕ). IsRead x (term_of c.args.index.now)) c.text.ensures in
-    stream_read (program c.args.kernel.now) c.args.from c.args.last_use (entries_view c.args.entries.now.items) _ _ _ content _ _ _ (sym c.is_stream.ensures ∙ c.if-is_stream.true) c.put.ensures.items
+    stream_read (program c.args.kernel.now) c.args.from c.args.last_use (entries_view c.args.entries.now.items) _ _ _ content (stream_offset (loop_index (program c.args.kernel.now)) (term_of c.args.index.now)) (term_size (loop_index (program c.args.kernel.now)) (term_of c.args.index.now)) (term_entries (program c.args.kernel.now) c.args.from (c.args.from + index_items (loop_index (program c.args.kernel.now)) (term_of c.args.index.now)) (term_of c.args.index.now)) (sym c.is_stream.ensures ∙ c.if-is_stream.true) c.put.ensures.items
 
 pub list_read-returns-then-is_stream-clause-len : goal.list_read-returns-then-is_stream-clause-len
 list_read-returns-then-is_stream-clause-len t c =
