@@ -1,6 +1,7 @@
 use Rattle.std.proofs.Common.{◌+◌, List, drop, ◌++◌, [], ◌∷◌, refl, sym, ap, ap₂, ◌∙◌}
 use Rattle.std.specs.Prelude.{if◌then◌else◌}
 use Rattle.kernel_tree.specs.Plain.{parameter_of, parameters_of}
+use Rattle.std.proofs.lemmas.Result.{IfOk-from_err}
 use Rattle.loop_form.specs.HeldView.{view}
 use Rattle.loop_form.specs.Needs.{Scalar, is_named_scalar, scalar_of, scalars}
 use Rattle.loop_form.specs.View.{entries_view}
@@ -17,3 +18,6 @@ loop-param-preserved c =
 
 pub returns : goal.returns
 returns c = all_put (λ ps. scalars (entries_view c.args.entries.now) (parameters_of ps)) c.args.params.now c.loop-param.param-index (view c.loop-param.held.items) _ refl c.loop-param-test.false c.loop-param.invariant
+
+pub returns-in_err-push_where : goal.returns-in_err-push_where
+returns-in_err-push_where c = IfOk-from_err c.from_residual.result _ c.from_residual.ensures.0

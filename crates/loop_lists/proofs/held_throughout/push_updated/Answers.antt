@@ -1,6 +1,7 @@
 use Rattle.std.proofs.Common.{◌+◌, List, drop, ◌++◌, [], ◌∷◌, map, refl, sym, ap, ap₂, ◌∙◌}
 use Rattle.std.specs.Prelude.{filter, if◌then◌else◌}
 use Rattle.kernel_tree.specs.Plain.{accumulator_of, accumulators_of}
+use Rattle.std.proofs.lemmas.Result.{IfOk-from_err}
 use Rattle.loop_form.specs.HeldView.{view}
 use Rattle.loop_form.specs.Needs.{Accumulating, is_updated, accumulating_of}
 use Rattle.loop_form.specs.View.{entries_view}
@@ -17,3 +18,6 @@ loop-var-preserved c =
 
 pub returns : goal.returns
 returns c = all_put (λ vs. map accumulating_of (filter (is_updated (entries_view c.args.entries.now)) (accumulators_of vs))) c.args.vars.now c.loop-var.var-index (view c.loop-var.held.items) _ refl c.loop-var-test.false c.loop-var.invariant
+
+pub returns-in_err-push_where : goal.returns-in_err-push_where
+returns-in_err-push_where c = IfOk-from_err c.from_residual.result _ c.from_residual.ensures.0

@@ -1,6 +1,7 @@
 use Rattle.std.proofs.Common.{◌+◌, List, drop, ◌++◌, [], ◌∷◌, map, refl, sym, ap, ◌∙◌}
 use Rattle.std.proofs.lemmas.List.{map-append}
 use Rattle.kernel_tree.specs.Plain.{accumulators_of}
+use Rattle.std.proofs.lemmas.Result.{IfOk-from_err}
 use Rattle.loop_form.specs.HeldView.{view, view_of}
 use Rattle.loop_form.specs.Needs.{Accumulating, accumulating_of}
 use Rattle.loop_lists.proofs.Loops.{one_put, all_put}
@@ -15,3 +16,6 @@ loop-var-preserved c =
 
 pub returns : goal.returns
 returns c = all_put (λ vs. map accumulating_of (accumulators_of vs)) c.args.vars.now c.loop-var.var-index (view c.loop-var.held.items) _ refl c.loop-var-test.false c.loop-var.invariant
+
+pub returns-in_err-push : goal.returns-in_err-push
+returns-in_err-push c = IfOk-from_err c.from_residual.result _ c.from_residual.ensures.0

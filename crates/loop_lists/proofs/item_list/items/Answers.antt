@@ -1,4 +1,5 @@
 use Rattle.std.proofs.Common.{◌+◌, ◌++◌, map, drop, refl, ap}
+use Rattle.std.proofs.lemmas.Result.{IfOk-from_err}
 use Rattle.loop_form.specs.Listing.{item_of}
 use Rattle.loop_form.specs.View.{entry_of, entries_view}
 use Rattle.loop_form.proofs.LoopLists.{next-entry, one-more}
@@ -17,3 +18,6 @@ loop-entry-init c = ap (λ is. is ++ map (item_of (entries_view c.args.all.now))
 
 pub returns : goal.returns
 returns c = all_put (λ es. map (item_of (entries_view c.args.all.now)) (entries_view es)) c.args.all.now c.loop-entry.entry-index c.loop-entry.items.items _ refl c.loop-entry-test.false c.loop-entry.invariant
+
+pub returns-in_err-push : goal.returns-in_err-push
+returns-in_err-push c = IfOk-from_err c.from_residual.result _ c.from_residual.ensures.0
