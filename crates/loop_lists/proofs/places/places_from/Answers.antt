@@ -24,3 +24,9 @@ loop-entry-init c = record {
 
 pub returns-in_err-push : goal.returns-in_err-push
 returns-in_err-push c = IfOk-from_err c.from_residual.result _ c.from_residual.ensures.0
+
+pub overflow_add-next : goal.overflow_add-next
+overflow_add-next c =
+    let l = c.loop-entry in
+    let few = few_more l.next c.args.first l.entry-index c.from-next.result c.is_some-is_made.result c.from-next.ensures l.invariant.small in
+    record { fits = omega (arith, few, c.requires, c.loop-entry-test.true) }
