@@ -1,5 +1,5 @@
 -- What the calls of the walk over statements leave in the list.
-use Rattle.std.proofs.Common.{◌≡◌, ℕ, ◌+◌, List, [], ◌∷◌, ◌++◌, ◌∙◌, Option, refl, sym, ap, ap₂, arith, append_assoc}
+use Rattle.std.proofs.Common.{◌≡◌, ℕ, ◌+◌, List, [], ◌∷◌, ◌++◌, ◌∙◌, Option, sym, ap, ap₂, arith, append_assoc}
 use Rattle.kernel_tree.specs.Plain.{Term, Action, Choose, Block, Nothing, Else, Program}
 use Rattle.kernel_tree.specs.Items.{loop_index, term_size, action_size, block_size}
 use Rattle.loop_form.specs.declared.item.ItemKind.TheVariants as kind

@@ -1,5 +1,5 @@
 -- The parts of a kernel's tree are those of the kernel.
-use Rattle.std.proofs.Common.{◌≡◌, ℕ, List, length, Option, sym, ap, ◌∙◌}
+use Rattle.std.proofs.Common.{◌≡◌, ℕ, List, length, sym, ap, ◌∙◌}
 use Rattle.std.specs.Prelude.{option_map, vec_len}
 use Rattle.std.proofs.lemmas.List.{length-map}
 use Rattle.kernel_tree.specs.declared.ast.Kernel.{Kernel}

@@ -1,10 +1,10 @@
 -- What the walk over expressions asks of a call, and what the calls leave in the list.
-use Rattle.std.proofs.Common.{◌≡◌, ℕ, ◌+◌, ◌*◌, ◌<◌, ◌≤◌, ℤ, List, [], ◌∷◌, ◌++◌, ◌∙◌, Option, Some, None, Bool, true, false, refl, sym, ap, ap₂, arith, append_assoc}
+use Rattle.std.proofs.Common.{◌≡◌, ℕ, ◌+◌, ◌*◌, ◌<◌, ◌≤◌, ℤ, List, [], ◌∷◌, ◌++◌, ◌∙◌, Option, Some, None, true, false, refl, sym, ap, ap₂, arith, append_assoc}
 use Rattle.std.specs.Option.{is_some}
 use Rattle.std.proofs.lemmas.Bool.{false≢true}
 use Rattle.kernel_tree.specs.Plain.{Term, Choice, Either, Program}
 use Rattle.kernel_tree.specs.Limits.{term_depth}
-use Rattle.kernel_tree.specs.Items.{loop_index, term_size, index_size, stream_offset}
+use Rattle.kernel_tree.specs.Items.{loop_index, term_size, index_size}
 use Rattle.loop_form.specs.declared.item.ItemKind.TheVariants as kind
 use Rattle.loop_form.specs.Entries.{Content, IsPlain, Entry, entry, term_entries, inner_entries}
 use Rattle.loop_lists.proofs.Steps.{two_parts}

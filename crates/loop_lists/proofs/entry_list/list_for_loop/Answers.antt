@@ -1,8 +1,8 @@
-use Rattle.std.proofs.Common.{◌≡◌, ℕ, ◌+◌, List, ◌∷◌, [], ◌++◌, Option, Some, sym, ap, ap₂, ◌∙◌, arith}
+use Rattle.std.proofs.Common.{◌+◌, List, ◌∷◌, ◌++◌, sym, ap, ap₂, ◌∙◌, arith}
 use Rattle.std.specs.Prelude.{option_map}
 use Rattle.kernel_tree.specs.declared.ast.Stmt.{Stmt}
-use Rattle.kernel_tree.specs.Plain.{PlainLoop, block_of, for_loop_of}
-use Rattle.kernel_tree.specs.Items.{loop_index, index_of, block_size, for_loop_size}
+use Rattle.kernel_tree.specs.Plain.{block_of, for_loop_of}
+use Rattle.kernel_tree.specs.Items.{index_of, block_size, for_loop_size}
 use Rattle.loop_form.specs.declared.item.ItemKind.TheVariants as kind
 use Rattle.loop_form.specs.Entries.{IsPlain, entry, block_entries, for_loop_entries}
 use Rattle.loop_form.specs.View.{program, entries_view}

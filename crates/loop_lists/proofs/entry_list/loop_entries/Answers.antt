@@ -33,9 +33,9 @@ pub returns-clause-near : goal.returns-clause-near
 returns-clause-near c =
     let k = program c.args.kernel.now in
     let items =
-        c.list_for_loop.ensures.items
-        ∙ ap (λ (es : List Entry). entries_view es ++ for_loop_entries k c.first_item.result (option_map for_loop_of c.kernel.result.now.body)) c.new-entries.ensures
-        ∙ ap₂ (for_loop_entries k) c.first_item.ensures (same_loop c.args.kernel.now c.kernel.result.now c.kernel.ensures) in
+    c.list_for_loop.ensures.items
+    ∙ ap (λ (es : List Entry). entries_view es ++ for_loop_entries k c.first_item.result (option_map for_loop_of c.kernel.result.now.body)) c.new-entries.ensures
+    ∙ ap₂ (for_loop_entries k) c.first_item.ensures (same_loop c.args.kernel.now c.kernel.result.now c.kernel.ensures) in
     subst (AreNear (loop_index k)) (sym items) c.near_offsets.ensures
 
 pub returns-clause-small : goal.returns-clause-small

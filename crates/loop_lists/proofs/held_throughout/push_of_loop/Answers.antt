@@ -28,6 +28,6 @@ returns c =
     let vars = vars_listed c.args.kernel.now c.kernel-tree.result.now c.kernel-tree.ensures c.deref-2.result.now c.deref-2.ensures.value in
     let parts = λ (es : List Entry) (ps : List Parameter) (vs : List Accumulator). old ++ (scalars es ps ++ (constants [] es ++ (index_held es (loop_index k) ++ map accumulating_of (filter (is_updated es) vs)))) in
     on_ok_weaker c.push_updated.result (λ p.
-        four_more old (view c.push_scalars.new.held.items) (view c.push_constants.new.held.items) (view c.push_index.new.held.items) (view c.push_updated.new.held.items) _ _ _ _
-        c.in_ok-push_scalars.ensures c.in_ok-push_constants.ensures c.in_ok-push_index.ensures p
-        ∙ ap₂ (parts (entries_view c.args.entries.now)) params vars ∙ ap (λ (es : List Entry). parts es k.params k.vars) c.requires) c.push_updated.ensures
+    four_more old (view c.push_scalars.new.held.items) (view c.push_constants.new.held.items) (view c.push_index.new.held.items) (view c.push_updated.new.held.items) _ _ _ _
+    c.in_ok-push_scalars.ensures c.in_ok-push_constants.ensures c.in_ok-push_index.ensures p
+    ∙ ap₂ (parts (entries_view c.args.entries.now)) params vars ∙ ap (λ (es : List Entry). parts es k.params k.vars) c.requires) c.push_updated.ensures

@@ -1,4 +1,4 @@
-use Rattle.std.proofs.Common.{◌+◌, List, drop, ◌++◌, [], ◌∷◌, refl, sym, ap, ap₂, ◌∙◌}
+use Rattle.std.proofs.Common.{◌+◌, drop, ◌++◌, [], ◌∷◌, refl, sym, ap₂, ◌∙◌}
 use Rattle.std.specs.Prelude.{if◌then◌else◌}
 use Rattle.kernel_tree.specs.Plain.{parameter_of, parameters_of}
 use Rattle.std.proofs.lemmas.Result.{IfOk-from_err}

@@ -1,4 +1,4 @@
-use Rattle.std.proofs.Common.{◌+◌, List, drop, ◌++◌, [], ◌∷◌, map, refl, sym, ap, ap₂, ◌∙◌}
+use Rattle.std.proofs.Common.{◌+◌, drop, ◌++◌, [], ◌∷◌, map, refl, sym, ap₂, ◌∙◌}
 use Rattle.std.specs.Prelude.{filter, if◌then◌else◌}
 use Rattle.kernel_tree.specs.Plain.{accumulator_of, accumulators_of}
 use Rattle.std.proofs.lemmas.Result.{IfOk-from_err}

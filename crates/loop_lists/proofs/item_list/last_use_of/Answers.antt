@@ -1,4 +1,4 @@
-use Rattle.std.proofs.Common.{◌≡◌, ℕ, ◌+◌, drop, Bool, refl, sym, ap, ap₂, ◌∙◌}
+use Rattle.std.proofs.Common.{◌≡◌, ◌+◌, drop, refl, sym, ap, ◌∙◌}
 use Rattle.std.specs.Prelude.{max, if◌then◌else◌}
 use Rattle.loop_form.specs.Listing.{names, last_use_from}
 use Rattle.loop_form.specs.View.{entry_of, entries_view}
@@ -13,10 +13,10 @@ loop-entry-preserved c =
     let x = c.entry-item.result in
     let rest = drop (l.entry-index + 1) c.args.entries.now in
     let last : (if names c.args.name.now (entry_of x) then max l.last x.last_use else l.last) ≡ c.if-is_name.last =
-        elim c.if-is_name.branch [
-          | then-is_name w ↦ ap (λ b. if b then max l.last x.last_use else l.last) (sym c.is_name.ensures ∙ w.if-is_name.true) ∙ sym w.max-last.ensures ∙ sym w.last-is
-          | else-is_name w ↦ ap (λ b. if b then max l.last x.last_use else l.last) (sym c.is_name.ensures ∙ w.if-is_name.false) ∙ sym w.last-is
-        ] in
+    elim c.if-is_name.branch [
+      | then-is_name w ↦ ap (λ b. if b then max l.last x.last_use else l.last) (sym c.is_name.ensures ∙ w.if-is_name.true) ∙ sym w.max-last.ensures ∙ sym w.last-is
+      | else-is_name w ↦ ap (λ b. if b then max l.last x.last_use else l.last) (sym c.is_name.ensures ∙ w.if-is_name.false) ∙ sym w.last-is
+    ] in
     one_carried (λ n es. last_use_from c.args.name.now n (entries_view es)) c.args.entries.now l.entry-index x l.last c.if-is_name.last _ c.loop-entry-test.true c.entry-item.is
     (ap (λ n. last_use_from c.args.name.now n (entries_view rest)) last) l.invariant
 

@@ -1,7 +1,6 @@
-use Rattle.std.proofs.Common.{◌≡◌, ℕ, ◌+◌, ◌-◌, List, [], ◌∷◌, ◌++◌, ◌∙◌, length, take, drop, sym, ap, arith, append_assoc}
-use Rattle.kernel_tree.specs.declared.ast.Var.{Var}
-use Rattle.kernel_tree.specs.Plain.{term_of, accumulators_of}
-use Rattle.kernel_tree.specs.Items.{loop_index, term_size, vars_size}
+use Rattle.std.proofs.Common.{◌+◌, ◌-◌, ◌++◌, ◌∙◌, length, take, drop, ap, arith}
+use Rattle.kernel_tree.specs.Plain.{accumulators_of}
+use Rattle.kernel_tree.specs.Items.{loop_index, vars_size}
 use Rattle.loop_form.specs.Entries.{vars_entries}
 use Rattle.loop_form.specs.View.{program, entries_view}
 use Rattle.loop_lists.proofs.Lists.{opened, empty, same, followed}
