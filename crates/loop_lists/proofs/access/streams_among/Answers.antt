@@ -42,3 +42,17 @@ loop-entry-preserved c =
 
 pub returns : goal.returns
 returns c = all_mapped entry_of (stream_of (program c.args.kernel.now)) c.args.entries.now c.loop-entry.entry-index _ _ c.loop-entry-test.false c.loop-entry.invariant.streams
+
+pub loop-entry-init : goal.loop-entry-init
+loop-entry-init c =
+    let none = ap length c.new-streams.ensures in
+    record {
+      room = omega (arith, none);
+      near = c.requires.near;
+      streams = ap (λ l. l ++ filter_map (stream_of (program c.args.kernel.now)) (entries_view c.args.entries.now)) c.new-streams.ensures;
+    }
+
+pub stream-requires : goal.stream-requires
+stream-requires c =
+    let l = c.loop-entry in
+    (subst (AreNear (loop_index (program c.args.kernel.now))) (ap entries_view (next-entry c.args.entries.now l.entry-index c.entry-item.result c.loop-entry-test.true c.entry-item.is)) l.invariant.near).0

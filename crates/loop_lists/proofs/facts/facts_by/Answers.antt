@@ -2,6 +2,7 @@ use Rattle.std.proofs.Common.{◌≡◌, ◌++◌, length, map, ap, ◌∙◌, a
 use Rattle.std.proofs.lemmas.List.{length-map}
 use Rattle.guest_types.specs.declared.length.Width.TheVariants.{B}
 use Rattle.reg_assign.specs.declared.interval.RegClass.TheVariants.{Z, P}
+use Rattle.std.proofs.lemmas.Result.{IfOk-from_err}
 use Rattle.loop_form.specs.Entries.{entries_of, loop_entries}
 use Rattle.loop_form.specs.HeldView.{view_of, view}
 use Rattle.loop_form.specs.Lanes.{widest}
@@ -64,3 +65,18 @@ places_from-requires-2 c =
     let items = length-map c.args.looped.now entry_of in
     let few = c.few_intervals.ensures in
     omega (arith, looped, items, few)
+
+pub returns-in_err-listing : goal.returns-in_err-listing
+returns-in_err-listing c = IfOk-from_err c.from_residual.result _ c.from_residual.ensures.0
+
+pub returns-in_err-entries : goal.returns-in_err-entries
+returns-in_err-entries c = IfOk-from_err c.from_residual-in_err-entries.result _ c.from_residual-in_err-entries.ensures.0
+
+pub returns-in_err-push_of_loop : goal.returns-in_err-push_of_loop
+returns-in_err-push_of_loop c = IfOk-from_err c.from_residual-in_err-push_of_loop.result _ c.from_residual-in_err-push_of_loop.ensures.0
+
+pub returns-in_err-values : goal.returns-in_err-values
+returns-in_err-values c = IfOk-from_err c.from_residual-in_err-values.result _ c.from_residual-in_err-values.ensures.0
+
+pub returns-in_err-truths : goal.returns-in_err-truths
+returns-in_err-truths c = IfOk-from_err c.from_residual-in_err-truths.result _ c.from_residual-in_err-truths.ensures.0
