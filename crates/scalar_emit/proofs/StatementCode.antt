@@ -16,6 +16,10 @@ use Rattle.loop_code.specs.Statements.{let_code, action_labels, block_labels, ac
 pub emits_as : (L : Layout) (hs hs1 : Homes) (s : Scope) (exit b : ℕ) (d d2 : Drafted) (a a2 : Action) → hs1 ≡ hs → a ≡ a2 → Emits d d2 (d.labels + action_labels s.index a) (action_code L hs1 s exit b d.labels a) → Emits d d2 (d.labels + action_labels s.index a2) (action_code L hs s exit b d.labels a2)
 emits_as L hs hs1 s exit b d d2 a a2 h e p = rw (h, e) at p
 
+-- the item after those of a part
+pub one_more : (b size item : ℕ) → item ≡ b + size → item + 1 ≡ b + (size + 1)
+one_more b size item e = omega arith
+
 pub let_is : (L : Layout) (hs hs1 : Homes) (s : Scope) (b n q from : ℕ) (x : List ℕ) (ty want : Option Ty) (e : Term) (rest : List DraftEntry) → hs1 ≡ hs → want ≡ first ty (own s e) → q ≡ b + term_size s.index e → from ≡ home L hs1 s.index b e
     → value_code L hs1 s want b n e (let_code L q from rest) ≡ action_code L hs s 0 b n (Define x ty e) rest
 let_is L hs hs1 s b n q from x ty want e rest h e1 e2 e3 = rw (e3, e2, e1, h) refl

@@ -1,17 +1,19 @@
 use Rattle.std.proofs.Common.{◌+◌, ◌<◌, ◌^◌, ◌++◌, List, drop, refl, sym, subst, ap, ◌∙◌, arith}
-use Rattle.std.proofs.lemmas.Result.{on_ok_weaker}
-use Rattle.kernel_tree.specs.Plain.{Choose, Leave, Nothing, Else, term_of, action_of, block_of}
+use Rattle.std.proofs.lemmas.Result.{on_ok_weaker, IfOk-equal}
+use Rattle.kernel_tree.specs.Plain.{Action, Choose, Leave, Nothing, Else, term_of, action_of, block_of}
 use Rattle.kernel_tree.specs.Kinds.{BlockKinds}
 use Rattle.kernel_tree.specs.Limits.{block_depth}
-use Rattle.kernel_tree.specs.Typing.{after_block}
+use Rattle.kernel_tree.specs.Items.{term_size, action_size}
+use Rattle.kernel_tree.specs.Typing.{after_action, after_block}
 use Rattle.kernel_scope.specs.Scopes.{scope_of, kept}
 use Rattle.kernel_scope.proofs.Growth.{kept-block}
 use Rattle.scalar_words.specs.View.{homes_of}
 use Rattle.label_fix.specs.DraftRun.{DraftEntry}
-use Rattle.loop_code.specs.Statements.{action_code}
+use Rattle.loop_code.specs.Statements.{after_homes, action_code}
 use Rattle.loop_code.proofs.Emission.{homes_back}
 use Rattle.loop_code.proofs.StatementWalks.{next_statement, emits_on}
-use Rattle.scalar_emit.proofs.StatementCode.{emits_as, if_is, if_count, if_else_is, if_else_count, first_given, second_given, first_room, second_room}
+use Rattle.scalar_emit.proofs.Errors.{on_error, on_any}
+use Rattle.scalar_emit.proofs.StatementCode.{emits_as, one_more, if_is, if_count, if_else_is, if_else_count, first_given, second_given, first_room, second_room}
 use Rattle.scalar_emit.proofs.statements.+statements.Goals as goal
 
 pub emit_inner-returns-clause-scope : goal.emit_inner-returns-clause-scope
@@ -118,3 +120,121 @@ emit_if_else-land-requires-2-clause-given t c = second_given c.in_ok-end.end c.e
 
 pub emit_if_else-land-requires-2-clause-room : goal.emit_if_else-land-requires-2-clause-room
 emit_if_else-land-requires-2-clause-room t c = subst (λ n. n < 2 ^ 32) (sym c.in_ok-emit_inner-2.ensures.item) (second_room (scope_of c.args.scope.now) (scope_of c.emit_inner.new.scope) (term_of c.args.cond.now) (block_of c.args.block.now) (block_of c.args.second.now) c.args.item.now c.emit_jump.new.item c.emit_inner.new.item c.land.new.item c.requires.fits c.in_ok-emit_jump.ensures.item c.in_ok-emit_inner.ensures.item c.in_ok-land.ensures.item c.in_ok-emit_inner.ensures.scope)
+
+-- ---- where a call fails
+
+pub emit_block-returns-in_err-emit_stmt : goal.emit_block-returns-in_err-emit_stmt
+emit_block-returns-in_err-emit_stmt t c =
+    let failed = c.from_residual.ensures.0 in
+    record { scope = on_error _ _ failed; homes = on_error _ _ failed; item = on_error _ _ failed; emits = on_error _ _ failed }
+
+pub emit_if-returns-in_err-other : goal.emit_if-returns-in_err-other
+emit_if-returns-in_err-other t c =
+    let failed = c.from_residual.ensures.0 in
+    record { scope = on_error _ _ failed; homes = on_error _ _ failed; item = on_error _ _ failed; emits = on_error _ _ failed }
+
+pub emit_if-returns-in_err-emit_jump : goal.emit_if-returns-in_err-emit_jump
+emit_if-returns-in_err-emit_jump t c =
+    let failed = c.from_residual-in_err-emit_jump.ensures.0 in
+    record { scope = on_error _ _ failed; homes = on_error _ _ failed; item = on_error _ _ failed; emits = on_error _ _ failed }
+
+pub emit_if-returns-in_err-emit_inner : goal.emit_if-returns-in_err-emit_inner
+emit_if-returns-in_err-emit_inner t c =
+    let failed = c.from_residual-in_err-emit_inner.ensures.0 in
+    record { scope = on_error _ _ failed; homes = on_error _ _ failed; item = on_error _ _ failed; emits = on_error _ _ failed }
+
+pub emit_if_else-returns-in_err-other : goal.emit_if_else-returns-in_err-other
+emit_if_else-returns-in_err-other t c =
+    let failed = c.from_residual.ensures.0 in
+    record { scope = on_error _ _ failed; homes = on_error _ _ failed; item = on_error _ _ failed; emits = on_error _ _ failed }
+
+pub emit_if_else-returns-in_err-emit_jump : goal.emit_if_else-returns-in_err-emit_jump
+emit_if_else-returns-in_err-emit_jump t c =
+    let failed = c.from_residual-in_err-emit_jump.ensures.0 in
+    record { scope = on_error _ _ failed; homes = on_error _ _ failed; item = on_error _ _ failed; emits = on_error _ _ failed }
+
+pub emit_if_else-returns-in_err-emit_inner : goal.emit_if_else-returns-in_err-emit_inner
+emit_if_else-returns-in_err-emit_inner t c =
+    let failed = c.from_residual-in_err-emit_inner.ensures.0 in
+    record { scope = on_error _ _ failed; homes = on_error _ _ failed; item = on_error _ _ failed; emits = on_error _ _ failed }
+
+pub emit_if_else-returns-in_err-end : goal.emit_if_else-returns-in_err-end
+emit_if_else-returns-in_err-end t c =
+    let failed = c.from_residual-in_err-end.ensures.0 in
+    record { scope = on_error _ _ failed; homes = on_error _ _ failed; item = on_error _ _ failed; emits = on_error _ _ failed }
+
+pub emit_if_else-returns-in_err-land : goal.emit_if_else-returns-in_err-land
+emit_if_else-returns-in_err-land t c =
+    let failed = c.from_residual-in_err-land.ensures.0 in
+    record { scope = on_error _ _ failed; homes = on_error _ _ failed; item = on_error _ _ failed; emits = on_error _ _ failed }
+
+pub emit_if_else-returns-in_err-emit_inner-2 : goal.emit_if_else-returns-in_err-emit_inner-2
+emit_if_else-returns-in_err-emit_inner-2 t c =
+    let failed = c.from_residual-in_err-emit_inner-2.ensures.0 in
+    record { scope = on_error _ _ failed; homes = on_error _ _ failed; item = on_error _ _ failed; emits = on_error _ _ failed }
+
+pub emit_inner-returns-in_err-emit_block : goal.emit_inner-returns-in_err-emit_block
+emit_inner-returns-in_err-emit_block t c =
+    let failed = c.from_residual.ensures.0 in
+    record { scope = on_error _ _ failed; homes = on_error _ _ failed; item = on_error _ _ failed; emits = on_error _ _ failed }
+
+pub emit_stmt-returns-in_err-emit_jump-in-Break : goal.emit_stmt-returns-in_err-emit_jump-in-Break
+emit_stmt-returns-in_err-emit_jump-in-Break t c =
+    let failed = c.from_residual.ensures.0 in
+    record { scope = on_error _ _ failed; homes = on_error _ _ failed; item = on_error _ _ failed; emits = on_error _ _ failed }
+
+-- ---- what a statement leaves
+
+pub emit_stmt-returns-in-If-clause-scope : goal.emit_stmt-returns-in-If-clause-scope
+emit_stmt-returns-in-If-clause-scope t c = IfOk-equal c.emit_if.result _ _ _ c.emit_if.ensures.scope (ap (after_action (scope_of c.args.scope.now)) c.in-If.ensures)
+
+pub emit_stmt-returns-in-If-clause-homes : goal.emit_stmt-returns-in-If-clause-homes
+emit_stmt-returns-in-If-clause-homes t c = IfOk-equal c.emit_if.result _ _ _ c.emit_if.ensures.homes (ap (after_homes c.args.places.now (homes_of c.args.homes.now.items) (scope_of c.args.scope.now) c.args.item.now) c.in-If.ensures)
+
+pub emit_stmt-returns-in-If-clause-item : goal.emit_stmt-returns-in-If-clause-item
+emit_stmt-returns-in-If-clause-item t c = IfOk-equal c.emit_if.result _ _ _ c.emit_if.ensures.item (ap (λ (a : Action). c.args.item.now + action_size (scope_of c.args.scope.now).index a) c.in-If.ensures)
+
+pub emit_stmt-returns-in-IfElse-clause-scope : goal.emit_stmt-returns-in-IfElse-clause-scope
+emit_stmt-returns-in-IfElse-clause-scope t c = IfOk-equal c.emit_if_else.result _ _ _ c.emit_if_else.ensures.scope (ap (after_action (scope_of c.args.scope.now)) c.in-IfElse.ensures)
+
+pub emit_stmt-returns-in-IfElse-clause-homes : goal.emit_stmt-returns-in-IfElse-clause-homes
+emit_stmt-returns-in-IfElse-clause-homes t c = IfOk-equal c.emit_if_else.result _ _ _ c.emit_if_else.ensures.homes (ap (after_homes c.args.places.now (homes_of c.args.homes.now.items) (scope_of c.args.scope.now) c.args.item.now) c.in-IfElse.ensures)
+
+pub emit_stmt-returns-in-IfElse-clause-item : goal.emit_stmt-returns-in-IfElse-clause-item
+emit_stmt-returns-in-IfElse-clause-item t c = IfOk-equal c.emit_if_else.result _ _ _ c.emit_if_else.ensures.item (ap (λ (a : Action). c.args.item.now + action_size (scope_of c.args.scope.now).index a) c.in-IfElse.ensures)
+
+pub emit_stmt-returns-in-Let-clause-scope : goal.emit_stmt-returns-in-Let-clause-scope
+emit_stmt-returns-in-Let-clause-scope t c = IfOk-equal c.emit_let.result _ _ _ c.emit_let.ensures.scope (ap (after_action (scope_of c.args.scope.now)) c.in-Let.ensures)
+
+pub emit_stmt-returns-in-Let-clause-homes : goal.emit_stmt-returns-in-Let-clause-homes
+emit_stmt-returns-in-Let-clause-homes t c = IfOk-equal c.emit_let.result _ _ _ c.emit_let.ensures.homes (ap (after_homes c.args.places.now (homes_of c.args.homes.now.items) (scope_of c.args.scope.now) c.args.item.now) c.in-Let.ensures)
+
+pub emit_stmt-returns-in-Let-clause-item : goal.emit_stmt-returns-in-Let-clause-item
+emit_stmt-returns-in-Let-clause-item t c = IfOk-equal c.emit_let.result _ _ _ c.emit_let.ensures.item (ap (λ (a : Action). c.args.item.now + action_size (scope_of c.args.scope.now).index a) c.in-Let.ensures)
+
+pub emit_stmt-returns-in-Store-clause-scope : goal.emit_stmt-returns-in-Store-clause-scope
+emit_stmt-returns-in-Store-clause-scope t c = on_any c.emit_store.result (ap (after_action (scope_of c.args.scope.now)) c.in-Store.ensures)
+
+pub emit_stmt-returns-in-Store-clause-homes : goal.emit_stmt-returns-in-Store-clause-homes
+emit_stmt-returns-in-Store-clause-homes t c = on_any c.emit_store.result (ap (after_homes c.args.places.now (homes_of c.args.homes.now.items) (scope_of c.args.scope.now) c.args.item.now) c.in-Store.ensures)
+
+pub emit_stmt-returns-in-Store-clause-item : goal.emit_stmt-returns-in-Store-clause-item
+emit_stmt-returns-in-Store-clause-item t c = IfOk-equal c.emit_store.result _ _ _ c.emit_store.ensures.item (ap (λ (a : Action). c.args.item.now + action_size (scope_of c.args.scope.now).index a) c.in-Store.ensures)
+
+pub emit_stmt-returns-in-Update-clause-scope : goal.emit_stmt-returns-in-Update-clause-scope
+emit_stmt-returns-in-Update-clause-scope t c = on_any c.emit_update.result (ap (after_action (scope_of c.args.scope.now)) c.in-Update.ensures)
+
+pub emit_stmt-returns-in-Update-clause-homes : goal.emit_stmt-returns-in-Update-clause-homes
+emit_stmt-returns-in-Update-clause-homes t c = on_any c.emit_update.result (ap (after_homes c.args.places.now (homes_of c.args.homes.now.items) (scope_of c.args.scope.now) c.args.item.now) c.in-Update.ensures)
+
+pub emit_stmt-returns-in-Update-clause-item : goal.emit_stmt-returns-in-Update-clause-item
+emit_stmt-returns-in-Update-clause-item t c = IfOk-equal c.emit_update.result _ _ _ c.emit_update.ensures.item (ap (λ (a : Action). c.args.item.now + action_size (scope_of c.args.scope.now).index a) c.in-Update.ensures)
+
+pub emit_stmt-returns-in_ok-emit_jump-in-Break-clause-scope : goal.emit_stmt-returns-in_ok-emit_jump-in-Break-clause-scope
+emit_stmt-returns-in_ok-emit_jump-in-Break-clause-scope t c = ap (after_action (scope_of c.args.scope.now)) c.in-Break.ensures
+
+pub emit_stmt-returns-in_ok-emit_jump-in-Break-clause-homes : goal.emit_stmt-returns-in_ok-emit_jump-in-Break-clause-homes
+emit_stmt-returns-in_ok-emit_jump-in-Break-clause-homes t c = ap (after_homes c.args.places.now (homes_of c.args.homes.now.items) (scope_of c.args.scope.now) c.args.item.now) c.in-Break.ensures
+
+pub emit_stmt-returns-in_ok-emit_jump-in-Break-clause-item : goal.emit_stmt-returns-in_ok-emit_jump-in-Break-clause-item
+emit_stmt-returns-in_ok-emit_jump-in-Break-clause-item t c = one_more c.args.item.now (term_size (scope_of c.args.scope.now).index (term_of c.in-Break.cond.now)) c.emit_jump.new.item c.in_ok-emit_jump-in-Break.ensures.item ∙ ap (λ (a : Action). c.args.item.now + action_size (scope_of c.args.scope.now).index a) c.in-Break.ensures
