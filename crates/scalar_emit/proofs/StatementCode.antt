@@ -1,7 +1,9 @@
 -- The code of statements, put together from that of their parts.
-use Rattle.std.proofs.Common.{◌≡◌, ℕ, ◌+◌, ◌<◌, ◌^◌, false, List, ◌∷◌, Option, refl, ap, arith}
+use Rattle.std.proofs.Common.{◌≡◌, ℕ, ◌+◌, ◌<◌, ◌≤◌, ◌^◌, false, List, ◌∷◌, length, drop, Option, refl, ap, arith}
+use Rattle.std.proofs.lemmas.List.{drop_all}
+use Rattle.kernel_tree.specs.declared.ast.Stmt.{Stmt}
 use Rattle.kernel_tree.specs.declared.ops.Ty.{Ty}
-use Rattle.kernel_tree.specs.Plain.{Term, Action, Define, Choose, Block, Nothing, Else}
+use Rattle.kernel_tree.specs.Plain.{Term, Action, Define, Choose, Block, Done, Nothing, Else, block_of}
 use Rattle.kernel_tree.specs.Items.{term_size, action_size, block_size}
 use Rattle.kernel_tree.specs.Typing.{Scope, own, first, left, after_block}
 use Rattle.label_fix.specs.Draft.{Drafted}
@@ -55,3 +57,16 @@ pub second_room : (s s2 : Scope) (c : Term) (blk second : Block) (b item item2 i
 second_room s s2 c blk second b item item2 item3 h e f g is =
     let k : block_size s2.index second ≡ block_size s.index second = ap (λ (r : Scope). block_size r.index second) is in
     omega arith
+
+pub if_items : (b p q item item2 item3 : ℕ) → item ≡ b + p → item2 ≡ item + 1 + q → item3 ≡ item2 + 1 → item3 ≡ b + (p + 1 + q + 0 + 1)
+if_items b p q item item2 item3 e f g = omega arith
+
+pub if_else_items : (s s2 t : Scope) (second : Block) (b p q item item2 item3 item4 item5 : ℕ) → s2 ≡ left s t → item ≡ b + p → item2 ≡ item + 1 + q → item3 ≡ item2 + 1 → item4 ≡ item3 + block_size s2.index second → item5 ≡ item4 + 1 → item5 ≡ b + (p + 1 + q + (1 + block_size s.index second) + 1)
+if_else_items s s2 t second b p q item item2 item3 item4 item5 is e f g h k =
+    let i : block_size s2.index second ≡ block_size s.index second = ap (λ (r : Scope). block_size r.index second) is in
+    omega arith
+
+-- ---- the end of a block
+
+pub no_statement : (xs : List Stmt) (i : ℕ) → length xs ≤ i → block_of (drop i xs) ≡ Done
+no_statement xs i h = ap block_of (drop_all i xs h)

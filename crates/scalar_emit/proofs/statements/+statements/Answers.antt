@@ -1,19 +1,19 @@
 use Rattle.std.proofs.Common.{◌+◌, ◌<◌, ◌^◌, ◌++◌, List, drop, refl, sym, subst, ap, ◌∙◌, arith}
 use Rattle.std.proofs.lemmas.Result.{on_ok_weaker, IfOk-equal}
-use Rattle.kernel_tree.specs.Plain.{Action, Choose, Leave, Nothing, Else, term_of, action_of, block_of}
-use Rattle.kernel_tree.specs.Kinds.{BlockKinds}
-use Rattle.kernel_tree.specs.Limits.{block_depth}
-use Rattle.kernel_tree.specs.Items.{term_size, action_size}
-use Rattle.kernel_tree.specs.Typing.{after_action, after_block}
+use Rattle.kernel_tree.specs.Plain.{Action, Block, Choose, Leave, Nothing, Else, term_of, action_of, block_of}
+use Rattle.kernel_tree.specs.Kinds.{ActionKinds, BlockKinds}
+use Rattle.kernel_tree.specs.Limits.{action_depth, block_depth}
+use Rattle.kernel_tree.specs.Items.{term_size, action_size, block_size}
+use Rattle.kernel_tree.specs.Typing.{Scope, left, after_action, after_block}
 use Rattle.kernel_scope.specs.Scopes.{scope_of, kept}
 use Rattle.kernel_scope.proofs.Growth.{kept-block}
 use Rattle.scalar_words.specs.View.{homes_of}
 use Rattle.label_fix.specs.DraftRun.{DraftEntry}
-use Rattle.loop_code.specs.Statements.{after_homes, action_code}
+use Rattle.loop_code.specs.Statements.{after_homes, block_homes, block_labels, action_code, block_code}
 use Rattle.loop_code.proofs.Emission.{homes_back}
 use Rattle.loop_code.proofs.StatementWalks.{next_statement, emits_on}
 use Rattle.scalar_emit.proofs.Errors.{on_error, on_any}
-use Rattle.scalar_emit.proofs.StatementCode.{emits_as, one_more, if_is, if_count, if_else_is, if_else_count, first_given, second_given, first_room, second_room}
+use Rattle.scalar_emit.proofs.StatementCode.{emits_as, one_more, no_statement, if_items, if_else_items, if_is, if_count, if_else_is, if_else_count, first_given, second_given, first_room, second_room}
 use Rattle.scalar_emit.proofs.statements.+statements.Goals as goal
 
 pub emit_inner-returns-clause-scope : goal.emit_inner-returns-clause-scope
@@ -238,3 +238,172 @@ emit_stmt-returns-in_ok-emit_jump-in-Break-clause-homes t c = ap (after_homes c.
 
 pub emit_stmt-returns-in_ok-emit_jump-in-Break-clause-item : goal.emit_stmt-returns-in_ok-emit_jump-in-Break-clause-item
 emit_stmt-returns-in_ok-emit_jump-in-Break-clause-item t c = one_more c.args.item.now (term_size (scope_of c.args.scope.now).index (term_of c.in-Break.cond.now)) c.emit_jump.new.item c.in_ok-emit_jump-in-Break.ensures.item ∙ ap (λ (a : Action). c.args.item.now + action_size (scope_of c.args.scope.now).index a) c.in-Break.ensures
+
+-- ---- the statements of a block, one after another
+
+pub emit_block-loop-stmt-init : goal.emit_block-loop-stmt-init
+emit_block-loop-stmt-init t c = record {
+  exit = c.requires.exit;
+  depth = omega arith;
+  kinds = c.requires.kinds;
+  scope = refl;
+  homes = refl;
+  item = refl;
+  labels = refl;
+  code = λ rest. refl;
+}
+
+pub emit_block-emit_stmt-requires : goal.emit_block-emit_stmt-requires
+emit_block-emit_stmt-requires t c =
+    let l = c.loop-stmt in
+    let e = next_statement c.args.block.now l.stmt-index c.stmt-item.result c.loop-stmt-test.true c.stmt-item.is in
+    (omega (arith, ap block_depth e, l.invariant.depth), (l.invariant.exit, ((subst BlockKinds e l.invariant.kinds).0, omega (arith, ap (block_size (scope_of l.scope).index) e, l.invariant.item, c.requires.fits))))
+
+pub emit_block-loop-stmt-smaller : goal.emit_block-loop-stmt-smaller
+emit_block-loop-stmt-smaller t c = omega arith
+
+pub emit_block-returns-clause-scope : goal.emit_block-returns-clause-scope
+emit_block-returns-clause-scope t c =
+    let l = c.loop-stmt in
+    let end = no_statement c.args.block.now l.stmt-index c.loop-stmt-test.false in
+    sym (ap (after_block (scope_of l.scope)) end) ∙ l.invariant.scope
+
+pub emit_block-returns-clause-homes : goal.emit_block-returns-clause-homes
+emit_block-returns-clause-homes t c =
+    let l = c.loop-stmt in
+    let end = no_statement c.args.block.now l.stmt-index c.loop-stmt-test.false in
+    sym (ap (block_homes c.args.places.now (homes_of l.homes.items) (scope_of l.scope) l.item) end) ∙ l.invariant.homes
+
+pub emit_block-returns-clause-item : goal.emit_block-returns-clause-item
+emit_block-returns-clause-item t c =
+    let l = c.loop-stmt in
+    let end = no_statement c.args.block.now l.stmt-index c.loop-stmt-test.false in
+    omega (arith, ap (block_size (scope_of l.scope).index) end, l.invariant.item)
+
+pub emit_block-returns-clause-emits : goal.emit_block-returns-clause-emits
+emit_block-returns-clause-emits t c =
+    let l = c.loop-stmt in
+    let end = no_statement c.args.block.now l.stmt-index c.loop-stmt-test.false in
+    record {
+      labels = omega (arith, ap (block_labels (scope_of l.scope).index) end, l.invariant.labels);
+      code = λ rest. ap (λ (b : Block). l.draft.entries ++ block_code c.args.places.now (homes_of l.homes.items) (scope_of l.scope) c.args.exit l.item l.draft.labels b rest) (sym end) ∙ l.invariant.code rest;
+    }
+
+-- ---- a block whose names are visible no more
+
+pub emit_inner-emit_block-requires : goal.emit_inner-emit_block-requires
+emit_inner-emit_block-requires t c = (omega arith, (c.requires.exit, (c.requires.kinds, c.requires.fits)))
+
+pub emit_inner-returns-clause-item : goal.emit_inner-returns-clause-item
+emit_inner-returns-clause-item t c = c.in_ok-emit_block.ensures.item
+
+pub emit_inner-returns-clause-emits : goal.emit_inner-returns-clause-emits
+emit_inner-returns-clause-emits t c = c.in_ok-emit_block.ensures.emits
+
+-- ---- an `if`
+
+pub emit_if-emit_jump-requires-clause-given : goal.emit_if-emit_jump-requires-clause-given
+emit_if-emit_jump-requires-clause-given t c = omega (arith, c.in_ok-other.ensures.next, c.in_ok-other.ensures.count)
+
+pub emit_if-emit_jump-requires-clause-kind : goal.emit_if-emit_jump-requires-clause-kind
+emit_if-emit_jump-requires-clause-kind t c = c.requires.cond
+
+pub emit_if-emit_jump-requires-clause-fits : goal.emit_if-emit_jump-requires-clause-fits
+emit_if-emit_jump-requires-clause-fits t c = omega (arith, c.requires.fits)
+
+pub emit_if-overflow_add-item : goal.emit_if-overflow_add-item
+emit_if-overflow_add-item t c = omega (arith, c.requires.fits, c.in_ok-emit_jump.ensures.item)
+
+pub emit_if-emit_inner-requires : goal.emit_if-emit_inner-requires
+emit_if-emit_inner-requires t c = (omega arith, (omega (arith, c.requires.exit, c.in_ok-other.ensures.count, c.in_ok-emit_jump.ensures.emits.labels), (c.requires.block, omega (arith, c.requires.fits, c.in_ok-emit_jump.ensures.item))))
+
+pub emit_if-land-requires-clause-given : goal.emit_if-land-requires-clause-given
+emit_if-land-requires-clause-given t c = omega (arith, c.in_ok-other.ensures.next, c.in_ok-other.ensures.count, c.in_ok-emit_jump.ensures.emits.labels, c.in_ok-emit_inner.ensures.emits.labels)
+
+pub emit_if-land-requires-clause-room : goal.emit_if-land-requires-clause-room
+emit_if-land-requires-clause-room t c = omega (arith, c.requires.fits, c.in_ok-emit_jump.ensures.item, c.in_ok-emit_inner.ensures.item)
+
+pub emit_if-returns-clause-scope : goal.emit_if-returns-clause-scope
+emit_if-returns-clause-scope t c = on_any c.land.result c.in_ok-emit_inner.ensures.scope
+
+pub emit_if-returns-clause-homes : goal.emit_if-returns-clause-homes
+emit_if-returns-clause-homes t c = on_any c.land.result c.in_ok-emit_inner.ensures.homes
+
+pub emit_if-returns-clause-item : goal.emit_if-returns-clause-item
+emit_if-returns-clause-item t c = on_ok_weaker c.land.result (if_items c.args.item.now (term_size (scope_of c.args.scope.now).index (term_of c.args.cond.now)) (block_size (scope_of c.args.scope.now).index (block_of c.args.block.now)) c.emit_jump.new.item c.emit_inner.new.item c.land.new.item c.in_ok-emit_jump.ensures.item c.in_ok-emit_inner.ensures.item) c.land.ensures.item
+
+-- ---- an `if` with a second block
+
+pub emit_if_else-emit_jump-requires-clause-given : goal.emit_if_else-emit_jump-requires-clause-given
+emit_if_else-emit_jump-requires-clause-given t c = omega (arith, c.in_ok-other.ensures.next, c.in_ok-other.ensures.count)
+
+pub emit_if_else-emit_jump-requires-clause-kind : goal.emit_if_else-emit_jump-requires-clause-kind
+emit_if_else-emit_jump-requires-clause-kind t c = c.requires.cond
+
+pub emit_if_else-emit_jump-requires-clause-fits : goal.emit_if_else-emit_jump-requires-clause-fits
+emit_if_else-emit_jump-requires-clause-fits t c = omega (arith, c.requires.fits)
+
+pub emit_if_else-overflow_add-item : goal.emit_if_else-overflow_add-item
+emit_if_else-overflow_add-item t c = omega (arith, c.requires.fits, c.in_ok-emit_jump.ensures.item)
+
+pub emit_if_else-emit_inner-requires : goal.emit_if_else-emit_inner-requires
+emit_if_else-emit_inner-requires t c = (omega arith, (omega (arith, c.requires.exit, c.in_ok-other.ensures.count, c.in_ok-emit_jump.ensures.emits.labels), (c.requires.block, omega (arith, c.requires.fits, c.in_ok-emit_jump.ensures.item))))
+
+pub emit_if_else-branch_ahead-requires : goal.emit_if_else-branch_ahead-requires
+emit_if_else-branch_ahead-requires t c = refl
+
+pub emit_if_else-emit_inner-requires-2 : goal.emit_if_else-emit_inner-requires-2
+emit_if_else-emit_inner-requires-2 t c = (omega arith, (omega (arith, c.requires.exit, c.in_ok-other.ensures.count, c.in_ok-emit_jump.ensures.emits.labels, c.in_ok-emit_inner.ensures.emits.labels, c.in_ok-end.ensures.emits.labels, c.in_ok-land.ensures.emits.labels), (c.requires.second, second_room (scope_of c.args.scope.now) (scope_of c.emit_inner.new.scope) (term_of c.args.cond.now) (block_of c.args.block.now) (block_of c.args.second.now) c.args.item.now c.emit_jump.new.item c.emit_inner.new.item c.land.new.item c.requires.fits c.in_ok-emit_jump.ensures.item c.in_ok-emit_inner.ensures.item c.in_ok-land.ensures.item c.in_ok-emit_inner.ensures.scope)))
+
+pub emit_if_else-returns-clause-scope : goal.emit_if_else-returns-clause-scope
+emit_if_else-returns-clause-scope t c = on_any c.land-2.result (c.in_ok-emit_inner-2.ensures.scope ∙ ap (λ (r : Scope). left r (after_block r (block_of c.args.second.now))) c.in_ok-emit_inner.ensures.scope)
+
+pub emit_if_else-returns-clause-homes : goal.emit_if_else-returns-clause-homes
+emit_if_else-returns-clause-homes t c = on_any c.land-2.result (c.in_ok-emit_inner-2.ensures.homes ∙ c.in_ok-emit_inner.ensures.homes)
+
+pub emit_if_else-returns-clause-item : goal.emit_if_else-returns-clause-item
+emit_if_else-returns-clause-item t c = on_ok_weaker c.land-2.result (if_else_items (scope_of c.args.scope.now) (scope_of c.emit_inner.new.scope) (after_block (scope_of c.args.scope.now) (block_of c.args.block.now)) (block_of c.args.second.now) c.args.item.now (term_size (scope_of c.args.scope.now).index (term_of c.args.cond.now)) (block_size (scope_of c.args.scope.now).index (block_of c.args.block.now)) c.emit_jump.new.item c.emit_inner.new.item c.land.new.item c.emit_inner-2.new.item c.land-2.new.item c.in_ok-emit_inner.ensures.scope c.in_ok-emit_jump.ensures.item c.in_ok-emit_inner.ensures.item c.in_ok-land.ensures.item c.in_ok-emit_inner-2.ensures.item) c.land-2.ensures.item
+
+-- ---- what a statement asks of its parts
+
+pub emit_stmt-emit_if-requires : goal.emit_stmt-emit_if-requires
+emit_stmt-emit_if-requires t c =
+    let is = sym c.in-If.ensures in
+    let kinds = subst ActionKinds is c.requires.kinds in
+    (omega (arith, ap action_depth is), (c.requires.exit, (kinds.0, (kinds.1, subst (λ (a : Action). c.args.item.now + action_size (scope_of c.args.scope.now).index a < 2 ^ 32) is c.requires.fits))))
+
+pub emit_stmt-emit_if_else-requires : goal.emit_stmt-emit_if_else-requires
+emit_stmt-emit_if_else-requires t c =
+    let is = sym c.in-IfElse.ensures in
+    let kinds = subst ActionKinds is c.requires.kinds in
+    (omega (arith, ap action_depth is), (c.requires.exit, (kinds.0, (kinds.1, (kinds.2, subst (λ (a : Action). c.args.item.now + action_size (scope_of c.args.scope.now).index a < 2 ^ 32) is c.requires.fits)))))
+
+pub emit_stmt-emit_let-requires-clause-kind : goal.emit_stmt-emit_let-requires-clause-kind
+emit_stmt-emit_let-requires-clause-kind t c = subst ActionKinds (sym c.in-Let.ensures) c.requires.kinds
+
+pub emit_stmt-emit_let-requires-clause-fits : goal.emit_stmt-emit_let-requires-clause-fits
+emit_stmt-emit_let-requires-clause-fits t c = subst (λ (a : Action). c.args.item.now + action_size (scope_of c.args.scope.now).index a < 2 ^ 32) (sym c.in-Let.ensures) c.requires.fits
+
+pub emit_stmt-emit_store-requires-clause-kind : goal.emit_stmt-emit_store-requires-clause-kind
+emit_stmt-emit_store-requires-clause-kind t c = subst ActionKinds (sym c.in-Store.ensures) c.requires.kinds
+
+pub emit_stmt-emit_store-requires-clause-fits : goal.emit_stmt-emit_store-requires-clause-fits
+emit_stmt-emit_store-requires-clause-fits t c = subst (λ (a : Action). c.args.item.now + action_size (scope_of c.args.scope.now).index a < 2 ^ 32) (sym c.in-Store.ensures) c.requires.fits
+
+pub emit_stmt-emit_update-requires-clause-kind : goal.emit_stmt-emit_update-requires-clause-kind
+emit_stmt-emit_update-requires-clause-kind t c = subst ActionKinds (sym c.in-Update.ensures) c.requires.kinds
+
+pub emit_stmt-emit_update-requires-clause-fits : goal.emit_stmt-emit_update-requires-clause-fits
+emit_stmt-emit_update-requires-clause-fits t c = subst (λ (a : Action). c.args.item.now + action_size (scope_of c.args.scope.now).index a < 2 ^ 32) (sym c.in-Update.ensures) c.requires.fits
+
+pub emit_stmt-emit_jump-requires-clause-given : goal.emit_stmt-emit_jump-requires-clause-given
+emit_stmt-emit_jump-requires-clause-given t c = c.requires.exit
+
+pub emit_stmt-emit_jump-requires-clause-kind : goal.emit_stmt-emit_jump-requires-clause-kind
+emit_stmt-emit_jump-requires-clause-kind t c = subst ActionKinds (sym c.in-Break.ensures) c.requires.kinds
+
+pub emit_stmt-emit_jump-requires-clause-fits : goal.emit_stmt-emit_jump-requires-clause-fits
+emit_stmt-emit_jump-requires-clause-fits t c = omega (arith, ap (action_size (scope_of c.args.scope.now).index) c.in-Break.ensures, c.requires.fits)
+
+pub emit_stmt-overflow_add-item : goal.emit_stmt-overflow_add-item
+emit_stmt-overflow_add-item t c = omega (arith, ap (action_size (scope_of c.args.scope.now).index) c.in-Break.ensures, c.requires.fits, c.in_ok-emit_jump-in-Break.ensures.item)
