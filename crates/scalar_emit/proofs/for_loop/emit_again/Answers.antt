@@ -7,6 +7,7 @@ use Rattle.scalar_words.specs.Layout.{loose_in}
 use Rattle.std.specs.Prelude.{option_map}
 use Rattle.scalar_words.specs.View.{form_of, homes_of, looses_of}
 use Rattle.scalar_emit.proofs.LoopCode.{again_is}
+use Rattle.scalar_emit.proofs.Errors.{on_error}
 use Rattle.scalar_emit.proofs.for_loop.emit_again.Goals as goal
 
 pub returns : goal.returns
@@ -22,3 +23,15 @@ returns c =
           (again_is (option_map form_of c.loose_form-form.result) (loose_in c.args.places.now.loose (name_of c.args.for_loop.now.index)) c.args.bound.number c.args.labels.head c.args.labels.last c.args.labels.exit (homes_of c.args.homes.now) (looses_of c.loose.result.now) c.args.places.now.loose (word_view c.next_iteration.result) rest
           c.next_iteration.ensures c.loose_form-form.ensures c.requires.last c.requires.exit c.loose.ensures);
     }) c.place-2.ensures
+
+pub returns-in_err-put : goal.returns-in_err-put
+returns-in_err-put c = on_error _ _ c.from_residual.ensures.0
+
+pub returns-in_err-emit_back : goal.returns-in_err-emit_back
+returns-in_err-emit_back c = on_error _ _ c.from_residual-in_err-emit_back.ensures.0
+
+pub returns-in_err-place : goal.returns-in_err-place
+returns-in_err-place c = on_error _ _ c.from_residual-in_err-place.ensures.0
+
+pub returns-in_err-emit_extended : goal.returns-in_err-emit_extended
+returns-in_err-emit_extended c = on_error _ _ c.from_residual-in_err-emit_extended.ensures.0

@@ -1,4 +1,4 @@
-use Rattle.std.proofs.Common.{ℕ, ◌+◌, ◌++◌, List, None, ap, ap₂, ◌∙◌}
+use Rattle.std.proofs.Common.{ℕ, ◌+◌, ◌++◌, List, None, ap, ap₂, ◌∙◌, arith, sym}
 use Rattle.kernel_tree.specs.Plain.{for_loop_of, block_of}
 use Rattle.kernel_tree.specs.Typing.{Scope}
 use Rattle.kernel_scope.specs.Scopes.{scope_of}
@@ -6,7 +6,10 @@ use Rattle.label_fix.specs.DraftRun.{DraftEntry}
 use Rattle.scalar_words.specs.View.{homes_of}
 use Rattle.loop_code.specs.Statements.{block_labels}
 use Rattle.loop_code.proofs.Emission.{index_named}
-use Rattle.scalar_emit.proofs.LoopCode.{loop_is}
+use Rattle.scalar_emit.proofs.LoopCode.{loop_is, loop_items}
+use Rattle.std.proofs.lemmas.Result.{IfOk-from_err}
+use Rattle.scalar_emit.proofs.Errors.{on_error}
+use Rattle.kernel_tree.specs.Items.{block_size}
 use Rattle.scalar_emit.proofs.for_loop.emit_loop.Goals as goal
 
 pub returns-clause-emits : goal.returns-clause-emits
@@ -22,3 +25,66 @@ returns-clause-emits c =
           (loop_is c.args.places.now (homes_of c.args.homes.now.items) (homes_of c.deref.result.now) (homes_of c.deref-2.result.now) (homes_of c.push.new.self.items) (homes_of c.deref-3.result.now) (scope_of c.args.scope.now) (scope_of c.declare.new.scope) (for_loop_of c.args.for_loop.now) c.args.item.now c.args.draft.now.labels c.register_at-bound.result.number c.in_ok-labels.labels.last c.emit_entry.new.draft.labels c.in_ok-labels.labels.head rest
           c.register_at-bound.ensures (ap homes_of c.deref.ensures.value) (ap homes_of c.deref-2.ensures.value ∙ named) named (ap homes_of c.deref-3.ensures.value ∙ c.in_ok-emit_inside.ensures.homes ∙ named) c.in_ok-declare.ensures c.in_ok-labels.ensures.last c.in_ok-labels.ensures.emits.labels c.in_ok-labels.ensures.head);
     }
+
+pub returns-in_err-push : goal.returns-in_err-push
+returns-in_err-push c =
+    let failed = c.from_residual.ensures.0 in
+    record { head = IfOk-from_err _ _ failed; scope = on_error _ _ failed; homes = on_error _ _ failed; item = on_error _ _ failed; emits = on_error _ _ failed }
+
+pub returns-in_err-declare : goal.returns-in_err-declare
+returns-in_err-declare c =
+    let failed = c.from_residual-in_err-declare.ensures.0 in
+    record { head = IfOk-from_err _ _ failed; scope = on_error _ _ failed; homes = on_error _ _ failed; item = on_error _ _ failed; emits = on_error _ _ failed }
+
+pub returns-in_err-labels : goal.returns-in_err-labels
+returns-in_err-labels c =
+    let failed = c.from_residual-in_err-labels.ensures.0 in
+    record { head = IfOk-from_err _ _ failed; scope = on_error _ _ failed; homes = on_error _ _ failed; item = on_error _ _ failed; emits = on_error _ _ failed }
+
+pub returns-in_err-emit_inside : goal.returns-in_err-emit_inside
+returns-in_err-emit_inside c =
+    let failed = c.from_residual-in_err-emit_inside.ensures.0 in
+    record { head = IfOk-from_err _ _ failed; scope = on_error _ _ failed; homes = on_error _ _ failed; item = on_error _ _ failed; emits = on_error _ _ failed }
+
+pub returns-in_err-emit_again : goal.returns-in_err-emit_again
+returns-in_err-emit_again c =
+    let failed = c.from_residual-in_err-emit_again.ensures.0 in
+    record { head = IfOk-from_err _ _ failed; scope = on_error _ _ failed; homes = on_error _ _ failed; item = on_error _ _ failed; emits = on_error _ _ failed }
+
+pub overflow_add-item : goal.overflow_add-item
+overflow_add-item c = omega (arith, c.requires.fits)
+
+pub emit_inside-requires-clause-last : goal.emit_inside-requires-clause-last
+emit_inside-requires-clause-last c = omega (arith, c.in_ok-labels.ensures.last, c.in_ok-labels.ensures.emits.labels)
+
+pub emit_inside-requires-clause-kinds : goal.emit_inside-requires-clause-kinds
+emit_inside-requires-clause-kinds c = c.requires.kinds
+
+pub emit_inside-requires-clause-fits : goal.emit_inside-requires-clause-fits
+emit_inside-requires-clause-fits c = omega (arith, ap (λ (s : Scope). block_size s.index (block_of c.args.for_loop.now.body.items)) c.in_ok-declare.ensures, c.requires.fits)
+
+pub emit_again-requires-clause-exit : goal.emit_again-requires-clause-exit
+emit_again-requires-clause-exit c = c.in_ok-labels.ensures.exit ∙ sym (ap (λ n. n + 1) c.in_ok-labels.ensures.head)
+
+pub emit_again-requires-clause-top : goal.emit_again-requires-clause-top
+emit_again-requires-clause-top c = c.in_ok-labels.ensures.top ∙ sym (ap (λ n. n + 2) c.in_ok-labels.ensures.head)
+
+pub emit_again-requires-clause-last : goal.emit_again-requires-clause-last
+emit_again-requires-clause-last c = c.in_ok-labels.ensures.last ∙ sym (ap (λ n. n + 3) c.in_ok-labels.ensures.head)
+
+pub emit_again-requires-clause-given : goal.emit_again-requires-clause-given
+emit_again-requires-clause-given c = omega (arith, c.in_ok-labels.ensures.last, c.in_ok-labels.ensures.emits.labels, c.in_ok-emit_inside.ensures.emits.labels)
+
+pub returns-clause-head : goal.returns-clause-head
+returns-clause-head c = c.in_ok-labels.ensures.head
+
+pub returns-clause-scope : goal.returns-clause-scope
+returns-clause-scope c = c.in_ok-emit_inside.ensures.scope ∙ c.in_ok-declare.ensures
+
+pub returns-clause-homes : goal.returns-clause-homes
+returns-clause-homes c =
+    let home = ap₂ (λ (x : List ℕ) (r : ℕ). record { name = x; register = r; last_use = None }) c.text-name.ensures c.index-register.ensures in
+    c.in_ok-emit_inside.ensures.homes ∙ index_named c.args.homes.now.items c.push.new.self.items _ (for_loop_of c.args.for_loop.now) c.in_ok-push.ensures.items home
+
+pub returns-clause-item : goal.returns-clause-item
+returns-clause-item c = loop_items (scope_of c.args.scope.now) (scope_of c.declare.new.scope) (block_of c.args.for_loop.now.body.items) c.args.item.now c.emit_inside.new.item (ap (λ (s : Scope). s.index) c.in_ok-declare.ensures) c.in_ok-emit_inside.ensures.item

@@ -11,6 +11,7 @@ use Rattle.loop_code.specs.Kernel.{zero_index}
 use Rattle.scalar_words.specs.View.{homes_of}
 use Rattle.loop_code.proofs.Emission.{begin_is, begin_count}
 use Rattle.scalar_words.proofs.Layouts.{count_params}
+use Rattle.scalar_emit.proofs.Errors.{on_error}
 use Rattle.scalar_emit.proofs.kernel.emit_first.Goals as goal
 
 pub returns : goal.returns
@@ -31,3 +32,12 @@ returns c =
           (begin_is R k c.args.places.now (homes_of c.declare_params.new.homes.items) (scope_of c.declare_params.new.scope) c.len-first.result c.emit_arguments.new.draft.labels c.args.draft.now.labels (parameters_of c.deref-2.result.now) (accumulators_of c.deref-3.result.now) rest
           c.requires.places homes scope first c.in_ok-emit_arguments.ensures.labels (ap parameters_of c.deref-2.ensures.value) (ap accumulators_of c.deref-3.ensures.value));
     }) c.put.ensures
+
+pub returns-in_err-declare_params : goal.returns-in_err-declare_params
+returns-in_err-declare_params c = on_error _ _ c.from_residual.ensures.0
+
+pub returns-in_err-emit_arguments : goal.returns-in_err-emit_arguments
+returns-in_err-emit_arguments c = on_error _ _ c.from_residual-in_err-emit_arguments.ensures.0
+
+pub returns-in_err-emit_vars : goal.returns-in_err-emit_vars
+returns-in_err-emit_vars c = on_error _ _ c.from_residual-in_err-emit_vars.ensures.0

@@ -1,4 +1,4 @@
-use Rattle.std.proofs.Common.{◌++◌, List, sym, ap, ◌∙◌, subst}
+use Rattle.std.proofs.Common.{◌++◌, List, sym, ap, ◌∙◌, subst, arith}
 use Rattle.kernel_tree.specs.Plain.{for_loop_of, program_of}
 use Rattle.kernel_tree.specs.Kinds.{ForLoopKinds}
 use Rattle.kernel_tree.specs.Typing.{Scope}
@@ -10,6 +10,8 @@ use Rattle.scalar_words.proofs.Layouts.{count_params}
 use Rattle.scalar_words.specs.View.{homes_of}
 use Rattle.loop_code.specs.Loop.{bare}
 use Rattle.loop_code.proofs.Emission.{known_index, numbers_are, for_loop_is, for_loop_count, held_is, loop_ends, loop_room, answer_room, at_end}
+use Rattle.std.proofs.lemmas.Result.{IfOk-from_err}
+use Rattle.scalar_emit.proofs.Errors.{on_error}
 use Rattle.scalar_emit.proofs.kernel.emit_for_loop.Goals as goal
 
 pub emit_loop-requires-clause-kinds : goal.emit_loop-requires-clause-kinds
@@ -53,3 +55,40 @@ returns-clause-emits c =
           (for_loop_is R k c.loosen_names.new.places c.leave_loop.new.places (homes_of c.args.homes.now.items) (homes_of c.deref-2.result.now) s t l c.args.item c.args.draft.now.labels c.emit_loop.new.item c.emit_loop.new.draft.labels rest
           held left c.requires.homes scope homes c.in_ok-at_iteration.ensures.scope c.requires.for_loop c.requires.start end c.in_ok-at_iteration.ensures.emits.labels);
     }
+
+pub returns-in_err-hold_numbers : goal.returns-in_err-hold_numbers
+returns-in_err-hold_numbers c =
+    let failed = c.from_residual.ensures.0 in
+    record { entry = IfOk-from_err _ _ failed; emits = on_error _ _ failed }
+
+pub returns-in_err-loosen_names : goal.returns-in_err-loosen_names
+returns-in_err-loosen_names c =
+    let failed = c.from_residual-in_err-loosen_names.ensures.0 in
+    record { entry = IfOk-from_err _ _ failed; emits = on_error _ _ failed }
+
+pub returns-in_err-at_iteration : goal.returns-in_err-at_iteration
+returns-in_err-at_iteration c =
+    let failed = c.from_residual-in_err-at_iteration.ensures.0 in
+    record { entry = IfOk-from_err _ _ failed; emits = on_error _ _ failed }
+
+pub returns-in_err-leave_loop : goal.returns-in_err-leave_loop
+returns-in_err-leave_loop c =
+    let failed = c.from_residual-in_err-leave_loop.ensures.0 in
+    record { entry = IfOk-from_err _ _ failed; emits = on_error _ _ failed }
+
+pub returns-in_err-emit_answer : goal.returns-in_err-emit_answer
+returns-in_err-emit_answer c =
+    let failed = c.from_residual-in_err-emit_answer.ensures.0 in
+    record { entry = IfOk-from_err _ _ failed; emits = on_error _ _ failed }
+
+pub returns-clause-entry : goal.returns-clause-entry
+returns-clause-entry c = c.in_ok-at_iteration.ensures.head
+
+pub hold_numbers-requires : goal.hold_numbers-requires
+hold_numbers-requires c = omega (arith, c.requires.params, c.len-params.ensures, c.args.kernel.now.params.ok.0, count_params c.args.kernel.now.params.items)
+
+pub loosen_names-requires-clause-for_loop : goal.loosen_names-requires-clause-for_loop
+loosen_names-requires-clause-for_loop c = c.requires.for_loop
+
+pub loosen_names-requires-clause-scope : goal.loosen_names-requires-clause-scope
+loosen_names-requires-clause-scope c = c.requires.scope

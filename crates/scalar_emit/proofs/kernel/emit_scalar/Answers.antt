@@ -1,5 +1,5 @@
 use Rattle.std.proofs.Common.{◌+◌, ◌*◌, [], ◌++◌, List, sym, ap, ap₂, ◌∙◌}
-use Rattle.std.proofs.lemmas.Result.{on_ok_weaker}
+use Rattle.std.proofs.lemmas.Result.{on_ok_weaker, IfOk-from_err}
 use Rattle.kernel_tree.specs.declared.ast.Kernel.{Kernel}
 use Rattle.kernel_tree.specs.declared.ast.Var.{Var}
 use Rattle.kernel_tree.specs.Plain.{accumulators_of, program_of}
@@ -9,6 +9,7 @@ use Rattle.scalar_words.specs.KernelRegisters.{register_in}
 use Rattle.loop_code.specs.Kernel.{scalar_labels, scalar_code}
 use Rattle.loop_code.proofs.Counts.{scalar_words, words_added}
 use Rattle.scalar_words.proofs.Layouts.{count_params}
+use Rattle.scalar_emit.proofs.Errors.{on_error}
 use Rattle.scalar_emit.proofs.kernel.emit_scalar.Goals as goal
 
 -- the items of the loop begin after those of the parameters and of the accumulators
@@ -36,3 +37,8 @@ returns-clause-words c =
     let R = register_in c.args.regs.now in
     let n = c.args.draft.now.labels in
     on_ok_weaker c.emit_rest.result (λ p. words_added c.args.draft.now.entries c.emit_rest.new.draft.entries (scalar_code R k n []) (64 + 16 * size_of k) (p.code []) (scalar_words R k n [])) (returns-clause-emits c)
+
+pub returns-in_err-places : goal.returns-in_err-places
+returns-in_err-places c =
+    let failed = c.from_residual.ensures.0 in
+    record { words = on_error _ _ failed; entry = IfOk-from_err _ _ failed; emits = on_error _ _ failed }

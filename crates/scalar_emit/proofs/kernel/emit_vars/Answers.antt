@@ -6,6 +6,7 @@ use Rattle.loop_form.proofs.LoopLists.{next-entry}
 use Rattle.scalar_words.specs.KernelRegisters.{register_in}
 use Rattle.scalar_words.specs.View.{homes_of}
 use Rattle.scalar_emit.proofs.LoopCode.{vars_on}
+use Rattle.scalar_emit.proofs.Errors.{on_error}
 use Rattle.scalar_emit.proofs.kernel.emit_vars.Goals as goal
 
 pub loop-var-preserved : goal.loop-var-preserved
@@ -22,3 +23,6 @@ loop-var-preserved c =
       labels = step.labels ∙ l.invariant.labels;
       code = λ rest. step.code rest ∙ l.invariant.code rest;
     }
+
+pub returns-in_err-emit_var : goal.returns-in_err-emit_var
+returns-in_err-emit_var c = on_error _ _ c.from_residual.ensures.0

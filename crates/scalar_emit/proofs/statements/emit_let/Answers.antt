@@ -1,4 +1,4 @@
-use Rattle.std.proofs.Common.{◌++◌, List, ap, ◌∙◌}
+use Rattle.std.proofs.Common.{◌++◌, List, ap, ◌∙◌, arith}
 use Rattle.std.proofs.lemmas.Result.{on_ok_weaker}
 use Rattle.kernel_tree.specs.Plain.{name_of, term_of}
 use Rattle.kernel_tree.specs.Typing.{first}
@@ -6,6 +6,7 @@ use Rattle.kernel_scope.specs.Scopes.{scope_of}
 use Rattle.label_fix.specs.DraftRun.{DraftEntry}
 use Rattle.scalar_words.specs.View.{homes_of}
 use Rattle.scalar_emit.proofs.StatementCode.{let_is}
+use Rattle.scalar_emit.proofs.Errors.{on_error}
 use Rattle.scalar_emit.proofs.statements.emit_let.Goals as goal
 
 pub returns-clause-emits : goal.returns-clause-emits
@@ -18,3 +19,27 @@ returns-clause-emits c =
           (let_is c.args.places.now (homes_of c.args.homes.now.items) (homes_of c.deref.result.now) (scope_of c.args.scope.now) c.args.item.now c.args.draft.now.labels c.emit_value.new.item c.in_ok-from.from.number (name_of c.args.name.now) c.args.ty c.first-want.result (term_of c.args.value.now) rest
           (ap homes_of c.deref.ensures.value) (c.first-want.ensures ∙ ap (first c.args.ty) c.own_type.ensures) c.in_ok-from.ensures.item c.in_ok-from.ensures.register);
     }) c.define.ensures
+
+pub returns-in_err-from : goal.returns-in_err-from
+returns-in_err-from c =
+    let failed = c.from_residual.ensures.0 in
+    record { scope = on_error _ _ failed; homes = on_error _ _ failed; item = on_error _ _ failed; emits = on_error _ _ failed }
+
+pub returns-in_err-emit_kept : goal.returns-in_err-emit_kept
+returns-in_err-emit_kept c =
+    let failed = c.from_residual-in_err-emit_kept.ensures.0 in
+    record { scope = on_error _ _ failed; homes = on_error _ _ failed; item = on_error _ _ failed; emits = on_error _ _ failed }
+
+pub returns-in_err-declare_let : goal.returns-in_err-declare_let
+returns-in_err-declare_let c =
+    let failed = c.from_residual-in_err-declare_let.ensures.0 in
+    record { scope = on_error _ _ failed; homes = on_error _ _ failed; item = on_error _ _ failed; emits = on_error _ _ failed }
+
+pub emit_value-requires-clause-kind : goal.emit_value-requires-clause-kind
+emit_value-requires-clause-kind c = c.requires.kind
+
+pub emit_value-requires-clause-fits : goal.emit_value-requires-clause-fits
+emit_value-requires-clause-fits c = omega (arith, c.requires.fits)
+
+pub overflow_add-item : goal.overflow_add-item
+overflow_add-item c = omega (arith, c.requires.fits, c.in_ok-from.ensures.item)

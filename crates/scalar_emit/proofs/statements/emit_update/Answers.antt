@@ -1,4 +1,4 @@
-use Rattle.std.proofs.Common.{List, ◌++◌, refl, ap, ◌∙◌}
+use Rattle.std.proofs.Common.{List, ◌++◌, refl, ap, ◌∙◌, arith}
 use Rattle.std.proofs.lemmas.Result.{on_ok_weaker}
 use Rattle.std.specs.Prelude.{option_and_then}
 use Rattle.kernel_tree.specs.Typing.{accumulator_type}
@@ -11,6 +11,7 @@ use Rattle.value_code.specs.declared.extent.Extent.{Extent}
 use Rattle.value_code.specs.Extents.{within, binary_extent}
 use Rattle.value_code.specs.Covers.{held_extent}
 use Rattle.loop_code.proofs.Emission.{update_type, update_is}
+use Rattle.scalar_emit.proofs.Errors.{on_error}
 use Rattle.scalar_emit.proofs.statements.emit_update.Goals as goal
 
 pub returns-clause-emits : goal.returns-clause-emits
@@ -30,3 +31,17 @@ returns-clause-emits c =
           (update_is L (homes_of c.args.homes.now) (scope_of c.args.scope.now) 0 c.args.item.now c.args.draft.now.labels x c.args.op c.update_operator-op.result c.and_then-want.result c.binary_extent-extent.result (term_of c.args.value.now) (side_view c.in_ok-side.side) c.settles-leaves.result c.register_at-register.result.number rest
           c.update_operator-op.ensures want extent c.in_ok-side.ensures.side leaves c.register_at-register.ensures);
     }) c.want_operator.ensures
+
+pub returns-in_err-side : goal.returns-in_err-side
+returns-in_err-side c =
+    let failed = c.from_residual.ensures.0 in
+    record { item = on_error _ _ failed; emits = on_error _ _ failed }
+
+pub emit_side-requires-clause-kind : goal.emit_side-requires-clause-kind
+emit_side-requires-clause-kind c = c.requires.kind
+
+pub emit_side-requires-clause-fits : goal.emit_side-requires-clause-fits
+emit_side-requires-clause-fits c = omega (arith, c.requires.fits)
+
+pub overflow_add-item : goal.overflow_add-item
+overflow_add-item c = omega (arith, c.requires.fits, c.in_ok-side.ensures.item)

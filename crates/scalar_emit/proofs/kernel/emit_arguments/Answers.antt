@@ -1,0 +1,5 @@
+use Rattle.scalar_emit.proofs.Errors.{on_error}
+use Rattle.scalar_emit.proofs.kernel.emit_arguments.Goals as goal
+
+pub returns-in_err-emit_settle : goal.returns-in_err-emit_settle
+returns-in_err-emit_settle c = on_error _ _ c.from_residual.ensures.0
