@@ -1,18 +1,24 @@
 -- The code of statements, put together from that of their parts.
-use Rattle.std.proofs.Common.{◌≡◌, ℕ, ◌+◌, ◌<◌, ◌≤◌, ◌^◌, false, List, ◌∷◌, length, drop, Option, refl, ap, arith}
+use Rattle.std.proofs.Common.{◌≡◌, ℕ, ◌+◌, ◌<◌, ◌≤◌, ◌^◌, false, List, ◌∷◌, length, drop, Some, None, Option, refl, ap, ◌∙◌, arith}
 use Rattle.std.proofs.lemmas.List.{drop_all}
+use Rattle.std.specs.Prelude.{ℤ, option_map, option_and_then}
+use Rattle.machine_model.specs.InstructionTable.{Listed}
 use Rattle.kernel_tree.specs.declared.ast.Stmt.{Stmt}
 use Rattle.kernel_tree.specs.declared.ops.Ty.{Ty}
-use Rattle.kernel_tree.specs.Plain.{Term, Action, Define, Choose, Block, Done, Nothing, Else, block_of}
-use Rattle.kernel_tree.specs.Items.{term_size, action_size, block_size}
-use Rattle.kernel_tree.specs.Typing.{Scope, own, first, left, after_block}
+use Rattle.kernel_tree.specs.Plain.{Term, Action, Define, Put, Choose, Block, Done, Nothing, Else, block_of}
+use Rattle.kernel_tree.specs.Items.{term_size, action_size, block_size, stream_offset}
+use Rattle.kernel_tree.specs.Typing.{Scope, lookup, own, first, element_type, left, after_block}
 use Rattle.label_fix.specs.Draft.{Drafted}
 use Rattle.label_fix.specs.Emits.{Emits}
 use Rattle.label_fix.specs.DraftRun.{DraftEntry, Branch, Place, Always}
-use Rattle.scalar_words.specs.Layout.{Layout, Homes}
+use Rattle.scalar_words.specs.Layout.{Layout, Homes, register_at}
+use Rattle.scalar_words.specs.Words.{word_code}
+use Rattle.value_code.specs.declared.extent.Extent.{Extent}
+use Rattle.value_code.specs.Extents.{extent_at}
+use Rattle.value_code.specs.ItemWords.{index_word, index_register, store_code}
 use Rattle.value_code.specs.ValueRegisters.{home}
-use Rattle.value_code.specs.Code.{labels, value_code, jump_code}
-use Rattle.loop_code.specs.Statements.{let_code, action_labels, block_labels, action_code, block_code}
+use Rattle.value_code.specs.Code.{labels, place_of, value_code, jump_code}
+use Rattle.loop_code.specs.Statements.{let_code, action_labels, block_labels, stored_code, stored_home, put_code, placed_put, action_code, block_code}
 
 -- the code of a statement that has been taken apart
 pub emits_as : (L : Layout) (hs hs1 : Homes) (s : Scope) (exit b : ℕ) (d d2 : Drafted) (a a2 : Action) → hs1 ≡ hs → a ≡ a2 → Emits d d2 (d.labels + action_labels s.index a) (action_code L hs1 s exit b d.labels a) → Emits d d2 (d.labels + action_labels s.index a2) (action_code L hs s exit b d.labels a2)
@@ -70,3 +76,33 @@ if_else_items s s2 t second b p q item item2 item3 item4 item5 is e f g h k =
 
 pub no_statement : (xs : List Stmt) (i : ℕ) → length xs ≤ i → block_of (drop i xs) ≡ Done
 no_statement xs i h = ap block_of (drop_all i xs h)
+
+-- ---- stores
+
+-- a stream index with no word, and one with a word
+pub put_none : (o : Option ℤ) (t : Option Ty) (from p : ℕ) (rest : List DraftEntry) → None ≡ option_map index_word o → rest ≡ put_code o t from p rest
+put_none None t from p rest e = refl
+put_none (Some c) t from p rest e = cc
+
+pub put_some : (o : Option ℤ) (w : Option Listed) (t : Option Ty) (from p r : ℕ) (rest : List DraftEntry) → Some w ≡ option_map index_word o → r ≡ index_register w → word_code w (store_code t from p r rest) ≡ put_code o t from p rest
+put_some None w t from p r rest e f = cc
+put_some (Some c) w t from p r rest e f =
+    let i : w ≡ index_word c = cc in
+    rw (f, i) refl
+
+-- the place of the element stands in a register, or in none
+pub placed_store : (L : Layout) (hs : Homes) (s : Scope) (b n : ℕ) (a : List ℕ) (i e : Term) (ty : Option Ty) (w : Extent) (from place r : ℕ) (rest : List DraftEntry) → ty ≡ option_and_then element_type (lookup s a) → w ≡ extent_at ty → from ≡ stored_home L hs s w b e → Some place ≡ place_of L (register_at hs a) (option_and_then element_type (lookup s a)) (stream_offset s.index i) → r ≡ 9
+    → stored_code L hs s w ty b n e (store_code ty from place r rest) ≡ action_code L hs s 0 b n (Put a i e) rest
+placed_store L hs s b n a i e ty w from place r rest e1 e2 e3 h e4 =
+    let T = option_and_then element_type (lookup s a) in
+    let o = stream_offset s.index i in
+    let R = register_at hs a in
+    rw (e3, e2, e4, e1) (ap (λ (p : Option ℕ). stored_code L hs s (extent_at T) T b n e (placed_put p (put_code o T (stored_home L hs s (extent_at T) b e) R) T (stored_home L hs s (extent_at T) b e) rest)) h)
+
+pub computed_store : (L : Layout) (hs : Homes) (s : Scope) (b n : ℕ) (a : List ℕ) (i e : Term) (ty : Option Ty) (w : Extent) (from p : ℕ) (rest : List DraftEntry) → ty ≡ option_and_then element_type (lookup s a) → w ≡ extent_at ty → from ≡ stored_home L hs s w b e → None ≡ place_of L (register_at hs a) (option_and_then element_type (lookup s a)) (stream_offset s.index i) → p ≡ register_at hs a
+    → stored_code L hs s w ty b n e (put_code (stream_offset s.index i) ty from p rest) ≡ action_code L hs s 0 b n (Put a i e) rest
+computed_store L hs s b n a i e ty w from p rest e1 e2 e3 h e4 =
+    let T = option_and_then element_type (lookup s a) in
+    let o = stream_offset s.index i in
+    let R = register_at hs a in
+    rw (e3, e2, e4, e1) (ap (λ (p : Option ℕ). stored_code L hs s (extent_at T) T b n e (placed_put p (put_code o T (stored_home L hs s (extent_at T) b e) R) T (stored_home L hs s (extent_at T) b e) rest)) h)

@@ -1,4 +1,4 @@
-use Rattle.std.proofs.Common.{◌++◌, List, ap, ◌∙◌}
+use Rattle.std.proofs.Common.{◌++◌, List, ap, ◌∙◌, arith}
 use Rattle.std.proofs.lemmas.Result.{on_ok_weaker}
 use Rattle.kernel_tree.specs.Plain.{name_of}
 use Rattle.label_fix.specs.Draft.{word_view}
@@ -8,6 +8,7 @@ use Rattle.std.specs.Prelude.{option_map}
 use Rattle.scalar_words.specs.View.{form_of, homes_of, looses_of}
 use Rattle.scalar_emit.proofs.LoopCode.{again_is}
 use Rattle.scalar_emit.proofs.Errors.{on_error}
+use Rattle.label_fix.specs.Finished.{is_plain}
 use Rattle.scalar_emit.proofs.for_loop.emit_again.Goals as goal
 
 pub returns : goal.returns
@@ -35,3 +36,18 @@ returns-in_err-place c = on_error _ _ c.from_residual-in_err-place.ensures.0
 
 pub returns-in_err-emit_extended : goal.returns-in_err-emit_extended
 returns-in_err-emit_extended c = on_error _ _ c.from_residual-in_err-emit_extended.ensures.0
+
+pub put-requires : goal.put-requires
+put-requires c = record { plain = ap is_plain c.next_iteration.ensures }
+
+pub emit_back-requires-clause-top : goal.emit_back-requires-clause-top
+emit_back-requires-clause-top c = c.requires.top
+
+pub emit_back-requires-clause-given : goal.emit_back-requires-clause-given
+emit_back-requires-clause-given c = omega (arith, c.requires.top, c.requires.last, c.requires.given, c.in_ok-put.ensures.labels)
+
+pub place-requires : goal.place-requires
+place-requires c = record { given = omega (arith, c.requires.given, c.in_ok-put.ensures.labels, c.in_ok-emit_back.ensures.labels) }
+
+pub place-requires-2 : goal.place-requires-2
+place-requires-2 c = record { given = omega (arith, c.requires.exit, c.requires.last, c.requires.given, c.in_ok-put.ensures.labels, c.in_ok-emit_back.ensures.labels, c.in_ok-place.ensures.labels, c.in_ok-emit_extended.ensures.labels) }

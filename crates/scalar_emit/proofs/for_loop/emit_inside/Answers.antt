@@ -1,13 +1,16 @@
-use Rattle.std.proofs.Common.{List, refl, ap, ◌∙◌}
+use Rattle.std.proofs.Common.{List, refl, ap, ◌∙◌, ◌+◌, ◌<◌, ◌^◌, sym, subst}
 use Rattle.kernel_tree.specs.declared.ast.Stmt.{Stmt}
 use Rattle.kernel_tree.specs.Plain.{block_of}
 use Rattle.kernel_tree.specs.Typing.{Scope, after_block}
 use Rattle.kernel_scope.specs.Scopes.{scope_of, closed}
 use Rattle.scalar_words.specs.View.{homes_of}
-use Rattle.loop_code.specs.Statements.{block_homes}
+use Rattle.loop_code.specs.Statements.{block_homes, block_labels, block_code}
 use Rattle.loop_code.specs.Loop.{inside_of}
 use Rattle.loop_code.proofs.Emission.{homes_back, restored}
 use Rattle.scalar_emit.proofs.Errors.{on_error}
+use Rattle.kernel_tree.specs.Kinds.{BlockKinds}
+use Rattle.kernel_tree.specs.Items.{block_size}
+use Rattle.label_fix.specs.Emits.{Emits}
 use Rattle.scalar_emit.proofs.for_loop.emit_inside.Goals as goal
 
 pub returns-clause-scope : goal.returns-clause-scope
@@ -27,3 +30,21 @@ pub returns-in_err-emit_block : goal.returns-in_err-emit_block
 returns-in_err-emit_block c =
     let failed = c.from_residual.ensures.0 in
     record { scope = on_error _ _ failed; homes = on_error _ _ failed; item = on_error _ _ failed; emits = on_error _ _ failed }
+
+pub emit_block-requires-clause-exit : goal.emit_block-requires-clause-exit
+emit_block-requires-clause-exit c = c.requires.last
+
+pub emit_block-requires-clause-kinds : goal.emit_block-requires-clause-kinds
+emit_block-requires-clause-kinds c = subst (λ (b : List Stmt). BlockKinds (block_of b)) (sym c.deref.ensures.value) c.requires.kinds
+
+pub emit_block-requires-clause-fits : goal.emit_block-requires-clause-fits
+emit_block-requires-clause-fits c = subst (λ (b : List Stmt). c.args.item.now + block_size (scope_of c.args.scope.now).index (block_of b) < 2 ^ 32) (sym c.deref.ensures.value) c.requires.fits
+
+pub returns-clause-item : goal.returns-clause-item
+returns-clause-item c = c.in_ok-emit_block.ensures.item ∙ ap (λ (b : List Stmt). c.args.item.now + block_size (scope_of c.args.scope.now).index (block_of b)) c.deref.ensures.value
+
+pub returns-clause-emits : goal.returns-clause-emits
+returns-clause-emits c =
+    let s = scope_of c.args.scope.now in
+    let n = c.args.draft.now.labels in
+    subst (λ (b : List Stmt). Emits c.args.draft.now c.emit_block.new.draft (n + block_labels s.index (block_of b)) (block_code c.args.places.now (homes_of c.args.homes.now.items) (inside_of s) c.args.last c.args.item.now n (block_of b))) c.deref.ensures.value c.in_ok-emit_block.ensures.emits

@@ -1,5 +1,9 @@
 use Rattle.scalar_emit.proofs.Errors.{on_error}
+use Rattle.std.proofs.Common.{refl}
 use Rattle.scalar_emit.proofs.kernel.emit_arguments.Goals as goal
 
 pub returns-in_err-emit_settle : goal.returns-in_err-emit_settle
 returns-in_err-emit_settle c = on_error _ _ c.from_residual.ensures.0
+
+pub loop-param-init : goal.loop-param-init
+loop-param-init c = record { place = refl; labels = refl; code = λ rest. refl }

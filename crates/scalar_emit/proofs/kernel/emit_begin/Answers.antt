@@ -1,13 +1,15 @@
-use Rattle.std.proofs.Common.{◌+◌, ◌*◌, [], ◌++◌, ap, ◌∙◌}
+use Rattle.std.proofs.Common.{◌+◌, ◌*◌, [], ◌++◌, ap, ◌∙◌, length, sym, subst, ◌≤◌}
 use Rattle.std.proofs.lemmas.Result.{on_ok_weaker}
 use Rattle.kernel_tree.specs.declared.ast.Kernel.{Kernel}
-use Rattle.kernel_tree.specs.Plain.{program_of}
+use Rattle.kernel_tree.specs.Plain.{program_of, Program}
 use Rattle.kernel_tree.specs.Items.{size_of}
 use Rattle.loop_form.specs.View.{program}
-use Rattle.scalar_words.specs.KernelRegisters.{register_in}
+use Rattle.scalar_words.specs.KernelRegisters.{register_in, layout_of_kernel}
 use Rattle.loop_code.specs.Kernel.{begin_labels, begin_code}
 use Rattle.loop_code.proofs.Counts.{begin_words, words_added}
 use Rattle.scalar_emit.proofs.Errors.{on_error}
+use Rattle.kernel_tree.specs.Kinds.{VarsKinds}
+use Rattle.kernel_tree.specs.Typing.{empty}
 use Rattle.scalar_emit.proofs.kernel.emit_begin.Goals as goal
 
 pub returns-clause-emits : goal.returns-clause-emits
@@ -31,3 +33,51 @@ pub returns-in_err-places : goal.returns-in_err-places
 returns-in_err-places c =
     let failed = c.from_residual.ensures.0 in
     record { words = on_error _ _ failed; emits = on_error _ _ failed }
+
+pub each_has_a_register-requires : goal.each_has_a_register-requires
+each_has_a_register-requires c = record { fits = c.requires.fits }
+
+pub places_of-requires-clause-fits : goal.places_of-requires-clause-fits
+places_of-requires-clause-fits c = c.requires.fits
+
+pub places_of-requires-clause-listed : goal.places_of-requires-clause-listed
+places_of-requires-clause-listed c = c.requires.listed
+
+pub emit_first-requires-clause-assigned : goal.emit_first-requires-clause-assigned
+emit_first-requires-clause-assigned c = c.requires.fits.assigned
+
+pub emit_first-requires-clause-vars : goal.emit_first-requires-clause-vars
+unfolding program
+emit_first-requires-clause-vars c =
+    let same = sym (ap program_of c.kernel-tree.ensures) in
+    subst (λ (k : Program). length k.vars ≤ length c.args.regs.now.registers) same c.each_has_a_register.ensures.vars
+
+pub emit_first-requires-clause-params : goal.emit_first-requires-clause-params
+unfolding program
+emit_first-requires-clause-params c =
+    let same = sym (ap program_of c.kernel-tree.ensures) in
+    subst (λ (k : Program). length k.params ≤ 8) same c.few_params.ensures
+
+pub emit_first-requires-clause-kinds : goal.emit_first-requires-clause-kinds
+unfolding program
+emit_first-requires-clause-kinds c =
+    let same = sym (ap program_of c.kernel-tree.ensures) in
+    subst (λ (k : Program). VarsKinds k.vars) same c.right_kinds.ensures.vars
+
+pub emit_first-requires-clause-few : goal.emit_first-requires-clause-few
+unfolding program
+emit_first-requires-clause-few c =
+    let same = sym (ap program_of c.kernel-tree.ensures) in
+    subst (λ (k : Program). size_of k ≤ 1000) same c.few_items.ensures.size
+
+pub emit_first-requires-clause-places : goal.emit_first-requires-clause-places
+unfolding program
+emit_first-requires-clause-places c =
+    let same = sym (ap program_of c.kernel-tree.ensures) in
+    c.in_ok-places.ensures ∙ ap (layout_of_kernel (register_in c.args.regs.now)) same
+
+pub emit_first-requires-clause-scope : goal.emit_first-requires-clause-scope
+emit_first-requires-clause-scope c = c.empty-scope.ensures ∙ ap empty c.loop_index.ensures
+
+pub emit_first-requires-clause-homes : goal.emit_first-requires-clause-homes
+emit_first-requires-clause-homes c = c.new-homes.ensures.items

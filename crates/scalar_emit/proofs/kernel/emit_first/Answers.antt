@@ -1,4 +1,4 @@
-use Rattle.std.proofs.Common.{◌∷◌, ◌++◌, List, sym, ap, ◌∙◌}
+use Rattle.std.proofs.Common.{◌∷◌, ◌++◌, List, sym, ap, ◌∙◌, subst, arith}
 use Rattle.std.proofs.lemmas.Result.{on_ok_weaker}
 use Rattle.machine_model.specs.InstructionTable.{Listed}
 use Rattle.kernel_tree.specs.Plain.{parameters_of, accumulators_of, program_of}
@@ -12,6 +12,9 @@ use Rattle.scalar_words.specs.View.{homes_of}
 use Rattle.loop_code.proofs.Emission.{begin_is, begin_count}
 use Rattle.scalar_words.proofs.Layouts.{count_params}
 use Rattle.scalar_emit.proofs.Errors.{on_error}
+use Rattle.label_fix.specs.Finished.{is_plain}
+use Rattle.kernel_tree.specs.Kinds.{VarsKinds}
+use Rattle.scalar_emit.proofs.KernelCalls.{few_given, few_vars, vars_room}
 use Rattle.scalar_emit.proofs.kernel.emit_first.Goals as goal
 
 pub returns : goal.returns
@@ -41,3 +44,32 @@ returns-in_err-emit_arguments c = on_error _ _ c.from_residual-in_err-emit_argum
 
 pub returns-in_err-emit_vars : goal.returns-in_err-emit_vars
 returns-in_err-emit_vars c = on_error _ _ c.from_residual-in_err-emit_vars.ensures.0
+
+pub declare_params-requires : goal.declare_params-requires
+declare_params-requires c = few_given (program_of c.args.kernel.now) c.deref.result.now (ap parameters_of c.deref.ensures.value) c.requires.params
+
+pub emit_arguments-requires : goal.emit_arguments-requires
+emit_arguments-requires c = few_given (program_of c.args.kernel.now) c.deref-2.result.now (ap parameters_of c.deref-2.ensures.value) c.requires.params
+
+pub emit_vars-requires-clause-assigned : goal.emit_vars-requires-clause-assigned
+emit_vars-requires-clause-assigned c = c.requires.assigned
+
+pub emit_vars-requires-clause-within : goal.emit_vars-requires-clause-within
+emit_vars-requires-clause-within c = few_vars (program_of c.args.kernel.now) c.deref-3.result.now _ (ap accumulators_of c.deref-3.ensures.value) c.requires.vars
+
+pub emit_vars-requires-clause-kinds : goal.emit_vars-requires-clause-kinds
+emit_vars-requires-clause-kinds c = subst VarsKinds (sym (ap accumulators_of c.deref-3.ensures.value)) c.requires.kinds
+
+pub emit_vars-requires-clause-fits : goal.emit_vars-requires-clause-fits
+emit_vars-requires-clause-fits c =
+    let tree = c.args.kernel.now in
+    vars_room (program_of tree) (scope_of c.declare_params.new.scope) c.len-first.result (accumulators_of c.deref-3.result.now) (ap accumulators_of c.deref-3.ensures.value) (c.in_ok-declare_params.ensures.index ∙ ap (λ (s : Scope). s.index) c.requires.scope) (c.len-first.ensures ∙ tree.params.ok.0 ∙ sym (count_params tree.params.items)) c.requires.few
+
+pub small-requires-clause-register : goal.small-requires-clause-register
+small-requires-clause-register c = omega arith
+
+pub small-requires-clause-value : goal.small-requires-clause-value
+small-requires-clause-value c = omega arith
+
+pub put-requires : goal.put-requires
+put-requires c = record { plain = ap is_plain c.small.ensures }

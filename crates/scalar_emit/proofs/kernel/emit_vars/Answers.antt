@@ -1,5 +1,5 @@
-use Rattle.std.proofs.Common.{◌+◌, subst, ap, ◌∙◌, drop}
-use Rattle.kernel_tree.specs.Plain.{accumulator_of, accumulators_of}
+use Rattle.std.proofs.Common.{◌+◌, subst, ap, ◌∙◌, drop, List, ◌++◌, refl, sym, arith}
+use Rattle.kernel_tree.specs.Plain.{accumulator_of, accumulators_of, Accumulator}
 use Rattle.kernel_tree.specs.Kinds.{VarsKinds}
 use Rattle.kernel_scope.specs.Scopes.{scope_of}
 use Rattle.loop_form.proofs.LoopLists.{next-entry}
@@ -7,6 +7,9 @@ use Rattle.scalar_words.specs.KernelRegisters.{register_in}
 use Rattle.scalar_words.specs.View.{homes_of}
 use Rattle.scalar_emit.proofs.LoopCode.{vars_on}
 use Rattle.scalar_emit.proofs.Errors.{on_error}
+use Rattle.kernel_tree.specs.Items.{vars_size}
+use Rattle.loop_code.specs.Kernel.{vars_labels, vars_code}
+use Rattle.scalar_emit.proofs.KernelCalls.{no_var}
 use Rattle.scalar_emit.proofs.kernel.emit_vars.Goals as goal
 
 pub loop-var-preserved : goal.loop-var-preserved
@@ -26,3 +29,36 @@ loop-var-preserved c =
 
 pub returns-in_err-emit_var : goal.returns-in_err-emit_var
 returns-in_err-emit_var c = on_error _ _ c.from_residual.ensures.0
+
+pub loop-var-init : goal.loop-var-init
+loop-var-init c = record { place = refl; kinds = c.requires.kinds; item = refl; labels = refl; code = λ rest. refl }
+
+pub emit_var-requires-clause-assigned : goal.emit_var-requires-clause-assigned
+emit_var-requires-clause-assigned c = c.requires.assigned
+
+pub emit_var-requires-clause-within : goal.emit_var-requires-clause-within
+emit_var-requires-clause-within c = omega arith
+
+pub emit_var-requires-clause-kind : goal.emit_var-requires-clause-kind
+emit_var-requires-clause-kind c =
+    let l = c.loop-var in
+    let vs = c.args.vars.now in
+    let e = ap accumulators_of (next-entry vs l.var-index c.var-item.result c.loop-var-test.true c.var-item.is) in
+    (subst VarsKinds e l.invariant.kinds).0
+
+pub emit_var-requires-clause-fits : goal.emit_var-requires-clause-fits
+emit_var-requires-clause-fits c =
+    let l = c.loop-var in
+    let vs = c.args.vars.now in
+    let e = ap accumulators_of (next-entry vs l.var-index c.var-item.result c.loop-var-test.true c.var-item.is) in
+    omega (arith, ap (vars_size (scope_of l.scope).index) e, l.invariant.item, c.requires.fits)
+
+pub returns : goal.returns
+returns c =
+    let l = c.loop-var in
+    let s = scope_of l.scope in
+    let end = no_var c.args.vars.now l.var-index c.loop-var-test.false in
+    record {
+      labels = omega (arith, ap (vars_labels s.index) end, l.invariant.labels);
+      code = λ rest. ap (λ (vs : List Accumulator). l.draft.entries ++ vars_code c.args.places.now (register_in c.args.regs.now) (homes_of l.homes.items) s l.place l.next l.draft.labels vs rest) (sym end) ∙ l.invariant.code rest;
+    }

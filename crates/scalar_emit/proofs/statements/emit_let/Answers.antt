@@ -1,12 +1,15 @@
-use Rattle.std.proofs.Common.{◌++◌, List, ap, ◌∙◌, arith}
-use Rattle.std.proofs.lemmas.Result.{on_ok_weaker}
+use Rattle.std.proofs.Common.{◌++◌, List, ap, ◌∙◌, arith, ap₂, ℕ, Option}
+use Rattle.std.proofs.lemmas.Result.{on_ok_weaker, IfOk-equal}
 use Rattle.kernel_tree.specs.Plain.{name_of, term_of}
-use Rattle.kernel_tree.specs.Typing.{first}
+use Rattle.kernel_tree.specs.Typing.{first, defined}
 use Rattle.kernel_scope.specs.Scopes.{scope_of}
 use Rattle.label_fix.specs.DraftRun.{DraftEntry}
 use Rattle.scalar_words.specs.View.{homes_of}
-use Rattle.scalar_emit.proofs.StatementCode.{let_is}
-use Rattle.scalar_emit.proofs.Errors.{on_error}
+use Rattle.scalar_emit.proofs.StatementCode.{let_is, one_more}
+use Rattle.scalar_emit.proofs.Errors.{on_error, on_any}
+use Rattle.kernel_tree.specs.declared.ops.Ty.{Ty}
+use Rattle.kernel_tree.specs.Items.{term_size}
+use Rattle.loop_code.specs.Statements.{defined_homes}
 use Rattle.scalar_emit.proofs.statements.emit_let.Goals as goal
 
 pub returns-clause-emits : goal.returns-clause-emits
@@ -43,3 +46,12 @@ emit_value-requires-clause-fits c = omega (arith, c.requires.fits)
 
 pub overflow_add-item : goal.overflow_add-item
 overflow_add-item c = omega (arith, c.requires.fits, c.in_ok-from.ensures.item)
+
+pub returns-clause-scope : goal.returns-clause-scope
+returns-clause-scope c = IfOk-equal c.define.result _ _ _ c.define.ensures (ap (defined (scope_of c.args.scope.now) (name_of c.args.name.now)) (c.first-want.ensures ∙ ap (first c.args.ty) c.own_type.ensures))
+
+pub returns-clause-homes : goal.returns-clause-homes
+returns-clause-homes c = on_any c.define.result (c.in_ok-declare_let.ensures ∙ ap₂ (λ (q : ℕ) (t : Option Ty). defined_homes c.args.places.now q (homes_of c.args.homes.now.items) (name_of c.args.name.now) t) c.in_ok-from.ensures.item (c.first-want.ensures ∙ ap (first c.args.ty) c.own_type.ensures))
+
+pub returns-clause-item : goal.returns-clause-item
+returns-clause-item c = on_any c.define.result (one_more c.args.item.now (term_size (scope_of c.args.scope.now).index (term_of c.args.value.now)) c.emit_value.new.item c.in_ok-from.ensures.item)
