@@ -1,12 +1,15 @@
 -- The code of statements, put together from that of their parts.
-use Rattle.std.proofs.Common.{◌≡◌, ℕ, ◌+◌, ◌<◌, ◌≤◌, ◌^◌, false, List, ◌∷◌, length, drop, Some, None, Option, refl, ap, ◌∙◌, arith}
+use Rattle.std.proofs.Common.{◌≡◌, ℕ, ◌+◌, ◌*◌, ◌<◌, ◌≤◌, ◌^◌, false, List, ◌∷◌, length, drop, Some, None, Option, refl, ap, ◌∙◌, arith}
 use Rattle.std.proofs.lemmas.List.{drop_all}
-use Rattle.std.specs.Prelude.{ℤ, option_map, option_and_then}
+use Rattle.std.specs.Prelude.{ℤ, max, option_map, option_and_then}
 use Rattle.machine_model.specs.InstructionTable.{Listed}
+use mir.Syntax.{w64}
+use mir.Val.{Fits}
 use Rattle.kernel_tree.specs.declared.ast.Stmt.{Stmt}
 use Rattle.kernel_tree.specs.declared.ops.Ty.{Ty}
-use Rattle.kernel_tree.specs.Plain.{Term, Action, Define, Put, Choose, Block, Done, Nothing, Else, block_of}
+use Rattle.kernel_tree.specs.Plain.{Term, Action, Define, Put, Choose, Leave, Block, Done, Then, Otherwise, Nothing, Else, block_of}
 use Rattle.kernel_tree.specs.Items.{term_size, action_size, block_size, stream_offset}
+use Rattle.kernel_tree.specs.Limits.{action_depth, block_depth}
 use Rattle.kernel_tree.specs.Typing.{Scope, lookup, own, first, element_type, left, after_block}
 use Rattle.label_fix.specs.Draft.{Drafted}
 use Rattle.label_fix.specs.Emits.{Emits}
@@ -56,8 +59,8 @@ pub second_given : (end n a b c p : ℕ) → end ≡ n → a ≡ n + 1 → b ≡
 second_given end n a b c p e f g h = omega arith
 
 -- the items of both blocks have room
-pub first_room : (i : Option (List ℕ)) (c : Term) (blk second : Block) (b item item2 : ℕ) → b + action_size i (Choose c blk (Else second)) < 2 ^ 32 → item ≡ b + term_size i c → item2 ≡ item + 1 + block_size i blk → item2 < 2 ^ 32
-first_room i c blk second b item item2 h e f = omega arith
+pub first_room : (i : Option (List ℕ)) (c : Term) (blk : Block) (d : Otherwise) (b item item2 : ℕ) → b + action_size i (Choose c blk d) < 2 ^ 32 → item ≡ b + term_size i c → item2 ≡ item + 1 + block_size i blk → item2 < 2 ^ 32
+first_room i c blk d b item item2 h e f = omega arith
 
 pub second_room : (s s2 : Scope) (c : Term) (blk second : Block) (b item item2 item3 : ℕ) → b + action_size s.index (Choose c blk (Else second)) < 2 ^ 32 → item ≡ b + term_size s.index c → item2 ≡ item + 1 + block_size s.index blk → item3 ≡ item2 + 1 → s2 ≡ left s (after_block s blk) → item3 + block_size s2.index second < 2 ^ 32
 second_room s s2 c blk second b item item2 item3 h e f g is =
@@ -106,3 +109,69 @@ computed_store L hs s b n a i e ty w from p rest e1 e2 e3 h e4 =
     let o = stream_offset s.index i in
     let R = register_at hs a in
     rw (e3, e2, e4, e1) (ap (λ (p : Option ℕ). stored_code L hs s (extent_at T) T b n e (placed_put p (put_code o T (stored_home L hs s (extent_at T) b e) R) T (stored_home L hs s (extent_at T) b e) rest)) h)
+
+-- ---- what the parts of a statement are called with: each is less deep, its items have room, and its labels are given
+
+pub statement_below : (t : ℕ) (whole x more : Block) (a : Action) → 5 * block_depth whole + 1 ≡ t → block_depth x ≤ block_depth whole → x ≡ Then a more → 5 * action_depth a < t
+statement_below t whole x more a h le e = omega (arith, ap block_depth e)
+
+pub less_deep : (x more : Block) (a : Action) (d : ℕ) → x ≡ Then a more → block_depth x ≤ d → block_depth more ≤ d
+less_deep x more a d e h = omega (arith, ap block_depth e)
+
+pub if_below : (t : ℕ) (a : Action) (c : Term) (b : Block) → 5 * action_depth a ≡ t → a ≡ Choose c b Nothing → 5 * block_depth b + 3 < t
+if_below t a c b h e = omega (arith, ap action_depth e)
+
+pub if_else_below : (t : ℕ) (a : Action) (c : Term) (b d : Block) → 5 * action_depth a ≡ t → a ≡ Choose c b (Else d) → 5 * max (block_depth b) (block_depth d) + 4 < t
+if_else_below t a c b d h e = omega (arith, ap action_depth e)
+
+pub first_below : (t d e : ℕ) → 5 * max d e + 4 ≡ t → 5 * d + 2 < t
+first_below t d e h = omega arith
+
+pub second_below : (t d e : ℕ) → 5 * max d e + 4 ≡ t → 5 * e + 2 < t
+second_below t d e h = omega arith
+
+pub one_below : (t d : ℕ) → 5 * d + 3 ≡ t → 5 * d + 2 < t
+one_below t d h = omega arith
+
+pub inner_below : (t d : ℕ) → 5 * d + 2 ≡ t → 5 * d + 1 < t
+inner_below t d h = omega arith
+
+pub statement_room : (i j : Option (List ℕ)) (whole x more : Block) (a : Action) (b item : ℕ) → x ≡ Then a more → item + block_size i x ≡ b + block_size j whole → b + block_size j whole < 2 ^ 32 → item + action_size i a < 2 ^ 32
+statement_room i j whole x more a b item e f h = omega (arith, ap (block_size i) e)
+
+pub truth_room : (i : Option (List ℕ)) (c : Term) (blk : Block) (d : Otherwise) (b : ℕ) → b + action_size i (Choose c blk d) < 2 ^ 32 → b + term_size i c < 2 ^ 32
+truth_room i c blk d b h = omega arith
+
+pub branch_room : (i : Option (List ℕ)) (c : Term) (blk : Block) (d : Otherwise) (b item : ℕ) → b + action_size i (Choose c blk d) < 2 ^ 32 → item ≡ b + term_size i c → Fits w64 (item + 1)
+branch_room i c blk d b item h e = omega arith
+
+pub block_room : (i : Option (List ℕ)) (c : Term) (blk : Block) (d : Otherwise) (b item : ℕ) → b + action_size i (Choose c blk d) < 2 ^ 32 → item ≡ b + term_size i c → item + 1 + block_size i blk < 2 ^ 32
+block_room i c blk d b item h e = omega arith
+
+pub leave_room : (i : Option (List ℕ)) (a : Action) (c : Term) (b : ℕ) → Leave c ≡ a → b + action_size i a < 2 ^ 32 → b + term_size i c < 2 ^ 32
+leave_room i a c b e h = omega (arith, ap (action_size i) e)
+
+pub left_room : (i : Option (List ℕ)) (a : Action) (c : Term) (b item : ℕ) → Leave c ≡ a → b + action_size i a < 2 ^ 32 → item ≡ b + term_size i c → Fits w64 (item + 1)
+left_room i a c b item e h f = omega (arith, ap (action_size i) e)
+
+pub label_given : (other n a : ℕ) → other ≡ n → a ≡ n + 1 → other < a
+label_given other n a e f = omega arith
+
+pub land_given : (other n a b c p q : ℕ) → other ≡ n → a ≡ n + 1 → b ≡ a + p → c ≡ b + q → other < c
+land_given other n a b c p q e f g h = omega arith
+
+pub still_given : (exit n m p : ℕ) → exit < n → m ≡ n + p → exit < m
+still_given exit n m p h e = omega arith
+
+pub exit_given : (exit n a b p : ℕ) → exit < n → a ≡ n + 1 → b ≡ a + p → exit < b
+exit_given exit n a b p h e f = omega arith
+
+pub exit_again : (exit n a b c d e p q : ℕ) → exit < n → a ≡ n + 1 → b ≡ a + p → c ≡ b + q → d ≡ c + 1 → e ≡ d → exit < e
+exit_again exit n a b c d e p q h e1 e2 e3 e4 e5 = omega arith
+
+-- where no statement is left
+pub items_end : (i : Option (List ℕ)) (x : Block) (n m : ℕ) → x ≡ Done → n + block_size i x ≡ m → n ≡ m
+items_end i x n m e f = omega (arith, ap (block_size i) e)
+
+pub labels_end : (i : Option (List ℕ)) (x : Block) (n m : ℕ) → x ≡ Done → n + block_labels i x ≡ m → n ≡ m
+labels_end i x n m e f = omega (arith, ap (block_labels i) e)

@@ -1,5 +1,5 @@
 use Rattle.scalar_emit.proofs.Errors.{on_error}
-use Rattle.std.proofs.Common.{refl}
+use Rattle.std.proofs.Common.{refl, arith}
 use Rattle.scalar_emit.proofs.kernel.emit_arguments.Goals as goal
 
 pub returns-in_err-emit_settle : goal.returns-in_err-emit_settle
@@ -7,3 +7,12 @@ returns-in_err-emit_settle c = on_error _ _ c.from_residual.ensures.0
 
 pub loop-param-init : goal.loop-param-init
 loop-param-init c = record { place = refl; labels = refl; code = λ rest. refl }
+
+pub offset_bounds-params-param-index : goal.offset_bounds-params-param-index
+offset_bounds-params-param-index c = omega arith
+
+pub overflow_add-place : goal.overflow_add-place
+overflow_add-place c = omega arith
+
+pub invariant_of-emit_settle : goal.invariant_of-emit_settle
+invariant_of-emit_settle c = record { in_range = omega arith }

@@ -62,3 +62,9 @@ returns c =
       labels = omega (arith, ap (vars_labels s.index) end, l.invariant.labels);
       code = λ rest. ap (λ (vs : List Accumulator). l.draft.entries ++ vars_code c.args.places.now (register_in c.args.regs.now) (homes_of l.homes.items) s l.place l.next l.draft.labels vs rest) (sym end) ∙ l.invariant.code rest;
     }
+
+pub offset_bounds-vars-var-index : goal.offset_bounds-vars-var-index
+offset_bounds-vars-var-index c = omega arith
+
+pub overflow_add-place : goal.overflow_add-place
+overflow_add-place c = omega arith

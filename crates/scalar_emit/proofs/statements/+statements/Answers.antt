@@ -2,7 +2,7 @@ use Rattle.std.proofs.Common.{◌+◌, ◌<◌, ◌^◌, ◌++◌, List, drop, r
 use Rattle.std.proofs.lemmas.Result.{on_ok_weaker, IfOk-equal}
 use Rattle.kernel_tree.specs.Plain.{Action, Block, Choose, Leave, Nothing, Else, term_of, action_of, block_of}
 use Rattle.kernel_tree.specs.Kinds.{ActionKinds, BlockKinds}
-use Rattle.kernel_tree.specs.Limits.{action_depth, block_depth}
+use Rattle.kernel_tree.specs.Limits.{block_depth}
 use Rattle.kernel_tree.specs.Items.{term_size, action_size, block_size}
 use Rattle.kernel_tree.specs.Typing.{Scope, left, after_action, after_block}
 use Rattle.kernel_scope.specs.Scopes.{scope_of, kept}
@@ -13,7 +13,7 @@ use Rattle.loop_code.specs.Statements.{after_homes, block_homes, block_labels, a
 use Rattle.loop_code.proofs.Emission.{homes_back}
 use Rattle.loop_code.proofs.StatementWalks.{next_statement, emits_on}
 use Rattle.scalar_emit.proofs.Errors.{on_error, on_any}
-use Rattle.scalar_emit.proofs.StatementCode.{emits_as, one_more, no_statement, if_items, if_else_items, if_is, if_count, if_else_is, if_else_count, first_given, second_given, first_room, second_room}
+use Rattle.scalar_emit.proofs.StatementCode.{emits_as, one_more, no_statement, if_items, if_else_items, if_is, if_count, if_else_is, if_else_count, first_given, second_given, first_room, second_room, statement_below, less_deep, if_below, if_else_below, first_below, second_below, one_below, inner_below, statement_room, truth_room, branch_room, block_room, leave_room, left_room, label_given, land_given, still_given, exit_given, exit_again, items_end, labels_end}
 use Rattle.scalar_emit.proofs.statements.+statements.Goals as goal
 
 pub emit_inner-returns-clause-scope : goal.emit_inner-returns-clause-scope
@@ -75,8 +75,8 @@ emit_block-loop-stmt-preserved t c =
     let e = next_statement c.args.block.now l.stmt-index c.stmt-item.result c.loop-stmt-test.true c.stmt-item.is in
     let step = emits_on c.args.places.now (scope_of l.scope) (scope_of c.emit_stmt.new.scope) (homes_of l.homes.items) (homes_of c.emit_stmt.new.homes.items) c.args.exit l.item c.emit_stmt.new.item l.draft.labels c.emit_stmt.new.draft.labels l.draft.entries c.emit_stmt.new.draft.entries (action_of c.stmt-item.result) (block_of (drop (l.stmt-index + 1) c.args.block.now)) (block_of (drop l.stmt-index c.args.block.now)) e made.scope made.homes made.item made.emits.labels made.emits.code in
     record {
-      exit = omega (arith, l.invariant.exit, made.emits.labels);
-      depth = omega (arith, ap block_depth e, l.invariant.depth);
+      exit = still_given c.args.exit l.draft.labels c.emit_stmt.new.draft.labels _ l.invariant.exit made.emits.labels;
+      depth = less_deep (block_of (drop l.stmt-index c.args.block.now)) (block_of (drop (l.stmt-index + 1) c.args.block.now)) (action_of c.stmt-item.result) _ e l.invariant.depth;
       kinds = (subst BlockKinds e l.invariant.kinds).1;
       scope = step.scope ∙ l.invariant.scope;
       homes = step.homes ∙ l.invariant.homes;
@@ -113,7 +113,7 @@ pub emit_if_else-land-requires-clause-given : goal.emit_if_else-land-requires-cl
 emit_if_else-land-requires-clause-given t c = first_given c.in_ok-other.other c.args.draft.now.labels c.label.new.self.labels c.emit_jump.new.draft.labels c.emit_inner.new.draft.labels c.branch_ahead.new.draft.labels _ _ c.in_ok-other.ensures.next c.in_ok-other.ensures.count c.in_ok-emit_jump.ensures.emits.labels c.in_ok-emit_inner.ensures.emits.labels c.in_ok-end.ensures.emits.labels
 
 pub emit_if_else-land-requires-clause-room : goal.emit_if_else-land-requires-clause-room
-emit_if_else-land-requires-clause-room t c = first_room (scope_of c.args.scope.now).index (term_of c.args.cond.now) (block_of c.args.block.now) (block_of c.args.second.now) c.args.item.now c.emit_jump.new.item c.emit_inner.new.item c.requires.fits c.in_ok-emit_jump.ensures.item c.in_ok-emit_inner.ensures.item
+emit_if_else-land-requires-clause-room t c = first_room (scope_of c.args.scope.now).index (term_of c.args.cond.now) (block_of c.args.block.now) (Else (block_of c.args.second.now)) c.args.item.now c.emit_jump.new.item c.emit_inner.new.item c.requires.fits c.in_ok-emit_jump.ensures.item c.in_ok-emit_inner.ensures.item
 
 pub emit_if_else-land-requires-2-clause-given : goal.emit_if_else-land-requires-2-clause-given
 emit_if_else-land-requires-2-clause-given t c = second_given c.in_ok-end.end c.emit_inner.new.draft.labels c.branch_ahead.new.draft.labels c.land.new.draft.labels c.emit_inner-2.new.draft.labels _ c.in_ok-end.ensures.label c.in_ok-end.ensures.emits.labels c.in_ok-land.ensures.emits.labels c.in_ok-emit_inner-2.ensures.emits.labels
@@ -256,8 +256,11 @@ emit_block-loop-stmt-init t c = record {
 pub emit_block-emit_stmt-requires : goal.emit_block-emit_stmt-requires
 emit_block-emit_stmt-requires t c =
     let l = c.loop-stmt in
+    let x = block_of (drop l.stmt-index c.args.block.now) in
+    let more = block_of (drop (l.stmt-index + 1) c.args.block.now) in
+    let a = action_of c.stmt-item.result in
     let e = next_statement c.args.block.now l.stmt-index c.stmt-item.result c.loop-stmt-test.true c.stmt-item.is in
-    (omega (arith, ap block_depth e, l.invariant.depth), (l.invariant.exit, ((subst BlockKinds e l.invariant.kinds).0, omega (arith, ap (block_size (scope_of l.scope).index) e, l.invariant.item, c.requires.fits))))
+    (statement_below t (block_of c.args.block.now) x more a c.decreases l.invariant.depth e, (l.invariant.exit, ((subst BlockKinds e l.invariant.kinds).0, statement_room (scope_of l.scope).index (scope_of c.args.scope.now).index (block_of c.args.block.now) x more a c.args.item.now l.item e l.invariant.item c.requires.fits)))
 
 pub emit_block-loop-stmt-smaller : goal.emit_block-loop-stmt-smaller
 emit_block-loop-stmt-smaller t c = omega arith
@@ -278,21 +281,21 @@ pub emit_block-returns-clause-item : goal.emit_block-returns-clause-item
 emit_block-returns-clause-item t c =
     let l = c.loop-stmt in
     let end = no_statement c.args.block.now l.stmt-index c.loop-stmt-test.false in
-    omega (arith, ap (block_size (scope_of l.scope).index) end, l.invariant.item)
+    items_end (scope_of l.scope).index (block_of (drop l.stmt-index c.args.block.now)) l.item _ end l.invariant.item
 
 pub emit_block-returns-clause-emits : goal.emit_block-returns-clause-emits
 emit_block-returns-clause-emits t c =
     let l = c.loop-stmt in
     let end = no_statement c.args.block.now l.stmt-index c.loop-stmt-test.false in
     record {
-      labels = omega (arith, ap (block_labels (scope_of l.scope).index) end, l.invariant.labels);
+      labels = labels_end (scope_of l.scope).index (block_of (drop l.stmt-index c.args.block.now)) l.draft.labels _ end l.invariant.labels;
       code = λ rest. ap (λ (b : Block). l.draft.entries ++ block_code c.args.places.now (homes_of l.homes.items) (scope_of l.scope) c.args.exit l.item l.draft.labels b rest) (sym end) ∙ l.invariant.code rest;
     }
 
 -- ---- a block whose names are visible no more
 
 pub emit_inner-emit_block-requires : goal.emit_inner-emit_block-requires
-emit_inner-emit_block-requires t c = (omega arith, (c.requires.exit, (c.requires.kinds, c.requires.fits)))
+emit_inner-emit_block-requires t c = (inner_below t (block_depth (block_of c.args.block.now)) c.decreases, (c.requires.exit, (c.requires.kinds, c.requires.fits)))
 
 pub emit_inner-returns-clause-item : goal.emit_inner-returns-clause-item
 emit_inner-returns-clause-item t c = c.in_ok-emit_block.ensures.item
@@ -303,25 +306,25 @@ emit_inner-returns-clause-emits t c = c.in_ok-emit_block.ensures.emits
 -- ---- an `if`
 
 pub emit_if-emit_jump-requires-clause-given : goal.emit_if-emit_jump-requires-clause-given
-emit_if-emit_jump-requires-clause-given t c = omega (arith, c.in_ok-other.ensures.next, c.in_ok-other.ensures.count)
+emit_if-emit_jump-requires-clause-given t c = label_given c.in_ok-other.other c.args.draft.now.labels c.label.new.self.labels c.in_ok-other.ensures.next c.in_ok-other.ensures.count
 
 pub emit_if-emit_jump-requires-clause-kind : goal.emit_if-emit_jump-requires-clause-kind
 emit_if-emit_jump-requires-clause-kind t c = c.requires.cond
 
 pub emit_if-emit_jump-requires-clause-fits : goal.emit_if-emit_jump-requires-clause-fits
-emit_if-emit_jump-requires-clause-fits t c = omega (arith, c.requires.fits)
+emit_if-emit_jump-requires-clause-fits t c = truth_room (scope_of c.args.scope.now).index (term_of c.args.cond.now) (block_of c.args.block.now) Nothing c.args.item.now c.requires.fits
 
 pub emit_if-overflow_add-item : goal.emit_if-overflow_add-item
-emit_if-overflow_add-item t c = omega (arith, c.requires.fits, c.in_ok-emit_jump.ensures.item)
+emit_if-overflow_add-item t c = branch_room (scope_of c.args.scope.now).index (term_of c.args.cond.now) (block_of c.args.block.now) Nothing c.args.item.now c.emit_jump.new.item c.requires.fits c.in_ok-emit_jump.ensures.item
 
 pub emit_if-emit_inner-requires : goal.emit_if-emit_inner-requires
-emit_if-emit_inner-requires t c = (omega arith, (omega (arith, c.requires.exit, c.in_ok-other.ensures.count, c.in_ok-emit_jump.ensures.emits.labels), (c.requires.block, omega (arith, c.requires.fits, c.in_ok-emit_jump.ensures.item))))
+emit_if-emit_inner-requires t c = (one_below t (block_depth (block_of c.args.block.now)) c.decreases, (exit_given c.args.exit c.args.draft.now.labels c.label.new.self.labels c.emit_jump.new.draft.labels _ c.requires.exit c.in_ok-other.ensures.count c.in_ok-emit_jump.ensures.emits.labels, (c.requires.block, block_room (scope_of c.args.scope.now).index (term_of c.args.cond.now) (block_of c.args.block.now) Nothing c.args.item.now c.emit_jump.new.item c.requires.fits c.in_ok-emit_jump.ensures.item)))
 
 pub emit_if-land-requires-clause-given : goal.emit_if-land-requires-clause-given
-emit_if-land-requires-clause-given t c = omega (arith, c.in_ok-other.ensures.next, c.in_ok-other.ensures.count, c.in_ok-emit_jump.ensures.emits.labels, c.in_ok-emit_inner.ensures.emits.labels)
+emit_if-land-requires-clause-given t c = land_given c.in_ok-other.other c.args.draft.now.labels c.label.new.self.labels c.emit_jump.new.draft.labels c.emit_inner.new.draft.labels _ _ c.in_ok-other.ensures.next c.in_ok-other.ensures.count c.in_ok-emit_jump.ensures.emits.labels c.in_ok-emit_inner.ensures.emits.labels
 
 pub emit_if-land-requires-clause-room : goal.emit_if-land-requires-clause-room
-emit_if-land-requires-clause-room t c = omega (arith, c.requires.fits, c.in_ok-emit_jump.ensures.item, c.in_ok-emit_inner.ensures.item)
+emit_if-land-requires-clause-room t c = first_room (scope_of c.args.scope.now).index (term_of c.args.cond.now) (block_of c.args.block.now) Nothing c.args.item.now c.emit_jump.new.item c.emit_inner.new.item c.requires.fits c.in_ok-emit_jump.ensures.item c.in_ok-emit_inner.ensures.item
 
 pub emit_if-returns-clause-scope : goal.emit_if-returns-clause-scope
 emit_if-returns-clause-scope t c = on_any c.land.result c.in_ok-emit_inner.ensures.scope
@@ -335,25 +338,25 @@ emit_if-returns-clause-item t c = on_ok_weaker c.land.result (if_items c.args.it
 -- ---- an `if` with a second block
 
 pub emit_if_else-emit_jump-requires-clause-given : goal.emit_if_else-emit_jump-requires-clause-given
-emit_if_else-emit_jump-requires-clause-given t c = omega (arith, c.in_ok-other.ensures.next, c.in_ok-other.ensures.count)
+emit_if_else-emit_jump-requires-clause-given t c = label_given c.in_ok-other.other c.args.draft.now.labels c.label.new.self.labels c.in_ok-other.ensures.next c.in_ok-other.ensures.count
 
 pub emit_if_else-emit_jump-requires-clause-kind : goal.emit_if_else-emit_jump-requires-clause-kind
 emit_if_else-emit_jump-requires-clause-kind t c = c.requires.cond
 
 pub emit_if_else-emit_jump-requires-clause-fits : goal.emit_if_else-emit_jump-requires-clause-fits
-emit_if_else-emit_jump-requires-clause-fits t c = omega (arith, c.requires.fits)
+emit_if_else-emit_jump-requires-clause-fits t c = truth_room (scope_of c.args.scope.now).index (term_of c.args.cond.now) (block_of c.args.block.now) (Else (block_of c.args.second.now)) c.args.item.now c.requires.fits
 
 pub emit_if_else-overflow_add-item : goal.emit_if_else-overflow_add-item
-emit_if_else-overflow_add-item t c = omega (arith, c.requires.fits, c.in_ok-emit_jump.ensures.item)
+emit_if_else-overflow_add-item t c = branch_room (scope_of c.args.scope.now).index (term_of c.args.cond.now) (block_of c.args.block.now) (Else (block_of c.args.second.now)) c.args.item.now c.emit_jump.new.item c.requires.fits c.in_ok-emit_jump.ensures.item
 
 pub emit_if_else-emit_inner-requires : goal.emit_if_else-emit_inner-requires
-emit_if_else-emit_inner-requires t c = (omega arith, (omega (arith, c.requires.exit, c.in_ok-other.ensures.count, c.in_ok-emit_jump.ensures.emits.labels), (c.requires.block, omega (arith, c.requires.fits, c.in_ok-emit_jump.ensures.item))))
+emit_if_else-emit_inner-requires t c = (first_below t (block_depth (block_of c.args.block.now)) (block_depth (block_of c.args.second.now)) c.decreases, (exit_given c.args.exit c.args.draft.now.labels c.label.new.self.labels c.emit_jump.new.draft.labels _ c.requires.exit c.in_ok-other.ensures.count c.in_ok-emit_jump.ensures.emits.labels, (c.requires.block, block_room (scope_of c.args.scope.now).index (term_of c.args.cond.now) (block_of c.args.block.now) (Else (block_of c.args.second.now)) c.args.item.now c.emit_jump.new.item c.requires.fits c.in_ok-emit_jump.ensures.item)))
 
 pub emit_if_else-branch_ahead-requires : goal.emit_if_else-branch_ahead-requires
 emit_if_else-branch_ahead-requires t c = refl
 
 pub emit_if_else-emit_inner-requires-2 : goal.emit_if_else-emit_inner-requires-2
-emit_if_else-emit_inner-requires-2 t c = (omega arith, (omega (arith, c.requires.exit, c.in_ok-other.ensures.count, c.in_ok-emit_jump.ensures.emits.labels, c.in_ok-emit_inner.ensures.emits.labels, c.in_ok-end.ensures.emits.labels, c.in_ok-land.ensures.emits.labels), (c.requires.second, second_room (scope_of c.args.scope.now) (scope_of c.emit_inner.new.scope) (term_of c.args.cond.now) (block_of c.args.block.now) (block_of c.args.second.now) c.args.item.now c.emit_jump.new.item c.emit_inner.new.item c.land.new.item c.requires.fits c.in_ok-emit_jump.ensures.item c.in_ok-emit_inner.ensures.item c.in_ok-land.ensures.item c.in_ok-emit_inner.ensures.scope)))
+emit_if_else-emit_inner-requires-2 t c = (second_below t (block_depth (block_of c.args.block.now)) (block_depth (block_of c.args.second.now)) c.decreases, (exit_again c.args.exit c.args.draft.now.labels c.label.new.self.labels c.emit_jump.new.draft.labels c.emit_inner.new.draft.labels c.branch_ahead.new.draft.labels c.land.new.draft.labels _ _ c.requires.exit c.in_ok-other.ensures.count c.in_ok-emit_jump.ensures.emits.labels c.in_ok-emit_inner.ensures.emits.labels c.in_ok-end.ensures.emits.labels c.in_ok-land.ensures.emits.labels, (c.requires.second, second_room (scope_of c.args.scope.now) (scope_of c.emit_inner.new.scope) (term_of c.args.cond.now) (block_of c.args.block.now) (block_of c.args.second.now) c.args.item.now c.emit_jump.new.item c.emit_inner.new.item c.land.new.item c.requires.fits c.in_ok-emit_jump.ensures.item c.in_ok-emit_inner.ensures.item c.in_ok-land.ensures.item c.in_ok-emit_inner.ensures.scope)))
 
 pub emit_if_else-returns-clause-scope : goal.emit_if_else-returns-clause-scope
 emit_if_else-returns-clause-scope t c = on_any c.land-2.result (c.in_ok-emit_inner-2.ensures.scope ∙ ap (λ (r : Scope). left r (after_block r (block_of c.args.second.now))) c.in_ok-emit_inner.ensures.scope)
@@ -370,13 +373,13 @@ pub emit_stmt-emit_if-requires : goal.emit_stmt-emit_if-requires
 emit_stmt-emit_if-requires t c =
     let is = sym c.in-If.ensures in
     let kinds = subst ActionKinds is c.requires.kinds in
-    (omega (arith, ap action_depth is), (c.requires.exit, (kinds.0, (kinds.1, subst (λ (a : Action). c.args.item.now + action_size (scope_of c.args.scope.now).index a < 2 ^ 32) is c.requires.fits))))
+    (if_below t (action_of c.args.stmt.now) (term_of c.in-If.cond.now) (block_of c.in-If.block.now) c.decreases is, (c.requires.exit, (kinds.0, (kinds.1, subst (λ (a : Action). c.args.item.now + action_size (scope_of c.args.scope.now).index a < 2 ^ 32) is c.requires.fits))))
 
 pub emit_stmt-emit_if_else-requires : goal.emit_stmt-emit_if_else-requires
 emit_stmt-emit_if_else-requires t c =
     let is = sym c.in-IfElse.ensures in
     let kinds = subst ActionKinds is c.requires.kinds in
-    (omega (arith, ap action_depth is), (c.requires.exit, (kinds.0, (kinds.1, (kinds.2, subst (λ (a : Action). c.args.item.now + action_size (scope_of c.args.scope.now).index a < 2 ^ 32) is c.requires.fits)))))
+    (if_else_below t (action_of c.args.stmt.now) (term_of c.in-IfElse.cond.now) (block_of c.in-IfElse.block.now) (block_of c.in-IfElse.other.now) c.decreases is, (c.requires.exit, (kinds.0, (kinds.1, (kinds.2, subst (λ (a : Action). c.args.item.now + action_size (scope_of c.args.scope.now).index a < 2 ^ 32) is c.requires.fits)))))
 
 pub emit_stmt-emit_let-requires-clause-kind : goal.emit_stmt-emit_let-requires-clause-kind
 emit_stmt-emit_let-requires-clause-kind t c = subst ActionKinds (sym c.in-Let.ensures) c.requires.kinds
@@ -403,7 +406,10 @@ pub emit_stmt-emit_jump-requires-clause-kind : goal.emit_stmt-emit_jump-requires
 emit_stmt-emit_jump-requires-clause-kind t c = subst ActionKinds (sym c.in-Break.ensures) c.requires.kinds
 
 pub emit_stmt-emit_jump-requires-clause-fits : goal.emit_stmt-emit_jump-requires-clause-fits
-emit_stmt-emit_jump-requires-clause-fits t c = omega (arith, ap (action_size (scope_of c.args.scope.now).index) c.in-Break.ensures, c.requires.fits)
+emit_stmt-emit_jump-requires-clause-fits t c = leave_room (scope_of c.args.scope.now).index (action_of c.args.stmt.now) (term_of c.in-Break.cond.now) c.args.item.now c.in-Break.ensures c.requires.fits
 
 pub emit_stmt-overflow_add-item : goal.emit_stmt-overflow_add-item
-emit_stmt-overflow_add-item t c = omega (arith, ap (action_size (scope_of c.args.scope.now).index) c.in-Break.ensures, c.requires.fits, c.in_ok-emit_jump-in-Break.ensures.item)
+emit_stmt-overflow_add-item t c = left_room (scope_of c.args.scope.now).index (action_of c.args.stmt.now) (term_of c.in-Break.cond.now) c.args.item.now c.emit_jump.new.item c.in-Break.ensures c.requires.fits c.in_ok-emit_jump-in-Break.ensures.item
+
+pub emit_block-offset_bounds-block-stmt-index : goal.emit_block-offset_bounds-block-stmt-index
+emit_block-offset_bounds-block-stmt-index t c = omega arith
