@@ -1,5 +1,7 @@
 -- The code of a loop and of what stands before it, put together from that of its parts.
-use Rattle.std.proofs.Common.{◌≡◌, ℕ, ◌+◌, List, [], ◌∷◌, ◌++◌, Option, Some, refl, ap, arith}
+use Rattle.std.proofs.Common.{◌≡◌, ℕ, ◌+◌, ◌<◌, ◌^◌, List, [], ◌∷◌, ◌++◌, Option, Some, refl, ap, arith}
+use mir.Syntax.{w64}
+use mir.Val.{Fits}
 use Rattle.machine_model.specs.InstructionTable.{Listed}
 use Rattle.a64_code.specs.Table.{subs, add_imm}
 use Rattle.kernel_tree.specs.Plain.{Accumulator, PlainLoop, Block}
@@ -58,3 +60,27 @@ pub loop_items : (s s2 : Scope) (blk : Block) (b item : ℕ) → s2.index ≡ s.
 loop_items s s2 blk b item e f =
     let i = ap (λ j. block_size j blk) e in
     omega arith
+
+pub loop_more : (b p : ℕ) → b + (1 + p) < 2 ^ 32 → Fits w64 (b + 1)
+loop_more b p h = omega arith
+
+pub inside_room : (s s2 : Scope) (blk : Block) (b : ℕ) → s2.index ≡ s.index → b + (1 + block_size s.index blk) < 2 ^ 32 → b + 1 + block_size s2.index blk < 2 ^ 32
+inside_room s s2 blk b e h =
+    let i = ap (λ j. block_size j blk) e in
+    omega arith
+
+-- the labels of a loop are given before they are placed
+pub last_given : (last n m : ℕ) → last ≡ n + 3 → m ≡ n + 4 → last < m
+last_given last n m e f = omega arith
+
+pub last_placed : (last n m k p : ℕ) → last ≡ n + 3 → m ≡ n + 4 → k ≡ m + p → last < k
+last_placed last n m k p e f g = omega arith
+
+pub top_given : (top last head n m : ℕ) → top ≡ head + 2 → last ≡ head + 3 → last < n → m ≡ n → top < m
+top_given top last head n m e f h g = omega arith
+
+pub later : (last n a b : ℕ) → last < n → a ≡ n → b ≡ a → last < b
+later last n a b h e f = omega arith
+
+pub exit_placed : (exit last head n a b c d : ℕ) → exit ≡ head + 1 → last ≡ head + 3 → last < n → a ≡ n → b ≡ a → c ≡ b → d ≡ c → exit < d
+exit_placed exit last head n a b c d e f h p q r s = omega arith

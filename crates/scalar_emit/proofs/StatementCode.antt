@@ -1,27 +1,27 @@
 -- The code of statements, put together from that of their parts.
-use Rattle.std.proofs.Common.{◌≡◌, ℕ, ◌+◌, ◌*◌, ◌<◌, ◌≤◌, ◌^◌, false, List, ◌∷◌, length, drop, Some, None, Option, refl, ap, ◌∙◌, arith}
+use Rattle.std.proofs.Common.{◌≡◌, Bool, true, ℕ, ◌+◌, ◌*◌, ◌<◌, ◌≤◌, ◌^◌, false, List, ◌∷◌, length, drop, Some, None, Option, refl, sym, ap, ◌∙◌, arith}
 use Rattle.std.proofs.lemmas.List.{drop_all}
-use Rattle.std.specs.Prelude.{ℤ, max, option_map, option_and_then}
+use Rattle.std.specs.Prelude.{ℤ, max, ◌||◌, option_map, option_and_then}
 use Rattle.machine_model.specs.InstructionTable.{Listed}
 use mir.Syntax.{w64}
 use mir.Val.{Fits}
 use Rattle.kernel_tree.specs.declared.ast.Stmt.{Stmt}
 use Rattle.kernel_tree.specs.declared.ops.Ty.{Ty}
-use Rattle.kernel_tree.specs.Plain.{Term, Action, Define, Put, Choose, Leave, Block, Done, Then, Otherwise, Nothing, Else, block_of}
+use Rattle.kernel_tree.specs.Plain.{Term, Conversion, Action, Define, Put, Choose, Leave, Block, Done, Then, Otherwise, Nothing, Else, block_of}
 use Rattle.kernel_tree.specs.Items.{term_size, action_size, block_size, stream_offset}
 use Rattle.kernel_tree.specs.Limits.{action_depth, block_depth}
 use Rattle.kernel_tree.specs.Typing.{Scope, lookup, own, first, element_type, left, after_block}
 use Rattle.label_fix.specs.Draft.{Drafted}
 use Rattle.label_fix.specs.Emits.{Emits}
-use Rattle.label_fix.specs.DraftRun.{DraftEntry, Branch, Place, Always}
+use Rattle.label_fix.specs.DraftRun.{DraftEntry, Put as PutWord, Branch, Place, Always}
 use Rattle.scalar_words.specs.Layout.{Layout, Homes, register_at}
 use Rattle.scalar_words.specs.Words.{word_code}
 use Rattle.value_code.specs.declared.extent.Extent.{Extent}
-use Rattle.value_code.specs.Extents.{extent_at}
-use Rattle.value_code.specs.ItemWords.{index_word, index_register, store_code}
+use Rattle.value_code.specs.Extents.{extent_at, within_type, fits_at, converted_extent}
+use Rattle.value_code.specs.ItemWords.{index_word, index_register, store, store_code}
 use Rattle.value_code.specs.ValueRegisters.{home}
-use Rattle.value_code.specs.Code.{labels, place_of, value_code, jump_code}
-use Rattle.loop_code.specs.Statements.{let_code, action_labels, block_labels, stored_code, stored_home, put_code, placed_put, action_code, block_code}
+use Rattle.value_code.specs.Code.{labels, place_of, loose_code, value_code, jump_code}
+use Rattle.loop_code.specs.Statements.{let_code, action_labels, block_labels, is_bare, stored_code, stored_home, put_code, placed_put, action_code, block_code}
 
 -- the code of a statement that has been taken apart
 pub emits_as : (L : Layout) (hs hs1 : Homes) (s : Scope) (exit b : ℕ) (d d2 : Drafted) (a a2 : Action) → hs1 ≡ hs → a ≡ a2 → Emits d d2 (d.labels + action_labels s.index a) (action_code L hs1 s exit b d.labels a) → Emits d d2 (d.labels + action_labels s.index a2) (action_code L hs s exit b d.labels a2)
@@ -175,3 +175,32 @@ items_end i x n m e f = omega (arith, ap (block_size i) e)
 
 pub labels_end : (i : Option (List ℕ)) (x : Block) (n m : ℕ) → x ≡ Done → n + block_labels i x ≡ m → n ≡ m
 labels_end i x n m e f = omega (arith, ap (block_labels i) e)
+
+-- a cast that is no word, since no more is asked of it than its type has, or since its type has each value of the operand's
+pub within_bare : (s : Scope) (w : Extent) (e : Term) (t : Ty) (b : Bool) → b ≡ within_type w t → b ≡ true → is_bare s w (Conversion e t) ≡ true
+within_bare s w e t b f g = ap (λ x. x || fits_at (own s e) t) (sym f ∙ g)
+
+fits_after : (x : Bool) → (x || true) ≡ true
+fits_after true = refl
+fits_after false = refl
+
+pub fits_bare : (s : Scope) (w : Extent) (e : Term) (t : Ty) (from : Option Ty) (b : Bool) → from ≡ own s e → b ≡ fits_at from t → b ≡ true → is_bare s w (Conversion e t) ≡ true
+fits_bare s w e t from b f g h = ap (λ x. within_type w t || x) (sym (ap (λ (o : Option Ty). fits_at o t) f) ∙ sym g ∙ h) ∙ fits_after (within_type w t)
+
+pub bare_home : (L : Layout) (hs : Homes) (s : Scope) (w : Extent) (b r : ℕ) (e x : Term) (t : Ty) → x ≡ Conversion e t → is_bare s w (Conversion e t) ≡ true → r ≡ home L hs s.index b e → r ≡ stored_home L hs s w b x
+bare_home L hs s w b r e x t is bare h = h ∙ rw (is, bare) refl
+
+pub bare_code : (L : Layout) (hs : Homes) (s : Scope) (w asked : Extent) (from want : Option Ty) (b n : ℕ) (e x : Term) (t : Ty) (rest : List DraftEntry) → x ≡ Conversion e t → is_bare s w (Conversion e t) ≡ true → from ≡ own s e → asked ≡ converted_extent w from t → loose_code L hs s asked from b n e rest ≡ stored_code L hs s w want b n x rest
+bare_code L hs s w asked from want b n e x t rest is bare f g = rw (is, bare, g, f) refl
+
+pub cast_room : (i : Option (List ℕ)) (e x : Term) (t : Ty) (b : ℕ) → x ≡ Conversion e t → b + term_size i x < 2 ^ 32 → b + term_size i e < 2 ^ 32
+cast_room i e x t b is h = omega (arith, ap (term_size i) is)
+
+pub cast_more : (i : Option (List ℕ)) (e x : Term) (t : Ty) (b item : ℕ) → x ≡ Conversion e t → b + term_size i x < 2 ^ 32 → item ≡ b + term_size i e → Fits w64 (item + 1)
+cast_more i e x t b item is h f = omega (arith, ap (term_size i) is)
+
+pub cast_items : (i : Option (List ℕ)) (e x : Term) (t : Ty) (b item : ℕ) → x ≡ Conversion e t → item ≡ b + term_size i e → item + 1 ≡ b + term_size i x
+cast_items i e x t b item is f = omega (arith, ap (term_size i) is)
+
+pub into_is : (o : Option Ty) (t : Ty) (w : Listed) (from p r : ℕ) (rest : List DraftEntry) → o ≡ Some t → w ≡ store t from p r → PutWord w ∷ rest ≡ store_code o from p r rest
+into_is o t w from p r rest is e = rw (is, e) refl

@@ -6,7 +6,7 @@ use Rattle.label_fix.specs.DraftRun.{DraftEntry}
 use Rattle.scalar_words.specs.View.{homes_of}
 use Rattle.loop_code.specs.Statements.{block_labels}
 use Rattle.loop_code.proofs.Emission.{index_named}
-use Rattle.scalar_emit.proofs.LoopCode.{loop_is, loop_items}
+use Rattle.scalar_emit.proofs.LoopCode.{loop_is, loop_items, loop_more, inside_room, last_given, last_placed}
 use Rattle.std.proofs.lemmas.Result.{IfOk-from_err}
 use Rattle.scalar_emit.proofs.Errors.{on_error}
 use Rattle.kernel_tree.specs.Items.{block_size}
@@ -52,16 +52,16 @@ returns-in_err-emit_again c =
     record { head = IfOk-from_err _ _ failed; scope = on_error _ _ failed; homes = on_error _ _ failed; item = on_error _ _ failed; emits = on_error _ _ failed }
 
 pub overflow_add-item : goal.overflow_add-item
-overflow_add-item c = omega (arith, c.requires.fits)
+overflow_add-item c = loop_more c.args.item.now _ c.requires.fits
 
 pub emit_inside-requires-clause-last : goal.emit_inside-requires-clause-last
-emit_inside-requires-clause-last c = omega (arith, c.in_ok-labels.ensures.last, c.in_ok-labels.ensures.emits.labels)
+emit_inside-requires-clause-last c = last_given c.in_ok-labels.labels.last c.args.draft.now.labels c.emit_entry.new.draft.labels c.in_ok-labels.ensures.last c.in_ok-labels.ensures.emits.labels
 
 pub emit_inside-requires-clause-kinds : goal.emit_inside-requires-clause-kinds
 emit_inside-requires-clause-kinds c = c.requires.kinds
 
 pub emit_inside-requires-clause-fits : goal.emit_inside-requires-clause-fits
-emit_inside-requires-clause-fits c = omega (arith, ap (λ (s : Scope). block_size s.index (block_of c.args.for_loop.now.body.items)) c.in_ok-declare.ensures, c.requires.fits)
+emit_inside-requires-clause-fits c = inside_room (scope_of c.args.scope.now) (scope_of c.declare.new.scope) (block_of c.args.for_loop.now.body.items) c.args.item.now (ap (λ (s : Scope). s.index) c.in_ok-declare.ensures) c.requires.fits
 
 pub emit_again-requires-clause-exit : goal.emit_again-requires-clause-exit
 emit_again-requires-clause-exit c = c.in_ok-labels.ensures.exit ∙ sym (ap (λ n. n + 1) c.in_ok-labels.ensures.head)
@@ -73,7 +73,7 @@ pub emit_again-requires-clause-last : goal.emit_again-requires-clause-last
 emit_again-requires-clause-last c = c.in_ok-labels.ensures.last ∙ sym (ap (λ n. n + 3) c.in_ok-labels.ensures.head)
 
 pub emit_again-requires-clause-given : goal.emit_again-requires-clause-given
-emit_again-requires-clause-given c = omega (arith, c.in_ok-labels.ensures.last, c.in_ok-labels.ensures.emits.labels, c.in_ok-emit_inside.ensures.emits.labels)
+emit_again-requires-clause-given c = last_placed c.in_ok-labels.labels.last c.args.draft.now.labels c.emit_entry.new.draft.labels c.emit_inside.new.draft.labels _ c.in_ok-labels.ensures.last c.in_ok-labels.ensures.emits.labels c.in_ok-emit_inside.ensures.emits.labels
 
 pub returns-clause-head : goal.returns-clause-head
 returns-clause-head c = c.in_ok-labels.ensures.head
@@ -88,3 +88,4 @@ returns-clause-homes c =
 
 pub returns-clause-item : goal.returns-clause-item
 returns-clause-item c = loop_items (scope_of c.args.scope.now) (scope_of c.declare.new.scope) (block_of c.args.for_loop.now.body.items) c.args.item.now c.emit_inside.new.item (ap (λ (s : Scope). s.index) c.in_ok-declare.ensures) c.in_ok-emit_inside.ensures.item
+

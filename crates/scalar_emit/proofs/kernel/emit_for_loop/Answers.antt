@@ -1,4 +1,4 @@
-use Rattle.std.proofs.Common.{◌++◌, List, sym, ap, ◌∙◌, subst, arith}
+use Rattle.std.proofs.Common.{◌++◌, List, sym, ap, ◌∙◌, subst, arith, refl, ◌≤◌}
 use Rattle.kernel_tree.specs.Plain.{for_loop_of, program_of}
 use Rattle.kernel_tree.specs.Kinds.{ForLoopKinds}
 use Rattle.kernel_tree.specs.Typing.{Scope}
@@ -12,6 +12,7 @@ use Rattle.loop_code.specs.Loop.{bare}
 use Rattle.loop_code.proofs.Emission.{known_index, numbers_are, for_loop_is, for_loop_count, held_is, loop_ends, loop_room, answer_room, at_end}
 use Rattle.std.proofs.lemmas.Result.{IfOk-from_err}
 use Rattle.scalar_emit.proofs.Errors.{on_error}
+use Rattle.scalar_emit.proofs.KernelCalls.{few_given}
 use Rattle.scalar_emit.proofs.kernel.emit_for_loop.Goals as goal
 
 pub emit_loop-requires-clause-kinds : goal.emit_loop-requires-clause-kinds
@@ -85,10 +86,11 @@ pub returns-clause-entry : goal.returns-clause-entry
 returns-clause-entry c = c.in_ok-at_iteration.ensures.head
 
 pub hold_numbers-requires : goal.hold_numbers-requires
-hold_numbers-requires c = omega (arith, c.requires.params, c.len-params.ensures, c.args.kernel.now.params.ok.0, count_params c.args.kernel.now.params.items)
+hold_numbers-requires c = subst (λ n. n ≤ 8) (sym (c.len-params.ensures ∙ c.args.kernel.now.params.ok.0)) (few_given (program_of c.args.kernel.now) c.args.kernel.now.params.items refl c.requires.params)
 
 pub loosen_names-requires-clause-for_loop : goal.loosen_names-requires-clause-for_loop
 loosen_names-requires-clause-for_loop c = c.requires.for_loop
 
 pub loosen_names-requires-clause-scope : goal.loosen_names-requires-clause-scope
 loosen_names-requires-clause-scope c = c.requires.scope
+

@@ -1,4 +1,4 @@
-use Rattle.std.proofs.Common.{◌++◌, List, ap, ◌∙◌, arith}
+use Rattle.std.proofs.Common.{◌++◌, List, ap, ◌∙◌, arith, ◌+◌}
 use Rattle.std.proofs.lemmas.Result.{on_ok_weaker}
 use Rattle.kernel_tree.specs.Plain.{accumulator_of}
 use Rattle.kernel_scope.specs.Scopes.{scope_of}
@@ -6,7 +6,7 @@ use Rattle.label_fix.specs.DraftRun.{DraftEntry}
 use Rattle.scalar_words.specs.KernelRegisters.{register_in}
 use Rattle.scalar_words.specs.View.{homes_of}
 use Rattle.scalar_emit.proofs.LoopCode.{var_is}
-use Rattle.scalar_emit.proofs.Errors.{on_error}
+use Rattle.scalar_emit.proofs.Errors.{on_error, on_any}
 use Rattle.scalar_emit.proofs.kernel.emit_var.Goals as goal
 
 pub returns-clause-emits : goal.returns-clause-emits
@@ -56,3 +56,7 @@ returns-clause-homes c = c.declare_var.ensures.homes
 
 pub overflow_add-item : goal.overflow_add-item
 overflow_add-item c = omega (arith, c.requires.fits, c.in_ok-from.ensures.item)
+
+pub returns-clause-item : goal.returns-clause-item
+returns-clause-item c = on_any c.declare_var.result (ap (λ n. n + 1) c.in_ok-from.ensures.item)
+
