@@ -2,9 +2,9 @@
 use Rattle.std.proofs.Common.{◌≡◌, Bool, true, ℕ, ◌+◌, ◌*◌, ◌<◌, ◌≤◌, ◌^◌, false, List, ◌∷◌, length, drop, Some, None, Option, refl, sym, ap, ◌∙◌, arith}
 use Rattle.std.proofs.lemmas.List.{drop_all}
 use Rattle.std.specs.Prelude.{ℤ, max, ◌||◌, option_map, option_and_then}
-use Rattle.machine_model.specs.InstructionTable.{Listed}
 use mir.Syntax.{w64}
 use mir.Val.{Fits}
+use Rattle.machine_model.specs.InstructionTable.{Listed}
 use Rattle.kernel_tree.specs.declared.ast.Stmt.{Stmt}
 use Rattle.kernel_tree.specs.declared.ops.Ty.{Ty}
 use Rattle.kernel_tree.specs.Plain.{Term, Conversion, Action, Define, Put, Choose, Leave, Block, Done, Then, Otherwise, Nothing, Else, block_of}

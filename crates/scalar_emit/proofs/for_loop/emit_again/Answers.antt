@@ -1,14 +1,14 @@
-use Rattle.std.proofs.Common.{◌++◌, List, ap, ◌∙◌, arith}
+use Rattle.std.proofs.Common.{◌++◌, List, ap, ◌∙◌}
 use Rattle.std.proofs.lemmas.Result.{on_ok_weaker}
+use Rattle.std.specs.Prelude.{option_map}
 use Rattle.kernel_tree.specs.Plain.{name_of}
 use Rattle.label_fix.specs.Draft.{word_view}
 use Rattle.label_fix.specs.DraftRun.{DraftEntry}
+use Rattle.label_fix.specs.Finished.{is_plain}
 use Rattle.scalar_words.specs.Layout.{loose_in}
-use Rattle.std.specs.Prelude.{option_map}
 use Rattle.scalar_words.specs.View.{form_of, homes_of, looses_of}
 use Rattle.scalar_emit.proofs.LoopCode.{again_is, top_given, later, exit_placed}
 use Rattle.scalar_emit.proofs.Errors.{on_error}
-use Rattle.label_fix.specs.Finished.{is_plain}
 use Rattle.scalar_emit.proofs.for_loop.emit_again.Goals as goal
 
 pub returns : goal.returns
@@ -51,4 +51,3 @@ place-requires c = record { given = later c.args.labels.last c.args.draft.now.la
 
 pub place-requires-2 : goal.place-requires-2
 place-requires-2 c = record { given = exit_placed c.args.labels.exit c.args.labels.last c.args.labels.head c.args.draft.now.labels c.put.new.self.labels c.emit_back.new.draft.labels c.place.new.self.labels c.emit_extended.new.draft.labels c.requires.exit c.requires.last c.requires.given c.in_ok-put.ensures.labels c.in_ok-emit_back.ensures.labels c.in_ok-place.ensures.labels c.in_ok-emit_extended.ensures.labels }
-

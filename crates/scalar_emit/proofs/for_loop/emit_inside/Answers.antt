@@ -2,15 +2,15 @@ use Rattle.std.proofs.Common.{List, refl, ap, ◌∙◌, ◌+◌, ◌<◌, ◌^�
 use Rattle.kernel_tree.specs.declared.ast.Stmt.{Stmt}
 use Rattle.kernel_tree.specs.Plain.{block_of}
 use Rattle.kernel_tree.specs.Typing.{Scope, after_block}
+use Rattle.kernel_tree.specs.Kinds.{BlockKinds}
+use Rattle.kernel_tree.specs.Items.{block_size}
 use Rattle.kernel_scope.specs.Scopes.{scope_of, closed}
+use Rattle.label_fix.specs.Emits.{Emits}
 use Rattle.scalar_words.specs.View.{homes_of}
 use Rattle.loop_code.specs.Statements.{block_homes, block_labels, block_code}
 use Rattle.loop_code.specs.Loop.{inside_of}
 use Rattle.loop_code.proofs.Emission.{homes_back, restored}
 use Rattle.scalar_emit.proofs.Errors.{on_error}
-use Rattle.kernel_tree.specs.Kinds.{BlockKinds}
-use Rattle.kernel_tree.specs.Items.{block_size}
-use Rattle.label_fix.specs.Emits.{Emits}
 use Rattle.scalar_emit.proofs.for_loop.emit_inside.Goals as goal
 
 pub returns-clause-scope : goal.returns-clause-scope

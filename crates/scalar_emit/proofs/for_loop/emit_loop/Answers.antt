@@ -1,4 +1,5 @@
-use Rattle.std.proofs.Common.{ℕ, ◌+◌, ◌++◌, List, None, ap, ap₂, ◌∙◌, arith, sym}
+use Rattle.std.proofs.Common.{ℕ, ◌+◌, ◌++◌, List, None, ap, ap₂, ◌∙◌, sym}
+use Rattle.std.proofs.lemmas.Result.{IfOk-from_err}
 use Rattle.kernel_tree.specs.Plain.{for_loop_of, block_of}
 use Rattle.kernel_tree.specs.Typing.{Scope}
 use Rattle.kernel_scope.specs.Scopes.{scope_of}
@@ -7,9 +8,7 @@ use Rattle.scalar_words.specs.View.{homes_of}
 use Rattle.loop_code.specs.Statements.{block_labels}
 use Rattle.loop_code.proofs.Emission.{index_named}
 use Rattle.scalar_emit.proofs.LoopCode.{loop_is, loop_items, loop_more, inside_room, last_given, last_placed}
-use Rattle.std.proofs.lemmas.Result.{IfOk-from_err}
 use Rattle.scalar_emit.proofs.Errors.{on_error}
-use Rattle.kernel_tree.specs.Items.{block_size}
 use Rattle.scalar_emit.proofs.for_loop.emit_loop.Goals as goal
 
 pub returns-clause-emits : goal.returns-clause-emits
@@ -88,4 +87,3 @@ returns-clause-homes c =
 
 pub returns-clause-item : goal.returns-clause-item
 returns-clause-item c = loop_items (scope_of c.args.scope.now) (scope_of c.declare.new.scope) (block_of c.args.for_loop.now.body.items) c.args.item.now c.emit_inside.new.item (ap (λ (s : Scope). s.index) c.in_ok-declare.ensures) c.in_ok-emit_inside.ensures.item
-

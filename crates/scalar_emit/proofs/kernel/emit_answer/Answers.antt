@@ -1,12 +1,12 @@
-use Rattle.scalar_emit.proofs.Errors.{on_error}
 use Rattle.std.proofs.Common.{Option, subst, ap, arith}
 use Rattle.std.specs.Prelude.{option_map}
-use Rattle.label_fix.specs.Finished.{is_plain}
 use Rattle.kernel_tree.specs.declared.ast.Answer.{Answer}
 use Rattle.kernel_tree.specs.Plain.{returned_of}
 use Rattle.kernel_tree.specs.Kinds.{AnswerKinds}
 use Rattle.kernel_tree.specs.Items.{answer_size}
 use Rattle.kernel_scope.specs.Scopes.{scope_of}
+use Rattle.label_fix.specs.Finished.{is_plain}
+use Rattle.scalar_emit.proofs.Errors.{on_error}
 use Rattle.scalar_emit.proofs.kernel.emit_answer.Goals as goal
 
 pub returns-in_err-put-in-None : goal.returns-in_err-put-in-None

@@ -1,5 +1,5 @@
-use Rattle.scalar_emit.proofs.Errors.{on_error}
 use Rattle.std.proofs.Common.{refl, arith}
+use Rattle.scalar_emit.proofs.Errors.{on_error}
 use Rattle.scalar_emit.proofs.kernel.emit_arguments.Goals as goal
 
 pub returns-in_err-emit_settle : goal.returns-in_err-emit_settle

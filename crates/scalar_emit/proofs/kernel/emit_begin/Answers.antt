@@ -3,13 +3,13 @@ use Rattle.std.proofs.lemmas.Result.{on_ok_weaker}
 use Rattle.kernel_tree.specs.declared.ast.Kernel.{Kernel}
 use Rattle.kernel_tree.specs.Plain.{program_of, Program}
 use Rattle.kernel_tree.specs.Items.{size_of}
+use Rattle.kernel_tree.specs.Kinds.{VarsKinds}
+use Rattle.kernel_tree.specs.Typing.{empty}
 use Rattle.loop_form.specs.View.{program}
 use Rattle.scalar_words.specs.KernelRegisters.{register_in, layout_of_kernel}
 use Rattle.loop_code.specs.Kernel.{begin_labels, begin_code}
 use Rattle.loop_code.proofs.Counts.{begin_words, words_added}
 use Rattle.scalar_emit.proofs.Errors.{on_error}
-use Rattle.kernel_tree.specs.Kinds.{VarsKinds}
-use Rattle.kernel_tree.specs.Typing.{empty}
 use Rattle.scalar_emit.proofs.kernel.emit_begin.Goals as goal
 
 pub returns-clause-emits : goal.returns-clause-emits

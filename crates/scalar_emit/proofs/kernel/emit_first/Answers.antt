@@ -4,16 +4,16 @@ use Rattle.machine_model.specs.InstructionTable.{Listed}
 use Rattle.kernel_tree.specs.Plain.{parameters_of, accumulators_of, program_of}
 use Rattle.kernel_tree.specs.Items.{loop_index}
 use Rattle.kernel_tree.specs.Typing.{Scope, empty, after_params}
+use Rattle.kernel_tree.specs.Kinds.{VarsKinds}
 use Rattle.kernel_scope.specs.Scopes.{scope_of}
 use Rattle.label_fix.specs.DraftRun.{DraftEntry, Put}
-use Rattle.scalar_words.specs.KernelRegisters.{register_in, param_homes}
-use Rattle.loop_code.specs.Kernel.{zero_index}
-use Rattle.scalar_words.specs.View.{homes_of}
-use Rattle.loop_code.proofs.Emission.{begin_is, begin_count}
-use Rattle.scalar_words.proofs.Layouts.{count_params}
-use Rattle.scalar_emit.proofs.Errors.{on_error}
 use Rattle.label_fix.specs.Finished.{is_plain}
-use Rattle.kernel_tree.specs.Kinds.{VarsKinds}
+use Rattle.scalar_words.specs.KernelRegisters.{register_in, param_homes}
+use Rattle.scalar_words.specs.View.{homes_of}
+use Rattle.scalar_words.proofs.Layouts.{count_params}
+use Rattle.loop_code.specs.Kernel.{zero_index}
+use Rattle.loop_code.proofs.Emission.{begin_is, begin_count}
+use Rattle.scalar_emit.proofs.Errors.{on_error}
 use Rattle.scalar_emit.proofs.KernelCalls.{few_given, few_vars, vars_room}
 use Rattle.scalar_emit.proofs.kernel.emit_first.Goals as goal
 

@@ -1,4 +1,5 @@
-use Rattle.std.proofs.Common.{◌++◌, List, sym, ap, ◌∙◌, subst, arith, refl, ◌≤◌}
+use Rattle.std.proofs.Common.{◌++◌, List, sym, ap, ◌∙◌, subst, refl, ◌≤◌}
+use Rattle.std.proofs.lemmas.Result.{IfOk-from_err}
 use Rattle.kernel_tree.specs.Plain.{for_loop_of, program_of}
 use Rattle.kernel_tree.specs.Kinds.{ForLoopKinds}
 use Rattle.kernel_tree.specs.Typing.{Scope}
@@ -10,7 +11,6 @@ use Rattle.scalar_words.proofs.Layouts.{count_params}
 use Rattle.scalar_words.specs.View.{homes_of}
 use Rattle.loop_code.specs.Loop.{bare}
 use Rattle.loop_code.proofs.Emission.{known_index, numbers_are, for_loop_is, for_loop_count, held_is, loop_ends, loop_room, answer_room, at_end}
-use Rattle.std.proofs.lemmas.Result.{IfOk-from_err}
 use Rattle.scalar_emit.proofs.Errors.{on_error}
 use Rattle.scalar_emit.proofs.KernelCalls.{few_given}
 use Rattle.scalar_emit.proofs.kernel.emit_for_loop.Goals as goal
@@ -93,4 +93,3 @@ loosen_names-requires-clause-for_loop c = c.requires.for_loop
 
 pub loosen_names-requires-clause-scope : goal.loosen_names-requires-clause-scope
 loosen_names-requires-clause-scope c = c.requires.scope
-

@@ -1,4 +1,5 @@
 use Rattle.std.proofs.Common.{◌++◌, List, Option, ap, ◌∙◌}
+use Rattle.std.proofs.lemmas.Result.{IfOk-from_err}
 use Rattle.std.specs.Prelude.{option_map}
 use Rattle.kernel_tree.specs.declared.ast.Loop.{Loop}
 use Rattle.kernel_tree.specs.Plain.{for_loop_of, program_of}
@@ -7,7 +8,6 @@ use Rattle.label_fix.specs.DraftRun.{DraftEntry}
 use Rattle.scalar_words.specs.KernelRegisters.{register_in}
 use Rattle.scalar_words.specs.View.{homes_of}
 use Rattle.loop_code.proofs.Emission.{bare_code, bare_count, answer_room, at_start}
-use Rattle.std.proofs.lemmas.Result.{IfOk-from_err}
 use Rattle.scalar_emit.proofs.Errors.{on_error}
 use Rattle.scalar_emit.proofs.kernel.emit_rest.Goals as goal
 

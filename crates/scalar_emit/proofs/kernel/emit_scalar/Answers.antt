@@ -4,15 +4,15 @@ use Rattle.kernel_tree.specs.declared.ast.Kernel.{Kernel}
 use Rattle.kernel_tree.specs.declared.ast.Var.{Var}
 use Rattle.kernel_tree.specs.Plain.{accumulators_of, program_of, Program}
 use Rattle.kernel_tree.specs.Items.{loop_index, vars_size, size_of}
-use Rattle.loop_form.specs.View.{program}
-use Rattle.scalar_words.specs.KernelRegisters.{register_in, layout_of_kernel}
-use Rattle.loop_code.specs.Kernel.{scalar_labels, scalar_code}
-use Rattle.loop_code.proofs.Counts.{scalar_words, words_added}
-use Rattle.scalar_words.proofs.Layouts.{count_params}
-use Rattle.scalar_emit.proofs.Errors.{on_error}
 use Rattle.kernel_tree.specs.Kinds.{KernelKinds}
 use Rattle.kernel_tree.specs.Typing.{empty}
-use Rattle.scalar_emit.proofs.KernelCalls.{vars_fit, few_given}
+use Rattle.loop_form.specs.View.{program}
+use Rattle.scalar_words.specs.KernelRegisters.{register_in, layout_of_kernel}
+use Rattle.scalar_words.proofs.Layouts.{count_params}
+use Rattle.loop_code.specs.Kernel.{scalar_labels, scalar_code}
+use Rattle.loop_code.proofs.Counts.{scalar_words, words_added}
+use Rattle.scalar_emit.proofs.Errors.{on_error}
+use Rattle.scalar_emit.proofs.KernelCalls.{vars_fit}
 use Rattle.scalar_emit.proofs.kernel.emit_scalar.Goals as goal
 
 -- the items of the loop begin after those of the parameters and of the accumulators

@@ -59,4 +59,3 @@ overflow_add-item c = omega (arith, c.requires.fits, c.in_ok-from.ensures.item)
 
 pub returns-clause-item : goal.returns-clause-item
 returns-clause-item c = on_any c.declare_var.result (ap (λ n. n + 1) c.in_ok-from.ensures.item)
-

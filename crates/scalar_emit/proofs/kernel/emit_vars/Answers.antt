@@ -1,14 +1,14 @@
 use Rattle.std.proofs.Common.{◌+◌, subst, ap, ◌∙◌, drop, List, ◌++◌, refl, sym, arith}
 use Rattle.kernel_tree.specs.Plain.{accumulator_of, accumulators_of, Accumulator}
 use Rattle.kernel_tree.specs.Kinds.{VarsKinds}
+use Rattle.kernel_tree.specs.Items.{vars_size}
 use Rattle.kernel_scope.specs.Scopes.{scope_of}
 use Rattle.loop_form.proofs.LoopLists.{next-entry}
 use Rattle.scalar_words.specs.KernelRegisters.{register_in}
 use Rattle.scalar_words.specs.View.{homes_of}
+use Rattle.loop_code.specs.Kernel.{vars_labels, vars_code}
 use Rattle.scalar_emit.proofs.LoopCode.{vars_on}
 use Rattle.scalar_emit.proofs.Errors.{on_error}
-use Rattle.kernel_tree.specs.Items.{vars_size}
-use Rattle.loop_code.specs.Kernel.{vars_labels, vars_code}
 use Rattle.scalar_emit.proofs.KernelCalls.{no_var}
 use Rattle.scalar_emit.proofs.kernel.emit_vars.Goals as goal
 

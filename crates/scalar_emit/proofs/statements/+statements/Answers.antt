@@ -7,9 +7,9 @@ use Rattle.kernel_tree.specs.Items.{term_size, action_size, block_size}
 use Rattle.kernel_tree.specs.Typing.{Scope, left, after_action, after_block}
 use Rattle.kernel_scope.specs.Scopes.{scope_of, kept}
 use Rattle.kernel_scope.proofs.Growth.{kept-block}
-use Rattle.scalar_words.specs.View.{homes_of}
 use Rattle.label_fix.specs.DraftRun.{DraftEntry}
-use Rattle.loop_code.specs.Statements.{after_homes, block_homes, block_labels, action_code, block_code}
+use Rattle.scalar_words.specs.View.{homes_of}
+use Rattle.loop_code.specs.Statements.{after_homes, block_homes, action_code, block_code}
 use Rattle.loop_code.proofs.Emission.{homes_back}
 use Rattle.loop_code.proofs.StatementWalks.{next_statement, emits_on}
 use Rattle.scalar_emit.proofs.Errors.{on_error, on_any}

@@ -1,6 +1,6 @@
 use Rattle.std.proofs.Common.{List, Option, ◌++◌, refl, sym, ap, subst, ◌∙◌}
-use Rattle.kernel_tree.specs.declared.ops.Ty.{Ty}
 use Rattle.std.proofs.lemmas.Result.{on_ok_weaker}
+use Rattle.kernel_tree.specs.declared.ops.Ty.{Ty}
 use Rattle.label_fix.specs.Draft.{word_view}
 use Rattle.label_fix.specs.Emits.{Emits}
 use Rattle.label_fix.specs.DraftRun.{DraftEntry}

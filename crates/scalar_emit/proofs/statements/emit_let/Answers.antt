@@ -2,14 +2,14 @@ use Rattle.std.proofs.Common.{◌++◌, List, ap, ◌∙◌, arith, ap₂, ℕ, 
 use Rattle.std.proofs.lemmas.Result.{on_ok_weaker, IfOk-equal}
 use Rattle.kernel_tree.specs.Plain.{name_of, term_of}
 use Rattle.kernel_tree.specs.Typing.{first, defined}
+use Rattle.kernel_tree.specs.declared.ops.Ty.{Ty}
+use Rattle.kernel_tree.specs.Items.{term_size}
 use Rattle.kernel_scope.specs.Scopes.{scope_of}
 use Rattle.label_fix.specs.DraftRun.{DraftEntry}
 use Rattle.scalar_words.specs.View.{homes_of}
+use Rattle.loop_code.specs.Statements.{defined_homes}
 use Rattle.scalar_emit.proofs.StatementCode.{let_is, one_more}
 use Rattle.scalar_emit.proofs.Errors.{on_error, on_any}
-use Rattle.kernel_tree.specs.declared.ops.Ty.{Ty}
-use Rattle.kernel_tree.specs.Items.{term_size}
-use Rattle.loop_code.specs.Statements.{defined_homes}
 use Rattle.scalar_emit.proofs.statements.emit_let.Goals as goal
 
 pub returns-clause-emits : goal.returns-clause-emits

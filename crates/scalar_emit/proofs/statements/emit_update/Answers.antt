@@ -6,10 +6,10 @@ use Rattle.kernel_tree.specs.Plain.{name_of, term_of}
 use Rattle.kernel_scope.specs.Scopes.{scope_of}
 use Rattle.label_fix.specs.DraftRun.{DraftEntry}
 use Rattle.scalar_words.specs.View.{homes_of}
-use Rattle.scalar_values.specs.Sides.{side_view}
 use Rattle.value_code.specs.declared.extent.Extent.{Extent}
 use Rattle.value_code.specs.Extents.{within, binary_extent}
 use Rattle.value_code.specs.Covers.{held_extent}
+use Rattle.scalar_values.specs.Sides.{side_view}
 use Rattle.loop_code.proofs.Emission.{update_type, update_is}
 use Rattle.scalar_emit.proofs.Errors.{on_error}
 use Rattle.scalar_emit.proofs.statements.emit_update.Goals as goal
