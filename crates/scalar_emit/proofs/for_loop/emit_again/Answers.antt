@@ -40,11 +40,11 @@ returns-in_err-emit_extended c = on_error _ _ c.from_residual-in_err-emit_extend
 pub put-requires : goal.put-requires
 put-requires c = record { plain = ap is_plain c.next_iteration.ensures }
 
-pub emit_back-requires-clause-top : goal.emit_back-requires-clause-top
-emit_back-requires-clause-top c = c.requires.top
-
-pub emit_back-requires-clause-given : goal.emit_back-requires-clause-given
-emit_back-requires-clause-given c = top_given c.args.labels.top c.args.labels.last c.args.labels.head c.args.draft.now.labels c.put.new.self.labels c.requires.top c.requires.last c.requires.given c.in_ok-put.ensures.labels
+pub emit_back-requires : goal.emit_back-requires
+emit_back-requires c = record {
+  top = c.requires.top;
+  given = top_given c.args.labels.top c.args.labels.last c.args.labels.head c.args.draft.now.labels c.put.new.self.labels c.requires.top c.requires.last c.requires.given c.in_ok-put.ensures.labels;
+}
 
 pub place-requires : goal.place-requires
 place-requires c = record { given = later c.args.labels.last c.args.draft.now.labels c.put.new.self.labels c.emit_back.new.draft.labels c.requires.given c.in_ok-put.ensures.labels c.in_ok-emit_back.ensures.labels }

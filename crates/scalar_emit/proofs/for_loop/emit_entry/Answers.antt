@@ -8,26 +8,6 @@ use Rattle.scalar_emit.proofs.LoopCode.{entry_is, entry_top, entry_last, entry_c
 use Rattle.scalar_emit.proofs.Errors.{on_error}
 use Rattle.scalar_emit.proofs.for_loop.emit_entry.Goals as goal
 
-pub returns-clause-emits : goal.returns-clause-emits
-returns-clause-emits c =
-    let n = c.args.draft.now.labels in
-    let head = c.in_ok-head.ensures.emits.labels in
-    let bound = c.in_ok-put.ensures.labels in
-    let top = entry_top n c.emit_head.new.draft.labels c.put.new.self.labels c.branch_ahead.new.draft.labels c.emit_moves.new.draft.labels c.emit_numbers.new.draft.labels head bound c.in_ok-exit.ensures.emits.labels c.in_ok-emit_moves.ensures.labels c.in_ok-emit_numbers.ensures.labels in
-    record {
-      labels = entry_count n c.emit_numbers.new.draft.labels c.emit_head-2.new.draft.labels c.label.new.self.labels top c.in_ok-top.ensures.emits.labels c.in_ok-last.ensures.count;
-      code = λ rest. ap (λ (l : List DraftEntry). l ++ rest) c.in_ok-last.ensures.entries
-          ∙ c.in_ok-top.ensures.emits.code rest
-          ∙ c.in_ok-emit_numbers.ensures.code _
-          ∙ c.in_ok-emit_moves.ensures.code _
-          ∙ c.in_ok-exit.ensures.emits.code _
-          ∙ c.in_ok-put.ensures.code _
-          ∙ c.in_ok-head.ensures.emits.code _
-          ∙ ap (λ (l : List DraftEntry). c.args.draft.now.entries ++ l)
-          (entry_is c.args.bound.number n c.put.new.self.labels c.emit_numbers.new.draft.labels (homes_of c.args.homes.now) c.args.places.now (looses_of c.loose.result.now) (constants_of c.constants.result.now) (word_view c.bound_word.result) rest
-          c.bound_word.ensures (bound ∙ head) c.loose.ensures c.constants.ensures top);
-    }
-
 pub returns-in_err-head : goal.returns-in_err-head
 returns-in_err-head c =
     let failed = c.from_residual.ensures.0 in
@@ -63,25 +43,39 @@ returns-in_err-last c =
     let failed = c.from_residual-in_err-last.ensures.0 in
     record { head = IfOk-from_err _ _ failed; exit = IfOk-from_err _ _ failed; top = IfOk-from_err _ _ failed; last = IfOk-from_err _ _ failed; emits = on_error _ _ failed }
 
-pub returns-clause-head : goal.returns-clause-head
-returns-clause-head c = c.in_ok-head.ensures.head
-
-pub returns-clause-exit : goal.returns-clause-exit
-returns-clause-exit c = c.in_ok-exit.ensures.label ∙ c.in_ok-put.ensures.labels ∙ c.in_ok-head.ensures.emits.labels
-
 pub branch_ahead-requires : goal.branch_ahead-requires
 branch_ahead-requires c = refl
 
 pub put-requires : goal.put-requires
 put-requires c = record { plain = ap is_plain c.bound_word.ensures }
 
-pub returns-clause-top : goal.returns-clause-top
-returns-clause-top c =
-    let n = c.args.draft.now.labels in
-    c.in_ok-top.ensures.head ∙ entry_top n c.emit_head.new.draft.labels c.put.new.self.labels c.branch_ahead.new.draft.labels c.emit_moves.new.draft.labels c.emit_numbers.new.draft.labels c.in_ok-head.ensures.emits.labels c.in_ok-put.ensures.labels c.in_ok-exit.ensures.emits.labels c.in_ok-emit_moves.ensures.labels c.in_ok-emit_numbers.ensures.labels
-
-pub returns-clause-last : goal.returns-clause-last
-returns-clause-last c =
-    let n = c.args.draft.now.labels in
-    let top = entry_top n c.emit_head.new.draft.labels c.put.new.self.labels c.branch_ahead.new.draft.labels c.emit_moves.new.draft.labels c.emit_numbers.new.draft.labels c.in_ok-head.ensures.emits.labels c.in_ok-put.ensures.labels c.in_ok-exit.ensures.emits.labels c.in_ok-emit_moves.ensures.labels c.in_ok-emit_numbers.ensures.labels in
-    c.in_ok-last.ensures.next ∙ entry_last n c.emit_numbers.new.draft.labels c.emit_head-2.new.draft.labels top c.in_ok-top.ensures.emits.labels
+pub returns : goal.returns
+returns c = record {
+  emits =
+      let n = c.args.draft.now.labels in
+      let head = c.in_ok-head.ensures.emits.labels in
+      let bound = c.in_ok-put.ensures.labels in
+      let top = entry_top n c.emit_head.new.draft.labels c.put.new.self.labels c.branch_ahead.new.draft.labels c.emit_moves.new.draft.labels c.emit_numbers.new.draft.labels head bound c.in_ok-exit.ensures.emits.labels c.in_ok-emit_moves.ensures.labels c.in_ok-emit_numbers.ensures.labels in
+      record {
+        labels = entry_count n c.emit_numbers.new.draft.labels c.emit_head-2.new.draft.labels c.label.new.self.labels top c.in_ok-top.ensures.emits.labels c.in_ok-last.ensures.count;
+        code = λ rest. ap (λ (l : List DraftEntry). l ++ rest) c.in_ok-last.ensures.entries
+            ∙ c.in_ok-top.ensures.emits.code rest
+            ∙ c.in_ok-emit_numbers.ensures.code _
+            ∙ c.in_ok-emit_moves.ensures.code _
+            ∙ c.in_ok-exit.ensures.emits.code _
+            ∙ c.in_ok-put.ensures.code _
+            ∙ c.in_ok-head.ensures.emits.code _
+            ∙ ap (λ (l : List DraftEntry). c.args.draft.now.entries ++ l)
+            (entry_is c.args.bound.number n c.put.new.self.labels c.emit_numbers.new.draft.labels (homes_of c.args.homes.now) c.args.places.now (looses_of c.loose.result.now) (constants_of c.constants.result.now) (word_view c.bound_word.result) rest
+            c.bound_word.ensures (bound ∙ head) c.loose.ensures c.constants.ensures top);
+      };
+  head = c.in_ok-head.ensures.head;
+  exit = c.in_ok-exit.ensures.label ∙ c.in_ok-put.ensures.labels ∙ c.in_ok-head.ensures.emits.labels;
+  top =
+      let n = c.args.draft.now.labels in
+      c.in_ok-top.ensures.head ∙ entry_top n c.emit_head.new.draft.labels c.put.new.self.labels c.branch_ahead.new.draft.labels c.emit_moves.new.draft.labels c.emit_numbers.new.draft.labels c.in_ok-head.ensures.emits.labels c.in_ok-put.ensures.labels c.in_ok-exit.ensures.emits.labels c.in_ok-emit_moves.ensures.labels c.in_ok-emit_numbers.ensures.labels;
+  last =
+      let n = c.args.draft.now.labels in
+      let top = entry_top n c.emit_head.new.draft.labels c.put.new.self.labels c.branch_ahead.new.draft.labels c.emit_moves.new.draft.labels c.emit_numbers.new.draft.labels c.in_ok-head.ensures.emits.labels c.in_ok-put.ensures.labels c.in_ok-exit.ensures.emits.labels c.in_ok-emit_moves.ensures.labels c.in_ok-emit_numbers.ensures.labels in
+      c.in_ok-last.ensures.next ∙ entry_last n c.emit_numbers.new.draft.labels c.emit_head-2.new.draft.labels top c.in_ok-top.ensures.emits.labels;
+}

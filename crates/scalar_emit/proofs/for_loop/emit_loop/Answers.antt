@@ -11,20 +11,6 @@ use Rattle.scalar_emit.proofs.LoopCode.{loop_is, loop_items, loop_more, inside_r
 use Rattle.scalar_emit.proofs.Errors.{on_error}
 use Rattle.scalar_emit.proofs.for_loop.emit_loop.Goals as goal
 
-pub returns-clause-emits : goal.returns-clause-emits
-returns-clause-emits c =
-    let home = ap₂ (λ (x : List ℕ) (r : ℕ). record { name = x; register = r; last_use = None }) c.text-name.ensures c.index-register.ensures in
-    let named = index_named c.args.homes.now.items c.push.new.self.items _ (for_loop_of c.args.for_loop.now) c.in_ok-push.ensures.items home in
-    record {
-      labels = c.in_ok-emit_again.ensures.labels ∙ c.in_ok-emit_inside.ensures.emits.labels ∙ ap₂ (λ n i. n + block_labels i (block_of c.args.for_loop.now.body.items)) c.in_ok-labels.ensures.emits.labels (ap (λ (s : Scope). s.index) c.in_ok-declare.ensures);
-      code = λ rest. c.in_ok-emit_again.ensures.code rest
-          ∙ c.in_ok-emit_inside.ensures.emits.code _
-          ∙ c.in_ok-labels.ensures.emits.code _
-          ∙ ap (λ (l : List DraftEntry). c.args.draft.now.entries ++ l)
-          (loop_is c.args.places.now (homes_of c.args.homes.now.items) (homes_of c.deref.result.now) (homes_of c.deref-2.result.now) (homes_of c.push.new.self.items) (homes_of c.deref-3.result.now) (scope_of c.args.scope.now) (scope_of c.declare.new.scope) (for_loop_of c.args.for_loop.now) c.args.item.now c.args.draft.now.labels c.register_at-bound.result.number c.in_ok-labels.labels.last c.emit_entry.new.draft.labels c.in_ok-labels.labels.head rest
-          c.register_at-bound.ensures (ap homes_of c.deref.ensures.value) (ap homes_of c.deref-2.ensures.value ∙ named) named (ap homes_of c.deref-3.ensures.value ∙ c.in_ok-emit_inside.ensures.homes ∙ named) c.in_ok-declare.ensures c.in_ok-labels.ensures.last c.in_ok-labels.ensures.emits.labels c.in_ok-labels.ensures.head);
-    }
-
 pub returns-in_err-push : goal.returns-in_err-push
 returns-in_err-push c =
     let failed = c.from_residual.ensures.0 in
@@ -53,37 +39,39 @@ returns-in_err-emit_again c =
 pub overflow_add-item : goal.overflow_add-item
 overflow_add-item c = loop_more c.args.item.now _ c.requires.fits
 
-pub emit_inside-requires-clause-last : goal.emit_inside-requires-clause-last
-emit_inside-requires-clause-last c = last_given c.in_ok-labels.labels.last c.args.draft.now.labels c.emit_entry.new.draft.labels c.in_ok-labels.ensures.last c.in_ok-labels.ensures.emits.labels
+pub emit_inside-requires : goal.emit_inside-requires
+emit_inside-requires c = record {
+  last = last_given c.in_ok-labels.labels.last c.args.draft.now.labels c.emit_entry.new.draft.labels c.in_ok-labels.ensures.last c.in_ok-labels.ensures.emits.labels;
+  kinds = c.requires.kinds;
+  fits = inside_room (scope_of c.args.scope.now) (scope_of c.declare.new.scope) (block_of c.args.for_loop.now.body.items) c.args.item.now (ap (λ (s : Scope). s.index) c.in_ok-declare.ensures) c.requires.fits;
+}
 
-pub emit_inside-requires-clause-kinds : goal.emit_inside-requires-clause-kinds
-emit_inside-requires-clause-kinds c = c.requires.kinds
+pub emit_again-requires : goal.emit_again-requires
+emit_again-requires c = record {
+  exit = c.in_ok-labels.ensures.exit ∙ sym (ap (λ n. n + 1) c.in_ok-labels.ensures.head);
+  top = c.in_ok-labels.ensures.top ∙ sym (ap (λ n. n + 2) c.in_ok-labels.ensures.head);
+  last = c.in_ok-labels.ensures.last ∙ sym (ap (λ n. n + 3) c.in_ok-labels.ensures.head);
+  given = last_placed c.in_ok-labels.labels.last c.args.draft.now.labels c.emit_entry.new.draft.labels c.emit_inside.new.draft.labels _ c.in_ok-labels.ensures.last c.in_ok-labels.ensures.emits.labels c.in_ok-emit_inside.ensures.emits.labels;
+}
 
-pub emit_inside-requires-clause-fits : goal.emit_inside-requires-clause-fits
-emit_inside-requires-clause-fits c = inside_room (scope_of c.args.scope.now) (scope_of c.declare.new.scope) (block_of c.args.for_loop.now.body.items) c.args.item.now (ap (λ (s : Scope). s.index) c.in_ok-declare.ensures) c.requires.fits
-
-pub emit_again-requires-clause-exit : goal.emit_again-requires-clause-exit
-emit_again-requires-clause-exit c = c.in_ok-labels.ensures.exit ∙ sym (ap (λ n. n + 1) c.in_ok-labels.ensures.head)
-
-pub emit_again-requires-clause-top : goal.emit_again-requires-clause-top
-emit_again-requires-clause-top c = c.in_ok-labels.ensures.top ∙ sym (ap (λ n. n + 2) c.in_ok-labels.ensures.head)
-
-pub emit_again-requires-clause-last : goal.emit_again-requires-clause-last
-emit_again-requires-clause-last c = c.in_ok-labels.ensures.last ∙ sym (ap (λ n. n + 3) c.in_ok-labels.ensures.head)
-
-pub emit_again-requires-clause-given : goal.emit_again-requires-clause-given
-emit_again-requires-clause-given c = last_placed c.in_ok-labels.labels.last c.args.draft.now.labels c.emit_entry.new.draft.labels c.emit_inside.new.draft.labels _ c.in_ok-labels.ensures.last c.in_ok-labels.ensures.emits.labels c.in_ok-emit_inside.ensures.emits.labels
-
-pub returns-clause-head : goal.returns-clause-head
-returns-clause-head c = c.in_ok-labels.ensures.head
-
-pub returns-clause-scope : goal.returns-clause-scope
-returns-clause-scope c = c.in_ok-emit_inside.ensures.scope ∙ c.in_ok-declare.ensures
-
-pub returns-clause-homes : goal.returns-clause-homes
-returns-clause-homes c =
-    let home = ap₂ (λ (x : List ℕ) (r : ℕ). record { name = x; register = r; last_use = None }) c.text-name.ensures c.index-register.ensures in
-    c.in_ok-emit_inside.ensures.homes ∙ index_named c.args.homes.now.items c.push.new.self.items _ (for_loop_of c.args.for_loop.now) c.in_ok-push.ensures.items home
-
-pub returns-clause-item : goal.returns-clause-item
-returns-clause-item c = loop_items (scope_of c.args.scope.now) (scope_of c.declare.new.scope) (block_of c.args.for_loop.now.body.items) c.args.item.now c.emit_inside.new.item (ap (λ (s : Scope). s.index) c.in_ok-declare.ensures) c.in_ok-emit_inside.ensures.item
+pub returns : goal.returns
+returns c = record {
+  emits =
+      let home = ap₂ (λ (x : List ℕ) (r : ℕ). record { name = x; register = r; last_use = None }) c.text-name.ensures c.index-register.ensures in
+      let named = index_named c.args.homes.now.items c.push.new.self.items _ (for_loop_of c.args.for_loop.now) c.in_ok-push.ensures.items home in
+      record {
+        labels = c.in_ok-emit_again.ensures.labels ∙ c.in_ok-emit_inside.ensures.emits.labels ∙ ap₂ (λ n i. n + block_labels i (block_of c.args.for_loop.now.body.items)) c.in_ok-labels.ensures.emits.labels (ap (λ (s : Scope). s.index) c.in_ok-declare.ensures);
+        code = λ rest. c.in_ok-emit_again.ensures.code rest
+            ∙ c.in_ok-emit_inside.ensures.emits.code _
+            ∙ c.in_ok-labels.ensures.emits.code _
+            ∙ ap (λ (l : List DraftEntry). c.args.draft.now.entries ++ l)
+            (loop_is c.args.places.now (homes_of c.args.homes.now.items) (homes_of c.deref.result.now) (homes_of c.deref-2.result.now) (homes_of c.push.new.self.items) (homes_of c.deref-3.result.now) (scope_of c.args.scope.now) (scope_of c.declare.new.scope) (for_loop_of c.args.for_loop.now) c.args.item.now c.args.draft.now.labels c.register_at-bound.result.number c.in_ok-labels.labels.last c.emit_entry.new.draft.labels c.in_ok-labels.labels.head rest
+            c.register_at-bound.ensures (ap homes_of c.deref.ensures.value) (ap homes_of c.deref-2.ensures.value ∙ named) named (ap homes_of c.deref-3.ensures.value ∙ c.in_ok-emit_inside.ensures.homes ∙ named) c.in_ok-declare.ensures c.in_ok-labels.ensures.last c.in_ok-labels.ensures.emits.labels c.in_ok-labels.ensures.head);
+      };
+  head = c.in_ok-labels.ensures.head;
+  scope = c.in_ok-emit_inside.ensures.scope ∙ c.in_ok-declare.ensures;
+  homes =
+      let home = ap₂ (λ (x : List ℕ) (r : ℕ). record { name = x; register = r; last_use = None }) c.text-name.ensures c.index-register.ensures in
+      c.in_ok-emit_inside.ensures.homes ∙ index_named c.args.homes.now.items c.push.new.self.items _ (for_loop_of c.args.for_loop.now) c.in_ok-push.ensures.items home;
+  item = loop_items (scope_of c.args.scope.now) (scope_of c.declare.new.scope) (block_of c.args.for_loop.now.body.items) c.args.item.now c.emit_inside.new.item (ap (λ (s : Scope). s.index) c.in_ok-declare.ensures) c.in_ok-emit_inside.ensures.item;
+}

@@ -18,17 +18,17 @@ returns-in_err-from-in-Some c = on_error _ _ c.from_residual-in_err-from-in-Some
 pub returns-in_err-emit_copy-in-Some : goal.returns-in_err-emit_copy-in-Some
 returns-in_err-emit_copy-in-Some c = on_error _ _ c.from_residual-in_err-emit_copy-in-Some.ensures.0
 
-pub small-requires-clause-register : goal.small-requires-clause-register
-small-requires-clause-register c = omega arith
-
-pub small-requires-clause-value : goal.small-requires-clause-value
-small-requires-clause-value c = omega arith
+pub small-requires : goal.small-requires
+small-requires c = record {
+  register = omega arith;
+  value = omega arith;
+}
 
 pub put-requires : goal.put-requires
 put-requires c = record { plain = ap is_plain c.small.ensures }
 
-pub emit_value-requires-clause-kind : goal.emit_value-requires-clause-kind
-emit_value-requires-clause-kind c = subst (λ (o : Option Answer). AnswerKinds (option_map returned_of o)) c.in-Some.is c.requires.kind
-
-pub emit_value-requires-clause-fits : goal.emit_value-requires-clause-fits
-emit_value-requires-clause-fits c = omega (arith, ap (λ (o : Option Answer). answer_size (scope_of c.args.scope.now).index (option_map returned_of o)) c.in-Some.is, c.requires.fits)
+pub emit_value-requires : goal.emit_value-requires
+emit_value-requires c = record {
+  kind = subst (λ (o : Option Answer). AnswerKinds (option_map returned_of o)) c.in-Some.is c.requires.kind;
+  fits = omega (arith, ap (λ (o : Option Answer). answer_size (scope_of c.args.scope.now).index (option_map returned_of o)) c.in-Some.is, c.requires.fits);
+}

@@ -37,47 +37,31 @@ returns-in_err-places c =
 pub each_has_a_register-requires : goal.each_has_a_register-requires
 each_has_a_register-requires c = record { fits = c.requires.fits }
 
-pub places_of-requires-clause-fits : goal.places_of-requires-clause-fits
-places_of-requires-clause-fits c = c.requires.fits
+pub places_of-requires : goal.places_of-requires
+places_of-requires c = record {
+  fits = c.requires.fits;
+  listed = c.requires.listed;
+}
 
-pub places_of-requires-clause-listed : goal.places_of-requires-clause-listed
-places_of-requires-clause-listed c = c.requires.listed
-
-pub emit_first-requires-clause-assigned : goal.emit_first-requires-clause-assigned
-emit_first-requires-clause-assigned c = c.requires.fits.assigned
-
-pub emit_first-requires-clause-vars : goal.emit_first-requires-clause-vars
+pub emit_first-requires : goal.emit_first-requires
 unfolding program
-emit_first-requires-clause-vars c =
-    let same = sym (ap program_of c.kernel-tree.ensures) in
-    subst (λ (k : Program). length k.vars ≤ length c.args.regs.now.registers) same c.each_has_a_register.ensures.vars
-
-pub emit_first-requires-clause-params : goal.emit_first-requires-clause-params
-unfolding program
-emit_first-requires-clause-params c =
-    let same = sym (ap program_of c.kernel-tree.ensures) in
-    subst (λ (k : Program). length k.params ≤ 8) same c.few_params.ensures
-
-pub emit_first-requires-clause-kinds : goal.emit_first-requires-clause-kinds
-unfolding program
-emit_first-requires-clause-kinds c =
-    let same = sym (ap program_of c.kernel-tree.ensures) in
-    subst (λ (k : Program). VarsKinds k.vars) same c.right_kinds.ensures.vars
-
-pub emit_first-requires-clause-few : goal.emit_first-requires-clause-few
-unfolding program
-emit_first-requires-clause-few c =
-    let same = sym (ap program_of c.kernel-tree.ensures) in
-    subst (λ (k : Program). size_of k ≤ 1000) same c.few_items.ensures.size
-
-pub emit_first-requires-clause-places : goal.emit_first-requires-clause-places
-unfolding program
-emit_first-requires-clause-places c =
-    let same = sym (ap program_of c.kernel-tree.ensures) in
-    c.in_ok-places.ensures ∙ ap (layout_of_kernel (register_in c.args.regs.now)) same
-
-pub emit_first-requires-clause-scope : goal.emit_first-requires-clause-scope
-emit_first-requires-clause-scope c = c.empty-scope.ensures ∙ ap empty c.loop_index.ensures
-
-pub emit_first-requires-clause-homes : goal.emit_first-requires-clause-homes
-emit_first-requires-clause-homes c = c.new-homes.ensures.items
+emit_first-requires c = record {
+  assigned = c.requires.fits.assigned;
+  vars =
+      let same = sym (ap program_of c.kernel-tree.ensures) in
+      subst (λ (k : Program). length k.vars ≤ length c.args.regs.now.registers) same c.each_has_a_register.ensures.vars;
+  params =
+      let same = sym (ap program_of c.kernel-tree.ensures) in
+      subst (λ (k : Program). length k.params ≤ 8) same c.few_params.ensures;
+  kinds =
+      let same = sym (ap program_of c.kernel-tree.ensures) in
+      subst (λ (k : Program). VarsKinds k.vars) same c.right_kinds.ensures.vars;
+  few =
+      let same = sym (ap program_of c.kernel-tree.ensures) in
+      subst (λ (k : Program). size_of k ≤ 1000) same c.few_items.ensures.size;
+  places =
+      let same = sym (ap program_of c.kernel-tree.ensures) in
+      c.in_ok-places.ensures ∙ ap (layout_of_kernel (register_in c.args.regs.now)) same;
+  scope = c.empty-scope.ensures ∙ ap empty c.loop_index.ensures;
+  homes = c.new-homes.ensures.items;
+}

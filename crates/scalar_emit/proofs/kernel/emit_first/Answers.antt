@@ -51,25 +51,21 @@ declare_params-requires c = few_given (program_of c.args.kernel.now) c.deref.res
 pub emit_arguments-requires : goal.emit_arguments-requires
 emit_arguments-requires c = few_given (program_of c.args.kernel.now) c.deref-2.result.now (ap parameters_of c.deref-2.ensures.value) c.requires.params
 
-pub emit_vars-requires-clause-assigned : goal.emit_vars-requires-clause-assigned
-emit_vars-requires-clause-assigned c = c.requires.assigned
+pub emit_vars-requires : goal.emit_vars-requires
+emit_vars-requires c = record {
+  assigned = c.requires.assigned;
+  within = few_vars (program_of c.args.kernel.now) c.deref-3.result.now _ (ap accumulators_of c.deref-3.ensures.value) c.requires.vars;
+  kinds = subst VarsKinds (sym (ap accumulators_of c.deref-3.ensures.value)) c.requires.kinds;
+  fits =
+      let tree = c.args.kernel.now in
+      vars_room (program_of tree) (scope_of c.declare_params.new.scope) c.len-first.result (accumulators_of c.deref-3.result.now) (ap accumulators_of c.deref-3.ensures.value) (c.in_ok-declare_params.ensures.index ∙ ap (λ (s : Scope). s.index) c.requires.scope) (c.len-first.ensures ∙ tree.params.ok.0 ∙ sym (count_params tree.params.items)) c.requires.few;
+}
 
-pub emit_vars-requires-clause-within : goal.emit_vars-requires-clause-within
-emit_vars-requires-clause-within c = few_vars (program_of c.args.kernel.now) c.deref-3.result.now _ (ap accumulators_of c.deref-3.ensures.value) c.requires.vars
-
-pub emit_vars-requires-clause-kinds : goal.emit_vars-requires-clause-kinds
-emit_vars-requires-clause-kinds c = subst VarsKinds (sym (ap accumulators_of c.deref-3.ensures.value)) c.requires.kinds
-
-pub emit_vars-requires-clause-fits : goal.emit_vars-requires-clause-fits
-emit_vars-requires-clause-fits c =
-    let tree = c.args.kernel.now in
-    vars_room (program_of tree) (scope_of c.declare_params.new.scope) c.len-first.result (accumulators_of c.deref-3.result.now) (ap accumulators_of c.deref-3.ensures.value) (c.in_ok-declare_params.ensures.index ∙ ap (λ (s : Scope). s.index) c.requires.scope) (c.len-first.ensures ∙ tree.params.ok.0 ∙ sym (count_params tree.params.items)) c.requires.few
-
-pub small-requires-clause-register : goal.small-requires-clause-register
-small-requires-clause-register c = omega arith
-
-pub small-requires-clause-value : goal.small-requires-clause-value
-small-requires-clause-value c = omega arith
+pub small-requires : goal.small-requires
+small-requires c = record {
+  register = omega arith;
+  value = omega arith;
+}
 
 pub put-requires : goal.put-requires
 put-requires c = record { plain = ap is_plain c.small.ensures }

@@ -15,15 +15,6 @@ use Rattle.scalar_emit.proofs.Errors.{on_error}
 use Rattle.scalar_emit.proofs.KernelCalls.{vars_fit}
 use Rattle.scalar_emit.proofs.kernel.emit_scalar.Goals as goal
 
--- the items of the loop begin after those of the parameters and of the accumulators
-pub emit_rest-requires-clause-start : goal.emit_rest-requires-clause-start
-unfolding program
-emit_rest-requires-clause-start c =
-    let tree = c.kernel-tree.result.now in
-    let params = c.len.ensures ∙ tree.params.ok.0 ∙ sym (count_params tree.params.items) in
-    let vars = c.vars_size_of.ensures ∙ ap₂ (λ (t : Kernel) (vs : List Var). vars_size (loop_index (program_of t)) (accumulators_of vs)) (sym c.kernel-tree.ensures) c.deref.ensures.value in
-    ap₂ (λ m n. m + n) params vars
-
 pub returns-clause-emits : goal.returns-clause-emits
 unfolding program
 returns-clause-emits c =
@@ -49,50 +40,40 @@ returns-in_err-places c =
 pub each_has_a_register-requires : goal.each_has_a_register-requires
 each_has_a_register-requires c = record { fits = c.requires.fits }
 
-pub places_of-requires-clause-fits : goal.places_of-requires-clause-fits
-places_of-requires-clause-fits c = c.requires.fits
+pub places_of-requires : goal.places_of-requires
+places_of-requires c = record {
+  fits = c.requires.fits;
+  listed = c.requires.listed;
+}
 
-pub places_of-requires-clause-listed : goal.places_of-requires-clause-listed
-places_of-requires-clause-listed c = c.requires.listed
-
-pub emit_rest-requires-clause-assigned : goal.emit_rest-requires-clause-assigned
-emit_rest-requires-clause-assigned c = c.requires.fits.assigned
-
-pub emit_rest-requires-clause-vars : goal.emit_rest-requires-clause-vars
+-- the items of the loop begin after those of the parameters and of the accumulators
+pub emit_rest-requires : goal.emit_rest-requires
 unfolding program
-emit_rest-requires-clause-vars c =
-    let same = sym (ap program_of c.kernel-tree.ensures) in
-    subst (λ (k : Program). length k.vars ≤ length c.args.regs.now.registers) same c.each_has_a_register.ensures.vars
-
-pub emit_rest-requires-clause-params : goal.emit_rest-requires-clause-params
-unfolding program
-emit_rest-requires-clause-params c =
-    let same = sym (ap program_of c.kernel-tree.ensures) in
-    subst (λ (k : Program). length k.params ≤ 8) same c.few_params.ensures
-
-pub emit_rest-requires-clause-kinds : goal.emit_rest-requires-clause-kinds
-unfolding program
-emit_rest-requires-clause-kinds c =
-    let same = sym (ap program_of c.kernel-tree.ensures) in
-    subst KernelKinds same c.right_kinds.ensures
-
-pub emit_rest-requires-clause-few : goal.emit_rest-requires-clause-few
-unfolding program
-emit_rest-requires-clause-few c =
-    let same = sym (ap program_of c.kernel-tree.ensures) in
-    subst (λ (k : Program). size_of k ≤ 1000) same c.few_items.ensures.size
-
-pub emit_rest-requires-clause-places : goal.emit_rest-requires-clause-places
-unfolding program
-emit_rest-requires-clause-places c =
-    let same = sym (ap program_of c.kernel-tree.ensures) in
-    c.in_ok-places.ensures ∙ ap (layout_of_kernel (register_in c.args.regs.now)) same
-
-pub emit_rest-requires-clause-scope : goal.emit_rest-requires-clause-scope
-emit_rest-requires-clause-scope c = c.empty-scope.ensures ∙ ap empty c.loop_index.ensures
-
-pub emit_rest-requires-clause-homes : goal.emit_rest-requires-clause-homes
-emit_rest-requires-clause-homes c = c.new-homes.ensures.items
+emit_rest-requires c = record {
+  start =
+      let tree = c.kernel-tree.result.now in
+      let params = c.len.ensures ∙ tree.params.ok.0 ∙ sym (count_params tree.params.items) in
+      let vars = c.vars_size_of.ensures ∙ ap₂ (λ (t : Kernel) (vs : List Var). vars_size (loop_index (program_of t)) (accumulators_of vs)) (sym c.kernel-tree.ensures) c.deref.ensures.value in
+      ap₂ (λ m n. m + n) params vars;
+  assigned = c.requires.fits.assigned;
+  vars =
+      let same = sym (ap program_of c.kernel-tree.ensures) in
+      subst (λ (k : Program). length k.vars ≤ length c.args.regs.now.registers) same c.each_has_a_register.ensures.vars;
+  params =
+      let same = sym (ap program_of c.kernel-tree.ensures) in
+      subst (λ (k : Program). length k.params ≤ 8) same c.few_params.ensures;
+  kinds =
+      let same = sym (ap program_of c.kernel-tree.ensures) in
+      subst KernelKinds same c.right_kinds.ensures;
+  few =
+      let same = sym (ap program_of c.kernel-tree.ensures) in
+      subst (λ (k : Program). size_of k ≤ 1000) same c.few_items.ensures.size;
+  places =
+      let same = sym (ap program_of c.kernel-tree.ensures) in
+      c.in_ok-places.ensures ∙ ap (layout_of_kernel (register_in c.args.regs.now)) same;
+  scope = c.empty-scope.ensures ∙ ap empty c.loop_index.ensures;
+  homes = c.new-homes.ensures.items;
+}
 
 pub vars_size_of-requires : goal.vars_size_of-requires
 unfolding program

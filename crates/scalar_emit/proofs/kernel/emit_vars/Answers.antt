@@ -33,25 +33,21 @@ returns-in_err-emit_var c = on_error _ _ c.from_residual.ensures.0
 pub loop-var-init : goal.loop-var-init
 loop-var-init c = record { place = refl; kinds = c.requires.kinds; item = refl; labels = refl; code = λ rest. refl }
 
-pub emit_var-requires-clause-assigned : goal.emit_var-requires-clause-assigned
-emit_var-requires-clause-assigned c = c.requires.assigned
-
-pub emit_var-requires-clause-within : goal.emit_var-requires-clause-within
-emit_var-requires-clause-within c = omega arith
-
-pub emit_var-requires-clause-kind : goal.emit_var-requires-clause-kind
-emit_var-requires-clause-kind c =
-    let l = c.loop-var in
-    let vs = c.args.vars.now in
-    let e = ap accumulators_of (next-entry vs l.var-index c.var-item.result c.loop-var-test.true c.var-item.is) in
-    (subst VarsKinds e l.invariant.kinds).0
-
-pub emit_var-requires-clause-fits : goal.emit_var-requires-clause-fits
-emit_var-requires-clause-fits c =
-    let l = c.loop-var in
-    let vs = c.args.vars.now in
-    let e = ap accumulators_of (next-entry vs l.var-index c.var-item.result c.loop-var-test.true c.var-item.is) in
-    omega (arith, ap (vars_size (scope_of l.scope).index) e, l.invariant.item, c.requires.fits)
+pub emit_var-requires : goal.emit_var-requires
+emit_var-requires c = record {
+  assigned = c.requires.assigned;
+  within = omega arith;
+  kind =
+      let l = c.loop-var in
+      let vs = c.args.vars.now in
+      let e = ap accumulators_of (next-entry vs l.var-index c.var-item.result c.loop-var-test.true c.var-item.is) in
+      (subst VarsKinds e l.invariant.kinds).0;
+  fits =
+      let l = c.loop-var in
+      let vs = c.args.vars.now in
+      let e = ap accumulators_of (next-entry vs l.var-index c.var-item.result c.loop-var-test.true c.var-item.is) in
+      omega (arith, ap (vars_size (scope_of l.scope).index) e, l.invariant.item, c.requires.fits);
+}
 
 pub returns : goal.returns
 returns c =

@@ -12,17 +12,6 @@ use Rattle.scalar_emit.proofs.StatementCode.{let_is, one_more}
 use Rattle.scalar_emit.proofs.Errors.{on_error, on_any}
 use Rattle.scalar_emit.proofs.statements.emit_let.Goals as goal
 
-pub returns-clause-emits : goal.returns-clause-emits
-returns-clause-emits c =
-    on_ok_weaker c.define.result (λ _. record {
-      labels = c.in_ok-emit_kept.ensures.labels ∙ c.in_ok-from.ensures.emits.labels;
-      code = λ rest. c.in_ok-emit_kept.ensures.code rest
-          ∙ c.in_ok-from.ensures.emits.code _
-          ∙ ap (λ (l : List DraftEntry). c.args.draft.now.entries ++ l)
-          (let_is c.args.places.now (homes_of c.args.homes.now.items) (homes_of c.deref.result.now) (scope_of c.args.scope.now) c.args.item.now c.args.draft.now.labels c.emit_value.new.item c.in_ok-from.from.number (name_of c.args.name.now) c.args.ty c.first-want.result (term_of c.args.value.now) rest
-          (ap homes_of c.deref.ensures.value) (c.first-want.ensures ∙ ap (first c.args.ty) c.own_type.ensures) c.in_ok-from.ensures.item c.in_ok-from.ensures.register);
-    }) c.define.ensures
-
 pub returns-in_err-from : goal.returns-in_err-from
 returns-in_err-from c =
     let failed = c.from_residual.ensures.0 in
@@ -38,20 +27,27 @@ returns-in_err-declare_let c =
     let failed = c.from_residual-in_err-declare_let.ensures.0 in
     record { scope = on_error _ _ failed; homes = on_error _ _ failed; item = on_error _ _ failed; emits = on_error _ _ failed }
 
-pub emit_value-requires-clause-kind : goal.emit_value-requires-clause-kind
-emit_value-requires-clause-kind c = c.requires.kind
-
-pub emit_value-requires-clause-fits : goal.emit_value-requires-clause-fits
-emit_value-requires-clause-fits c = omega (arith, c.requires.fits)
+pub emit_value-requires : goal.emit_value-requires
+emit_value-requires c = record {
+  kind = c.requires.kind;
+  fits = omega (arith, c.requires.fits);
+}
 
 pub overflow_add-item : goal.overflow_add-item
 overflow_add-item c = omega (arith, c.requires.fits, c.in_ok-from.ensures.item)
 
-pub returns-clause-scope : goal.returns-clause-scope
-returns-clause-scope c = IfOk-equal c.define.result _ _ _ c.define.ensures (ap (defined (scope_of c.args.scope.now) (name_of c.args.name.now)) (c.first-want.ensures ∙ ap (first c.args.ty) c.own_type.ensures))
-
-pub returns-clause-homes : goal.returns-clause-homes
-returns-clause-homes c = on_any c.define.result (c.in_ok-declare_let.ensures ∙ ap₂ (λ (q : ℕ) (t : Option Ty). defined_homes c.args.places.now q (homes_of c.args.homes.now.items) (name_of c.args.name.now) t) c.in_ok-from.ensures.item (c.first-want.ensures ∙ ap (first c.args.ty) c.own_type.ensures))
-
-pub returns-clause-item : goal.returns-clause-item
-returns-clause-item c = on_any c.define.result (one_more c.args.item.now (term_size (scope_of c.args.scope.now).index (term_of c.args.value.now)) c.emit_value.new.item c.in_ok-from.ensures.item)
+pub returns : goal.returns
+returns c = record {
+  emits =
+      on_ok_weaker c.define.result (λ _. record {
+        labels = c.in_ok-emit_kept.ensures.labels ∙ c.in_ok-from.ensures.emits.labels;
+        code = λ rest. c.in_ok-emit_kept.ensures.code rest
+            ∙ c.in_ok-from.ensures.emits.code _
+            ∙ ap (λ (l : List DraftEntry). c.args.draft.now.entries ++ l)
+            (let_is c.args.places.now (homes_of c.args.homes.now.items) (homes_of c.deref.result.now) (scope_of c.args.scope.now) c.args.item.now c.args.draft.now.labels c.emit_value.new.item c.in_ok-from.from.number (name_of c.args.name.now) c.args.ty c.first-want.result (term_of c.args.value.now) rest
+            (ap homes_of c.deref.ensures.value) (c.first-want.ensures ∙ ap (first c.args.ty) c.own_type.ensures) c.in_ok-from.ensures.item c.in_ok-from.ensures.register);
+      }) c.define.ensures;
+  scope = IfOk-equal c.define.result _ _ _ c.define.ensures (ap (defined (scope_of c.args.scope.now) (name_of c.args.name.now)) (c.first-want.ensures ∙ ap (first c.args.ty) c.own_type.ensures));
+  homes = on_any c.define.result (c.in_ok-declare_let.ensures ∙ ap₂ (λ (q : ℕ) (t : Option Ty). defined_homes c.args.places.now q (homes_of c.args.homes.now.items) (name_of c.args.name.now) t) c.in_ok-from.ensures.item (c.first-want.ensures ∙ ap (first c.args.ty) c.own_type.ensures));
+  item = on_any c.define.result (one_more c.args.item.now (term_size (scope_of c.args.scope.now).index (term_of c.args.value.now)) c.emit_value.new.item c.in_ok-from.ensures.item);
+}

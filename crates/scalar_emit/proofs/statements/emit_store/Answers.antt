@@ -14,45 +14,45 @@ returns-in_err-from c =
     let failed = c.from_residual.ensures.0 in
     record { item = on_error _ _ failed; emits = on_error _ _ failed }
 
-pub emit_stored-requires-clause-kind : goal.emit_stored-requires-clause-kind
-emit_stored-requires-clause-kind c = c.requires.kind
-
-pub emit_stored-requires-clause-fits : goal.emit_stored-requires-clause-fits
-emit_stored-requires-clause-fits c = omega (arith, c.requires.fits)
+pub emit_stored-requires : goal.emit_stored-requires
+emit_stored-requires c = record {
+  kind = c.requires.kind;
+  fits = omega (arith, c.requires.fits);
+}
 
 pub overflow_add-item : goal.overflow_add-item
 overflow_add-item c = omega (arith, c.requires.fits, c.in_ok-from.ensures.item)
 
-pub returns-in-Some-clause-item : goal.returns-in-Some-clause-item
-returns-in-Some-clause-item c = on_any c.emit_into.result (one_more c.args.item.now (term_size (scope_of c.args.scope.now).index (term_of c.args.value.now)) c.emit_stored.new.item c.in_ok-from.ensures.item)
+pub returns-in-Some : goal.returns-in-Some
+returns-in-Some c = record {
+  item = on_any c.emit_into.result (one_more c.args.item.now (term_size (scope_of c.args.scope.now).index (term_of c.args.value.now)) c.emit_stored.new.item c.in_ok-from.ensures.item);
+  emits =
+      let s = scope_of c.args.scope.now in
+      let hs = homes_of c.args.homes.now in
+      let stored = c.in_ok-from.ensures in
+      on_ok_weaker c.emit_into.result (λ p. record {
+        labels = p.labels ∙ stored.emits.labels;
+        code = λ rest. p.code rest
+            ∙ stored.emits.code _
+            ∙ ap (λ (l : List DraftEntry). c.args.draft.now.entries ++ l)
+            (placed_store c.args.places.now hs s c.args.item.now c.args.draft.now.labels (name_of c.args.array.now) (term_of c.args.index.now) (term_of c.args.value.now) c.array_type-ty.result c.extent_at-extent.result c.in_ok-from.from.number c.in-Some.place.number c.index.result.number rest
+            c.array_type-ty.ensures c.extent_at-extent.ensures stored.register c.in-Some.ensures c.index.ensures);
+      }) c.emit_into.ensures;
+}
 
-pub returns-in-None-clause-item : goal.returns-in-None-clause-item
-returns-in-None-clause-item c = on_any c.emit_put.result (one_more c.args.item.now (term_size (scope_of c.args.scope.now).index (term_of c.args.value.now)) c.emit_stored.new.item c.in_ok-from.ensures.item)
-
-pub returns-in-Some-clause-emits : goal.returns-in-Some-clause-emits
-returns-in-Some-clause-emits c =
-    let s = scope_of c.args.scope.now in
-    let hs = homes_of c.args.homes.now in
-    let stored = c.in_ok-from.ensures in
-    on_ok_weaker c.emit_into.result (λ p. record {
-      labels = p.labels ∙ stored.emits.labels;
-      code = λ rest. p.code rest
-          ∙ stored.emits.code _
-          ∙ ap (λ (l : List DraftEntry). c.args.draft.now.entries ++ l)
-          (placed_store c.args.places.now hs s c.args.item.now c.args.draft.now.labels (name_of c.args.array.now) (term_of c.args.index.now) (term_of c.args.value.now) c.array_type-ty.result c.extent_at-extent.result c.in_ok-from.from.number c.in-Some.place.number c.index.result.number rest
-          c.array_type-ty.ensures c.extent_at-extent.ensures stored.register c.in-Some.ensures c.index.ensures);
-    }) c.emit_into.ensures
-
-pub returns-in-None-clause-emits : goal.returns-in-None-clause-emits
-returns-in-None-clause-emits c =
-    let s = scope_of c.args.scope.now in
-    let hs = homes_of c.args.homes.now in
-    let stored = c.in_ok-from.ensures in
-    on_ok_weaker c.emit_put.result (λ p. record {
-      labels = p.labels ∙ stored.emits.labels;
-      code = λ rest. p.code rest
-          ∙ stored.emits.code _
-          ∙ ap (λ (l : List DraftEntry). c.args.draft.now.entries ++ l)
-          (computed_store c.args.places.now hs s c.args.item.now c.args.draft.now.labels (name_of c.args.array.now) (term_of c.args.index.now) (term_of c.args.value.now) c.array_type-ty.result c.extent_at-extent.result c.in_ok-from.from.number c.register_at.result.number rest
-          c.array_type-ty.ensures c.extent_at-extent.ensures stored.register c.in-None.ensures c.register_at.ensures);
-    }) c.emit_put.ensures
+pub returns-in-None : goal.returns-in-None
+returns-in-None c = record {
+  item = on_any c.emit_put.result (one_more c.args.item.now (term_size (scope_of c.args.scope.now).index (term_of c.args.value.now)) c.emit_stored.new.item c.in_ok-from.ensures.item);
+  emits =
+      let s = scope_of c.args.scope.now in
+      let hs = homes_of c.args.homes.now in
+      let stored = c.in_ok-from.ensures in
+      on_ok_weaker c.emit_put.result (λ p. record {
+        labels = p.labels ∙ stored.emits.labels;
+        code = λ rest. p.code rest
+            ∙ stored.emits.code _
+            ∙ ap (λ (l : List DraftEntry). c.args.draft.now.entries ++ l)
+            (computed_store c.args.places.now hs s c.args.item.now c.args.draft.now.labels (name_of c.args.array.now) (term_of c.args.index.now) (term_of c.args.value.now) c.array_type-ty.result c.extent_at-extent.result c.in_ok-from.from.number c.register_at.result.number rest
+            c.array_type-ty.ensures c.extent_at-extent.ensures stored.register c.in-None.ensures c.register_at.ensures);
+      }) c.emit_put.ensures;
+}
