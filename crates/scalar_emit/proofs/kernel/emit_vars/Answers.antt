@@ -34,20 +34,16 @@ pub loop-var-init : goal.loop-var-init
 loop-var-init c = record { place = refl; kinds = c.requires.kinds; item = refl; labels = refl; code = λ rest. refl }
 
 pub emit_var-requires : goal.emit_var-requires
-emit_var-requires c = record {
-  assigned = c.requires.assigned;
-  within = omega arith;
-  kind =
-      let l = c.loop-var in
-      let vs = c.args.vars.now in
-      let e = ap accumulators_of (next-entry vs l.var-index c.var-item.result c.loop-var-test.true c.var-item.is) in
-      (subst VarsKinds e l.invariant.kinds).0;
-  fits =
-      let l = c.loop-var in
-      let vs = c.args.vars.now in
-      let e = ap accumulators_of (next-entry vs l.var-index c.var-item.result c.loop-var-test.true c.var-item.is) in
-      omega (arith, ap (vars_size (scope_of l.scope).index) e, l.invariant.item, c.requires.fits);
-}
+emit_var-requires c =
+    let l = c.loop-var in
+    let vs = c.args.vars.now in
+    let e = ap accumulators_of (next-entry vs l.var-index c.var-item.result c.loop-var-test.true c.var-item.is) in
+    record {
+      assigned = c.requires.assigned;
+      within = omega arith;
+      kind = (subst VarsKinds e l.invariant.kinds).0;
+      fits = omega (arith, ap (vars_size (scope_of l.scope).index) e, l.invariant.item, c.requires.fits);
+    }
 
 pub returns : goal.returns
 returns c =

@@ -190,27 +190,19 @@ pub emit_block-loop-stmt-smaller : goal.emit_block-loop-stmt-smaller
 emit_block-loop-stmt-smaller t c = omega arith
 
 pub emit_block-returns : goal.emit_block-returns
-emit_block-returns t c = record {
-  scope =
-      let l = c.loop-stmt in
-      let end = no_statement c.args.block.now l.stmt-index c.loop-stmt-test.false in
-      sym (ap (after_block (scope_of l.scope)) end) ∙ l.invariant.scope;
-  homes =
-      let l = c.loop-stmt in
-      let end = no_statement c.args.block.now l.stmt-index c.loop-stmt-test.false in
-      sym (ap (block_homes c.args.places.now (homes_of l.homes.items) (scope_of l.scope) l.item) end) ∙ l.invariant.homes;
-  item =
-      let l = c.loop-stmt in
-      let end = no_statement c.args.block.now l.stmt-index c.loop-stmt-test.false in
-      items_end (scope_of l.scope).index (block_of (drop l.stmt-index c.args.block.now)) l.item _ end l.invariant.item;
-  emits =
-      let l = c.loop-stmt in
-      let end = no_statement c.args.block.now l.stmt-index c.loop-stmt-test.false in
-      record {
-        labels = labels_end (scope_of l.scope).index (block_of (drop l.stmt-index c.args.block.now)) l.draft.labels _ end l.invariant.labels;
-        code = λ rest. ap (λ (b : Block). l.draft.entries ++ block_code c.args.places.now (homes_of l.homes.items) (scope_of l.scope) c.args.exit l.item l.draft.labels b rest) (sym end) ∙ l.invariant.code rest;
-      };
-}
+emit_block-returns t c =
+    let l = c.loop-stmt in
+    let end = no_statement c.args.block.now l.stmt-index c.loop-stmt-test.false in
+    record {
+      scope = sym (ap (after_block (scope_of l.scope)) end) ∙ l.invariant.scope;
+      homes = sym (ap (block_homes c.args.places.now (homes_of l.homes.items) (scope_of l.scope) l.item) end) ∙ l.invariant.homes;
+      item = items_end (scope_of l.scope).index (block_of (drop l.stmt-index c.args.block.now)) l.item _ end l.invariant.item;
+      emits =
+          record {
+            labels = labels_end (scope_of l.scope).index (block_of (drop l.stmt-index c.args.block.now)) l.draft.labels _ end l.invariant.labels;
+            code = λ rest. ap (λ (b : Block). l.draft.entries ++ block_code c.args.places.now (homes_of l.homes.items) (scope_of l.scope) c.args.exit l.item l.draft.labels b rest) (sym end) ∙ l.invariant.code rest;
+          };
+    }
 
 -- ---- a block whose names are visible no more
 
