@@ -1,5 +1,5 @@
 -- The code of statements, put together from that of their parts.
-use Rattle.std.proofs.Common.{◌≡◌, Bool, true, ℕ, ◌+◌, ◌*◌, ◌<◌, ◌≤◌, ◌^◌, false, List, ◌∷◌, length, drop, Some, None, Option, refl, sym, ap, ◌∙◌, arith}
+use Rattle.std.proofs.Common.{◌≡◌, Bool, true, ℕ, ◌+◌, ◌*◌, ◌<◌, ◌≤◌, ◌^◌, false, List, [], ◌∷◌, ◌++◌, length, drop, Some, None, Option, refl, sym, ap, ◌∙◌, arith}
 use Rattle.std.proofs.lemmas.List.{drop_all}
 use Rattle.std.specs.Prelude.{ℤ, max, ◌||◌, option_map, option_and_then}
 use mir.Syntax.{w64}
@@ -14,14 +14,14 @@ use Rattle.kernel_tree.specs.Typing.{Scope, lookup, own, first, element_type, le
 use Rattle.label_fix.specs.Draft.{Drafted}
 use Rattle.label_fix.specs.Emits.{Emits}
 use Rattle.label_fix.specs.DraftRun.{DraftEntry, Put as PutWord, Branch, Place, Always}
-use Rattle.scalar_words.specs.Layout.{Layout, Homes, register_at}
+use Rattle.scalar_words.specs.Layout.{Layout, Homes, reg_of, last_use_at, register_at}
 use Rattle.scalar_words.specs.Words.{word_code}
 use Rattle.value_code.specs.declared.extent.Extent.{Extent}
 use Rattle.value_code.specs.Extents.{extent_at, within_type, fits_at, converted_extent}
 use Rattle.value_code.specs.ItemWords.{index_word, index_register, store, store_code}
 use Rattle.value_code.specs.ValueRegisters.{home}
 use Rattle.value_code.specs.Code.{labels, place_of, loose_code, value_code, jump_code}
-use Rattle.loop_code.specs.Statements.{let_code, action_labels, block_labels, is_bare, stored_code, stored_home, put_code, placed_put, action_code, block_code}
+use Rattle.loop_code.specs.Statements.{let_home, let_code, action_labels, block_labels, is_bare, stored_code, stored_home, put_code, placed_put, action_code, block_code}
 
 -- the code of a statement that has been taken apart
 pub emits_as : (L : Layout) (hs hs1 : Homes) (s : Scope) (exit b : ℕ) (d d2 : Drafted) (a a2 : Action) → hs1 ≡ hs → a ≡ a2 → Emits d d2 (d.labels + action_labels s.index a) (action_code L hs1 s exit b d.labels a) → Emits d d2 (d.labels + action_labels s.index a2) (action_code L hs s exit b d.labels a2)
@@ -204,3 +204,8 @@ cast_items i e x t b item is f = omega (arith, ap (term_size i) is)
 
 pub into_is : (o : Option Ty) (t : Ty) (w : Listed) (from p r : ℕ) (rest : List DraftEntry) → o ≡ Some t → w ≡ store t from p r → PutWord w ∷ rest ≡ store_code o from p r rest
 into_is o t w from p r rest is e = rw (is, e) refl
+
+-- ---- the home of a `let`
+
+pub let_pushed : (L : Layout) (hs : Homes) (q : ℕ) (x y : List ℕ) (r last : ℕ) → y ≡ x → r ≡ reg_of L q → last ≡ last_use_at L q → hs ++ record { name = y; register = r; last_use = Some last } ∷ [] ≡ hs ++ let_home L q x ∷ []
+let_pushed L hs q x y r last e f g = rw (e, f, g) refl
