@@ -30,7 +30,10 @@ vars_room k s first vs e f g h =
 pub vars_fit : (k : Program) (vs : List Accumulator) → vs ≡ k.vars → size_of k ≤ 1000 → vars_size (loop_index k) vs < 2 ^ 32
 vars_fit k vs e h = omega (arith, ap (vars_size (loop_index k)) e, h)
 
--- the end of the accumulators
+-- the end of the parameters, and of the accumulators
+pub no_param : (ps : List Param) (i : ℕ) → length ps ≤ i → parameters_of (drop i ps) ≡ []
+no_param ps i h = ap parameters_of (drop_all i ps h)
+
 pub no_var : (vs : List Var) (i : ℕ) → length vs ≤ i → accumulators_of (drop i vs) ≡ []
 no_var vs i h = ap accumulators_of (drop_all i vs h)
 
