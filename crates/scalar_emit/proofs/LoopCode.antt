@@ -1,9 +1,11 @@
 -- The code of a loop and of what stands before it, put together from that of its parts.
-use Rattle.std.proofs.Common.{◌≡◌, ℕ, ◌+◌, List, [], ◌∷◌, ◌++◌, Option, Some, refl, arith}
+use Rattle.std.proofs.Common.{◌≡◌, ℕ, ◌+◌, ◌<◌, ◌^◌, List, [], ◌∷◌, ◌++◌, Option, Some, refl, ap, arith}
+use mir.Syntax.{w64}
+use mir.Val.{Fits}
 use Rattle.machine_model.specs.InstructionTable.{Listed}
 use Rattle.a64_code.specs.Table.{subs, add_imm}
-use Rattle.kernel_tree.specs.Plain.{Accumulator, PlainLoop}
-use Rattle.kernel_tree.specs.Items.{term_size, vars_size}
+use Rattle.kernel_tree.specs.Plain.{Accumulator, PlainLoop, Block}
+use Rattle.kernel_tree.specs.Items.{term_size, block_size, vars_size}
 use Rattle.kernel_tree.specs.Typing.{Scope, after_for_loop}
 use Rattle.kernel_scope.specs.Scopes.{after_var}
 use Rattle.label_fix.specs.DraftRun.{DraftEntry, Put, Branch, Place, If, word_of}
@@ -40,6 +42,9 @@ entry_is r n x top hs L ls cs w rest e e1 e2 e3 e4 = rw (e, e1, e2, e3, e4) refl
 pub entry_top : (n a b c d e : ℕ) → a ≡ n + 1 → b ≡ a → c ≡ b + 1 → d ≡ c → e ≡ d → e ≡ n + 2
 entry_top n a b c d e p q r s t = omega arith
 
+pub entry_last : (n e f : ℕ) → e ≡ n + 2 → f ≡ e + 1 → f ≡ n + 3
+entry_last n e f p q = omega arith
+
 pub entry_count : (n e f g : ℕ) → e ≡ n + 2 → f ≡ e + 1 → g ≡ f + 1 → g ≡ n + 4
 entry_count n e f g p q r = omega arith
 
@@ -50,3 +55,32 @@ again_is f f2 r n last exit hs ls ls2 w rest e1 e2 e3 e4 e5 = rw (e1, e2, e3, e4
 pub loop_is : (L : Layout) (hs hs1 hs2 hs3 hs4 : Homes) (s s2 : Scope) (l : PlainLoop) (b n r last given head : ℕ) (rest : List DraftEntry) → r ≡ register_at hs1 l.bound → hs1 ≡ hs → hs2 ≡ with_index hs l → hs3 ≡ with_index hs l → hs4 ≡ with_index hs l → s2 ≡ after_for_loop s (Some l) → last ≡ n + 3 → given ≡ n + 4 → head ≡ n
     → entry_code r n hs2 L (block_code L hs3 (inside_of s2) last (b + 1) given l.body (again_code (loose_in L.loose l.index) r head hs4 L.loose rest)) ≡ iterations_code L hs s l b n rest
 loop_is L hs hs1 hs2 hs3 hs4 s s2 l b n r last given head rest e1 h1 h2 h3 h4 t e2 e3 e4 = rw (e1, h1, h2, h3, h4, t, e2, e3, e4) refl
+
+pub loop_items : (s s2 : Scope) (blk : Block) (b item : ℕ) → s2.index ≡ s.index → item ≡ b + 1 + block_size s2.index blk → item ≡ b + (1 + block_size s.index blk)
+loop_items s s2 blk b item e f =
+    let i = ap (λ j. block_size j blk) e in
+    omega arith
+
+pub loop_more : (b p : ℕ) → b + (1 + p) < 2 ^ 32 → Fits w64 (b + 1)
+loop_more b p h = omega arith
+
+pub inside_room : (s s2 : Scope) (blk : Block) (b : ℕ) → s2.index ≡ s.index → b + (1 + block_size s.index blk) < 2 ^ 32 → b + 1 + block_size s2.index blk < 2 ^ 32
+inside_room s s2 blk b e h =
+    let i = ap (λ j. block_size j blk) e in
+    omega arith
+
+-- the labels of a loop are given before they are placed
+pub last_given : (last n m : ℕ) → last ≡ n + 3 → m ≡ n + 4 → last < m
+last_given last n m e f = omega arith
+
+pub last_placed : (last n m k p : ℕ) → last ≡ n + 3 → m ≡ n + 4 → k ≡ m + p → last < k
+last_placed last n m k p e f g = omega arith
+
+pub top_given : (top last head n m : ℕ) → top ≡ head + 2 → last ≡ head + 3 → last < n → m ≡ n → top < m
+top_given top last head n m e f h g = omega arith
+
+pub later : (last n a b : ℕ) → last < n → a ≡ n → b ≡ a → last < b
+later last n a b h e f = omega arith
+
+pub exit_placed : (exit last head n a b c d : ℕ) → exit ≡ head + 1 → last ≡ head + 3 → last < n → a ≡ n → b ≡ a → c ≡ b → d ≡ c → exit < d
+exit_placed exit last head n a b c d e f h p q r s = omega arith

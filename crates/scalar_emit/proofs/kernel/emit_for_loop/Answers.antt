@@ -1,4 +1,5 @@
-use Rattle.std.proofs.Common.{◌++◌, List, sym, ap, ◌∙◌, subst}
+use Rattle.std.proofs.Common.{◌++◌, List, sym, ap, ◌∙◌, subst, refl, ◌≤◌}
+use Rattle.std.proofs.lemmas.Result.{IfOk-from_err}
 use Rattle.kernel_tree.specs.Plain.{for_loop_of, program_of}
 use Rattle.kernel_tree.specs.Kinds.{ForLoopKinds}
 use Rattle.kernel_tree.specs.Typing.{Scope}
@@ -10,46 +11,85 @@ use Rattle.scalar_words.proofs.Layouts.{count_params}
 use Rattle.scalar_words.specs.View.{homes_of}
 use Rattle.loop_code.specs.Loop.{bare}
 use Rattle.loop_code.proofs.Emission.{known_index, numbers_are, for_loop_is, for_loop_count, held_is, loop_ends, loop_room, answer_room, at_end}
+use Rattle.scalar_emit.proofs.Errors.{on_error}
+use Rattle.scalar_emit.proofs.KernelCalls.{few_given}
 use Rattle.scalar_emit.proofs.kernel.emit_for_loop.Goals as goal
 
-pub emit_loop-requires-clause-kinds : goal.emit_loop-requires-clause-kinds
-emit_loop-requires-clause-kinds c = subst ForLoopKinds c.requires.for_loop c.requires.kinds.for_loop
+pub emit_loop-requires : goal.emit_loop-requires
+emit_loop-requires c = record {
+  kinds = subst ForLoopKinds c.requires.for_loop c.requires.kinds.for_loop;
+  fits =
+      loop_room (program_of c.args.kernel.now) (for_loop_of c.args.for_loop.now) (scope_of c.loosen_names.new.scope) c.args.item c.requires.few (c.in_ok-loosen_names.ensures.scope ∙ c.requires.scope) c.requires.for_loop c.requires.start;
+}
 
-pub emit_loop-requires-clause-fits : goal.emit_loop-requires-clause-fits
-emit_loop-requires-clause-fits c =
-    loop_room (program_of c.args.kernel.now) (for_loop_of c.args.for_loop.now) (scope_of c.loosen_names.new.scope) c.args.item c.requires.few (c.in_ok-loosen_names.ensures.scope ∙ c.requires.scope) c.requires.for_loop c.requires.start
+pub emit_answer-requires : goal.emit_answer-requires
+emit_answer-requires c = record {
+  kind = c.requires.kinds.answer;
+  fits =
+      let k = program_of c.args.kernel.now in
+      let l = for_loop_of c.args.for_loop.now in
+      let scope = c.in_ok-loosen_names.ensures.scope ∙ c.requires.scope in
+      let end = loop_ends k l (scope_of c.loosen_names.new.scope) c.args.item c.emit_loop.new.item scope c.requires.for_loop c.requires.start c.in_ok-at_iteration.ensures.item in
+      answer_room k (scope_of c.emit_loop.new.scope) c.emit_loop.new.item c.requires.few (ap (λ (t : Scope). t.index) c.in_ok-at_iteration.ensures.scope ∙ known_index k _ scope) (at_end k c.emit_loop.new.item end);
+}
 
-pub emit_answer-requires-clause-kind : goal.emit_answer-requires-clause-kind
-emit_answer-requires-clause-kind c = c.requires.kinds.answer
+pub returns-in_err-hold_numbers : goal.returns-in_err-hold_numbers
+returns-in_err-hold_numbers c =
+    let failed = c.from_residual.ensures.0 in
+    record { entry = IfOk-from_err _ _ failed; emits = on_error _ _ failed }
 
-pub emit_answer-requires-clause-fits : goal.emit_answer-requires-clause-fits
-emit_answer-requires-clause-fits c =
-    let k = program_of c.args.kernel.now in
-    let l = for_loop_of c.args.for_loop.now in
-    let scope = c.in_ok-loosen_names.ensures.scope ∙ c.requires.scope in
-    let end = loop_ends k l (scope_of c.loosen_names.new.scope) c.args.item c.emit_loop.new.item scope c.requires.for_loop c.requires.start c.in_ok-at_iteration.ensures.item in
-    answer_room k (scope_of c.emit_loop.new.scope) c.emit_loop.new.item c.requires.few (ap (λ (t : Scope). t.index) c.in_ok-at_iteration.ensures.scope ∙ known_index k _ scope) (at_end k c.emit_loop.new.item end)
+pub returns-in_err-loosen_names : goal.returns-in_err-loosen_names
+returns-in_err-loosen_names c =
+    let failed = c.from_residual-in_err-loosen_names.ensures.0 in
+    record { entry = IfOk-from_err _ _ failed; emits = on_error _ _ failed }
 
-pub returns-clause-emits : goal.returns-clause-emits
-returns-clause-emits c =
-    let k = program_of c.args.kernel.now in
-    let R = register_in c.args.regs.now in
-    let l = for_loop_of c.args.for_loop.now in
-    let s = scope_of c.loosen_names.new.scope in
-    let t = scope_of c.emit_loop.new.scope in
-    let scope = c.in_ok-loosen_names.ensures.scope ∙ c.requires.scope in
-    let homes = ap homes_of c.deref-2.ensures.value ∙ c.in_ok-at_iteration.ensures.homes in
-    let tree = c.args.kernel.now in
-    let params = c.len-params.ensures ∙ tree.params.ok.0 ∙ sym (count_params tree.params.items) in
-    let numbers = c.in_ok-hold_numbers.ensures ∙ ap (with_constants c.args.places.now) (numbers_are R k l c.len-params.result (homes_of c.deref.result.now) (scope_of c.args.scope.now) params (ap homes_of c.deref.ensures.value ∙ c.requires.homes) c.requires.scope c.requires.for_loop) in
-    let held = held_is R k c.loosen_names.new.places c.hold_numbers.new.places c.args.places.now c.in_ok-loosen_names.ensures.places numbers c.requires.places in
-    let left = c.in_ok-leave_loop.ensures ∙ ap bare held in
-    let end = loop_ends k l s c.args.item c.emit_loop.new.item scope c.requires.for_loop c.requires.start c.in_ok-at_iteration.ensures.item in
-    record {
-      labels = for_loop_count k l s t c.args.draft.now.labels c.emit_loop.new.draft.labels c.emit_answer.new.draft.labels scope c.in_ok-at_iteration.ensures.scope c.requires.for_loop c.in_ok-at_iteration.ensures.emits.labels c.in_ok-emit_answer.ensures.labels;
-      code = λ rest. c.in_ok-emit_answer.ensures.code rest
-          ∙ c.in_ok-at_iteration.ensures.emits.code _
-          ∙ ap (λ (es : List DraftEntry). c.args.draft.now.entries ++ es)
-          (for_loop_is R k c.loosen_names.new.places c.leave_loop.new.places (homes_of c.args.homes.now.items) (homes_of c.deref-2.result.now) s t l c.args.item c.args.draft.now.labels c.emit_loop.new.item c.emit_loop.new.draft.labels rest
-          held left c.requires.homes scope homes c.in_ok-at_iteration.ensures.scope c.requires.for_loop c.requires.start end c.in_ok-at_iteration.ensures.emits.labels);
-    }
+pub returns-in_err-at_iteration : goal.returns-in_err-at_iteration
+returns-in_err-at_iteration c =
+    let failed = c.from_residual-in_err-at_iteration.ensures.0 in
+    record { entry = IfOk-from_err _ _ failed; emits = on_error _ _ failed }
+
+pub returns-in_err-leave_loop : goal.returns-in_err-leave_loop
+returns-in_err-leave_loop c =
+    let failed = c.from_residual-in_err-leave_loop.ensures.0 in
+    record { entry = IfOk-from_err _ _ failed; emits = on_error _ _ failed }
+
+pub returns-in_err-emit_answer : goal.returns-in_err-emit_answer
+returns-in_err-emit_answer c =
+    let failed = c.from_residual-in_err-emit_answer.ensures.0 in
+    record { entry = IfOk-from_err _ _ failed; emits = on_error _ _ failed }
+
+pub returns : goal.returns
+returns c = record {
+  emits =
+      let k = program_of c.args.kernel.now in
+      let R = register_in c.args.regs.now in
+      let l = for_loop_of c.args.for_loop.now in
+      let s = scope_of c.loosen_names.new.scope in
+      let t = scope_of c.emit_loop.new.scope in
+      let scope = c.in_ok-loosen_names.ensures.scope ∙ c.requires.scope in
+      let homes = ap homes_of c.deref-2.ensures.value ∙ c.in_ok-at_iteration.ensures.homes in
+      let tree = c.args.kernel.now in
+      let params = c.len-params.ensures ∙ tree.params.ok.0 ∙ sym (count_params tree.params.items) in
+      let numbers = c.in_ok-hold_numbers.ensures ∙ ap (with_constants c.args.places.now) (numbers_are R k l c.len-params.result (homes_of c.deref.result.now) (scope_of c.args.scope.now) params (ap homes_of c.deref.ensures.value ∙ c.requires.homes) c.requires.scope c.requires.for_loop) in
+      let held = held_is R k c.loosen_names.new.places c.hold_numbers.new.places c.args.places.now c.in_ok-loosen_names.ensures.places numbers c.requires.places in
+      let left = c.in_ok-leave_loop.ensures ∙ ap bare held in
+      let end = loop_ends k l s c.args.item c.emit_loop.new.item scope c.requires.for_loop c.requires.start c.in_ok-at_iteration.ensures.item in
+      record {
+        labels = for_loop_count k l s t c.args.draft.now.labels c.emit_loop.new.draft.labels c.emit_answer.new.draft.labels scope c.in_ok-at_iteration.ensures.scope c.requires.for_loop c.in_ok-at_iteration.ensures.emits.labels c.in_ok-emit_answer.ensures.labels;
+        code = λ rest. c.in_ok-emit_answer.ensures.code rest
+            ∙ c.in_ok-at_iteration.ensures.emits.code _
+            ∙ ap (λ (es : List DraftEntry). c.args.draft.now.entries ++ es)
+            (for_loop_is R k c.loosen_names.new.places c.leave_loop.new.places (homes_of c.args.homes.now.items) (homes_of c.deref-2.result.now) s t l c.args.item c.args.draft.now.labels c.emit_loop.new.item c.emit_loop.new.draft.labels rest
+            held left c.requires.homes scope homes c.in_ok-at_iteration.ensures.scope c.requires.for_loop c.requires.start end c.in_ok-at_iteration.ensures.emits.labels);
+      };
+  entry = c.in_ok-at_iteration.ensures.head;
+}
+
+pub hold_numbers-requires : goal.hold_numbers-requires
+hold_numbers-requires c = subst (λ n. n ≤ 8) (sym (c.len-params.ensures ∙ c.args.kernel.now.params.ok.0)) (few_given (program_of c.args.kernel.now) c.args.kernel.now.params.items refl c.requires.params)
+
+pub loosen_names-requires : goal.loosen_names-requires
+loosen_names-requires c = record {
+  for_loop = c.requires.for_loop;
+  scope = c.requires.scope;
+}

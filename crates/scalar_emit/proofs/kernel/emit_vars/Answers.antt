@@ -1,11 +1,15 @@
-use Rattle.std.proofs.Common.{◌+◌, subst, ap, ◌∙◌, drop}
-use Rattle.kernel_tree.specs.Plain.{accumulator_of, accumulators_of}
+use Rattle.std.proofs.Common.{◌+◌, subst, ap, ◌∙◌, drop, List, ◌++◌, refl, sym, arith}
+use Rattle.kernel_tree.specs.Plain.{accumulator_of, accumulators_of, Accumulator}
 use Rattle.kernel_tree.specs.Kinds.{VarsKinds}
+use Rattle.kernel_tree.specs.Items.{vars_size}
 use Rattle.kernel_scope.specs.Scopes.{scope_of}
 use Rattle.loop_form.proofs.LoopLists.{next-entry}
 use Rattle.scalar_words.specs.KernelRegisters.{register_in}
 use Rattle.scalar_words.specs.View.{homes_of}
+use Rattle.loop_code.specs.Kernel.{vars_labels, vars_code}
 use Rattle.scalar_emit.proofs.LoopCode.{vars_on}
+use Rattle.scalar_emit.proofs.Errors.{on_error}
+use Rattle.scalar_emit.proofs.KernelCalls.{no_var}
 use Rattle.scalar_emit.proofs.kernel.emit_vars.Goals as goal
 
 pub loop-var-preserved : goal.loop-var-preserved
@@ -22,3 +26,37 @@ loop-var-preserved c =
       labels = step.labels ∙ l.invariant.labels;
       code = λ rest. step.code rest ∙ l.invariant.code rest;
     }
+
+pub returns-in_err-emit_var : goal.returns-in_err-emit_var
+returns-in_err-emit_var c = on_error _ _ c.from_residual.ensures.0
+
+pub loop-var-init : goal.loop-var-init
+loop-var-init c = record { place = refl; kinds = c.requires.kinds; item = refl; labels = refl; code = λ rest. refl }
+
+pub emit_var-requires : goal.emit_var-requires
+emit_var-requires c =
+    let l = c.loop-var in
+    let vs = c.args.vars.now in
+    let e = ap accumulators_of (next-entry vs l.var-index c.var-item.result c.loop-var-test.true c.var-item.is) in
+    record {
+      assigned = c.requires.assigned;
+      within = omega arith;
+      kind = (subst VarsKinds e l.invariant.kinds).0;
+      fits = omega (arith, ap (vars_size (scope_of l.scope).index) e, l.invariant.item, c.requires.fits);
+    }
+
+pub returns : goal.returns
+returns c =
+    let l = c.loop-var in
+    let s = scope_of l.scope in
+    let end = no_var c.args.vars.now l.var-index c.loop-var-test.false in
+    record {
+      labels = omega (arith, ap (vars_labels s.index) end, l.invariant.labels);
+      code = λ rest. ap (λ (vs : List Accumulator). l.draft.entries ++ vars_code c.args.places.now (register_in c.args.regs.now) (homes_of l.homes.items) s l.place l.next l.draft.labels vs rest) (sym end) ∙ l.invariant.code rest;
+    }
+
+pub offset_bounds-vars-var-index : goal.offset_bounds-vars-var-index
+offset_bounds-vars-var-index c = omega arith
+
+pub overflow_add-place : goal.overflow_add-place
+overflow_add-place c = omega arith

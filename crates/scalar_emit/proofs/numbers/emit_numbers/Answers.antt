@@ -1,6 +1,6 @@
 use Rattle.std.proofs.Common.{◌+◌, List, ◌++◌, drop, ap, ◌∙◌}
-use Rattle.label_fix.specs.DraftRun.{DraftEntry}
 use Rattle.loop_form.proofs.LoopLists.{next-entry}
+use Rattle.label_fix.specs.DraftRun.{DraftEntry}
 use Rattle.scalar_words.specs.View.{constants_of}
 use Rattle.loop_code.specs.Loop.{numbers_code}
 use Rattle.loop_code.proofs.Emission.{number_step}
