@@ -1,3 +1,4 @@
+use Rattle.std.proofs.lemmas.Result.{IfOk-from_err}
 use Rattle.std.proofs.lemmas.Grind.{common_steps}
 use Rattle.std.proofs.Common.{◌≡◌, ℕ, ◌+◌, Bool, List, ◌++◌, refl, sym, ap, subst, ◌∙◌, arith, rules}
 use Rattle.std.specs.Prelude.{if◌then◌else◌}
@@ -485,3 +486,201 @@ pub emit_jump-emit_jump-requires : goal.emit_jump-emit_jump-requires
 emit_jump-emit_jump-requires t c =
     let is : term_of c.args.expr.now ≡ Not (term_of c.deref-in-Not.result.now) = rw (c.in-Not.is, c.deref-in-Not.ensures) refl in
     (omega (arith, ap term_depth is), (c.requires.given, (subst IsTruth is c.requires.kind, omega (arith, ap (term_size (scope_of c.args.scope.now).index) is, c.requires.fits))))
+
+pub emit_both-returns-in_err-over-clause-item : goal.emit_both-returns-in_err-over-clause-item
+emit_both-returns-in_err-over-clause-item t c = IfOk-from_err _ _ c.from_residual.ensures.0
+
+pub emit_both-returns-in_err-over-clause-emits : goal.emit_both-returns-in_err-over-clause-emits
+emit_both-returns-in_err-over-clause-emits t c = IfOk-from_err _ _ c.from_residual.ensures.0
+
+pub emit_both-returns-in_err-emit_jump-clause-item : goal.emit_both-returns-in_err-emit_jump-clause-item
+emit_both-returns-in_err-emit_jump-clause-item t c = IfOk-from_err _ _ c.from_residual-in_err-emit_jump.ensures.0
+
+pub emit_both-returns-in_err-emit_jump-clause-emits : goal.emit_both-returns-in_err-emit_jump-clause-emits
+emit_both-returns-in_err-emit_jump-clause-emits t c = IfOk-from_err _ _ c.from_residual-in_err-emit_jump.ensures.0
+
+pub emit_both-returns-in_err-emit_jump-2-clause-item : goal.emit_both-returns-in_err-emit_jump-2-clause-item
+emit_both-returns-in_err-emit_jump-2-clause-item t c = IfOk-from_err _ _ c.from_residual-in_err-emit_jump-2.ensures.0
+
+pub emit_both-returns-in_err-emit_jump-2-clause-emits : goal.emit_both-returns-in_err-emit_jump-2-clause-emits
+emit_both-returns-in_err-emit_jump-2-clause-emits t c = IfOk-from_err _ _ c.from_residual-in_err-emit_jump-2.ensures.0
+
+pub emit_compared-returns-in_err-a-clause-left : goal.emit_compared-returns-in_err-a-clause-left
+emit_compared-returns-in_err-a-clause-left t c = IfOk-from_err _ _ c.from_residual.ensures.0
+
+pub emit_compared-returns-in_err-a-clause-right : goal.emit_compared-returns-in_err-a-clause-right
+emit_compared-returns-in_err-a-clause-right t c = IfOk-from_err _ _ c.from_residual.ensures.0
+
+pub emit_compared-returns-in_err-a-clause-item : goal.emit_compared-returns-in_err-a-clause-item
+emit_compared-returns-in_err-a-clause-item t c = IfOk-from_err _ _ c.from_residual.ensures.0
+
+pub emit_compared-returns-in_err-a-clause-emits : goal.emit_compared-returns-in_err-a-clause-emits
+emit_compared-returns-in_err-a-clause-emits t c = IfOk-from_err _ _ c.from_residual.ensures.0
+
+pub emit_compared-returns-in_err-b-in-None-clause-left : goal.emit_compared-returns-in_err-b-in-None-clause-left
+emit_compared-returns-in_err-b-in-None-clause-left t c = IfOk-from_err _ _ c.from_residual-in_err-b-in-None.ensures.0
+
+pub emit_compared-returns-in_err-b-in-None-clause-right : goal.emit_compared-returns-in_err-b-in-None-clause-right
+emit_compared-returns-in_err-b-in-None-clause-right t c = IfOk-from_err _ _ c.from_residual-in_err-b-in-None.ensures.0
+
+pub emit_compared-returns-in_err-b-in-None-clause-item : goal.emit_compared-returns-in_err-b-in-None-clause-item
+emit_compared-returns-in_err-b-in-None-clause-item t c = IfOk-from_err _ _ c.from_residual-in_err-b-in-None.ensures.0
+
+pub emit_compared-returns-in_err-b-in-None-clause-emits : goal.emit_compared-returns-in_err-b-in-None-clause-emits
+emit_compared-returns-in_err-b-in-None-clause-emits t c = IfOk-from_err _ _ c.from_residual-in_err-b-in-None.ensures.0
+
+pub emit_either-returns-in_err-over-clause-item : goal.emit_either-returns-in_err-over-clause-item
+emit_either-returns-in_err-over-clause-item t c = IfOk-from_err _ _ c.from_residual.ensures.0
+
+pub emit_either-returns-in_err-over-clause-emits : goal.emit_either-returns-in_err-over-clause-emits
+emit_either-returns-in_err-over-clause-emits t c = IfOk-from_err _ _ c.from_residual.ensures.0
+
+pub emit_either-returns-in_err-emit_jump-clause-item : goal.emit_either-returns-in_err-emit_jump-clause-item
+emit_either-returns-in_err-emit_jump-clause-item t c = IfOk-from_err _ _ c.from_residual-in_err-emit_jump.ensures.0
+
+pub emit_either-returns-in_err-emit_jump-clause-emits : goal.emit_either-returns-in_err-emit_jump-clause-emits
+emit_either-returns-in_err-emit_jump-clause-emits t c = IfOk-from_err _ _ c.from_residual-in_err-emit_jump.ensures.0
+
+pub emit_either-returns-in_err-emit_jump-2-clause-item : goal.emit_either-returns-in_err-emit_jump-2-clause-item
+emit_either-returns-in_err-emit_jump-2-clause-item t c = IfOk-from_err _ _ c.from_residual-in_err-emit_jump-2.ensures.0
+
+pub emit_either-returns-in_err-emit_jump-2-clause-emits : goal.emit_either-returns-in_err-emit_jump-2-clause-emits
+emit_either-returns-in_err-emit_jump-2-clause-emits t c = IfOk-from_err _ _ c.from_residual-in_err-emit_jump-2.ensures.0
+
+pub emit_jump-returns-in_err-a-in-Compare-clause-item : goal.emit_jump-returns-in_err-a-in-Compare-clause-item
+emit_jump-returns-in_err-a-in-Compare-clause-item t c = IfOk-from_err _ _ c.from_residual.ensures.0
+
+pub emit_jump-returns-in_err-a-in-Compare-clause-emits : goal.emit_jump-returns-in_err-a-in-Compare-clause-emits
+emit_jump-returns-in_err-a-in-Compare-clause-emits t c = IfOk-from_err _ _ c.from_residual.ensures.0
+
+pub emit_jump-returns-in_err-emit_jump-in-Not-clause-item : goal.emit_jump-returns-in_err-emit_jump-in-Not-clause-item
+emit_jump-returns-in_err-emit_jump-in-Not-clause-item t c = IfOk-from_err _ _ c.from_residual-in_err-emit_jump-in-Not.ensures.0
+
+pub emit_jump-returns-in_err-emit_jump-in-Not-clause-emits : goal.emit_jump-returns-in_err-emit_jump-in-Not-clause-emits
+emit_jump-returns-in_err-emit_jump-in-Not-clause-emits t c = IfOk-from_err _ _ c.from_residual-in_err-emit_jump-in-Not.ensures.0
+
+pub emit_loose-returns-in_err-a-in-Unary-clause-register : goal.emit_loose-returns-in_err-a-in-Unary-clause-register
+emit_loose-returns-in_err-a-in-Unary-clause-register t c = IfOk-from_err _ _ c.from_residual.ensures.0
+
+pub emit_loose-returns-in_err-a-in-Unary-clause-item : goal.emit_loose-returns-in_err-a-in-Unary-clause-item
+emit_loose-returns-in_err-a-in-Unary-clause-item t c = IfOk-from_err _ _ c.from_residual.ensures.0
+
+pub emit_loose-returns-in_err-a-in-Unary-clause-emits : goal.emit_loose-returns-in_err-a-in-Unary-clause-emits
+emit_loose-returns-in_err-a-in-Unary-clause-emits t c = IfOk-from_err _ _ c.from_residual.ensures.0
+
+pub emit_loose-returns-in_err-a-in-Shift-clause-register : goal.emit_loose-returns-in_err-a-in-Shift-clause-register
+emit_loose-returns-in_err-a-in-Shift-clause-register t c = IfOk-from_err _ _ c.from_residual-in_err-a-in-Shift.ensures.0
+
+pub emit_loose-returns-in_err-a-in-Shift-clause-item : goal.emit_loose-returns-in_err-a-in-Shift-clause-item
+emit_loose-returns-in_err-a-in-Shift-clause-item t c = IfOk-from_err _ _ c.from_residual-in_err-a-in-Shift.ensures.0
+
+pub emit_loose-returns-in_err-a-in-Shift-clause-emits : goal.emit_loose-returns-in_err-a-in-Shift-clause-emits
+emit_loose-returns-in_err-a-in-Shift-clause-emits t c = IfOk-from_err _ _ c.from_residual-in_err-a-in-Shift.ensures.0
+
+pub emit_loose-returns-in_err-a-in-Cast-clause-register : goal.emit_loose-returns-in_err-a-in-Cast-clause-register
+emit_loose-returns-in_err-a-in-Cast-clause-register t c = IfOk-from_err _ _ c.from_residual-in_err-a-in-Cast.ensures.0
+
+pub emit_loose-returns-in_err-a-in-Cast-clause-item : goal.emit_loose-returns-in_err-a-in-Cast-clause-item
+emit_loose-returns-in_err-a-in-Cast-clause-item t c = IfOk-from_err _ _ c.from_residual-in_err-a-in-Cast.ensures.0
+
+pub emit_loose-returns-in_err-a-in-Cast-clause-emits : goal.emit_loose-returns-in_err-a-in-Cast-clause-emits
+emit_loose-returns-in_err-a-in-Cast-clause-emits t c = IfOk-from_err _ _ c.from_residual-in_err-a-in-Cast.ensures.0
+
+pub emit_loose-returns-in_err-a-in-Select-clause-register : goal.emit_loose-returns-in_err-a-in-Select-clause-register
+emit_loose-returns-in_err-a-in-Select-clause-register t c = IfOk-from_err _ _ c.from_residual-in_err-a-in-Select.ensures.0
+
+pub emit_loose-returns-in_err-a-in-Select-clause-item : goal.emit_loose-returns-in_err-a-in-Select-clause-item
+emit_loose-returns-in_err-a-in-Select-clause-item t c = IfOk-from_err _ _ c.from_residual-in_err-a-in-Select.ensures.0
+
+pub emit_loose-returns-in_err-a-in-Select-clause-emits : goal.emit_loose-returns-in_err-a-in-Select-clause-emits
+emit_loose-returns-in_err-a-in-Select-clause-emits t c = IfOk-from_err _ _ c.from_residual-in_err-a-in-Select.ensures.0
+
+pub emit_loose-returns-in_err-b-in-Select-clause-register : goal.emit_loose-returns-in_err-b-in-Select-clause-register
+emit_loose-returns-in_err-b-in-Select-clause-register t c = IfOk-from_err _ _ c.from_residual-in_err-b-in-Select.ensures.0
+
+pub emit_loose-returns-in_err-b-in-Select-clause-item : goal.emit_loose-returns-in_err-b-in-Select-clause-item
+emit_loose-returns-in_err-b-in-Select-clause-item t c = IfOk-from_err _ _ c.from_residual-in_err-b-in-Select.ensures.0
+
+pub emit_loose-returns-in_err-b-in-Select-clause-emits : goal.emit_loose-returns-in_err-b-in-Select-clause-emits
+emit_loose-returns-in_err-b-in-Select-clause-emits t c = IfOk-from_err _ _ c.from_residual-in_err-b-in-Select.ensures.0
+
+pub emit_one_of-returns-in_err-other-clause-register : goal.emit_one_of-returns-in_err-other-clause-register
+emit_one_of-returns-in_err-other-clause-register t c = IfOk-from_err _ _ c.from_residual.ensures.0
+
+pub emit_one_of-returns-in_err-other-clause-item : goal.emit_one_of-returns-in_err-other-clause-item
+emit_one_of-returns-in_err-other-clause-item t c = IfOk-from_err _ _ c.from_residual.ensures.0
+
+pub emit_one_of-returns-in_err-other-clause-emits : goal.emit_one_of-returns-in_err-other-clause-emits
+emit_one_of-returns-in_err-other-clause-emits t c = IfOk-from_err _ _ c.from_residual.ensures.0
+
+pub emit_one_of-returns-in_err-end-clause-register : goal.emit_one_of-returns-in_err-end-clause-register
+emit_one_of-returns-in_err-end-clause-register t c = IfOk-from_err _ _ c.from_residual-in_err-end.ensures.0
+
+pub emit_one_of-returns-in_err-end-clause-item : goal.emit_one_of-returns-in_err-end-clause-item
+emit_one_of-returns-in_err-end-clause-item t c = IfOk-from_err _ _ c.from_residual-in_err-end.ensures.0
+
+pub emit_one_of-returns-in_err-end-clause-emits : goal.emit_one_of-returns-in_err-end-clause-emits
+emit_one_of-returns-in_err-end-clause-emits t c = IfOk-from_err _ _ c.from_residual-in_err-end.ensures.0
+
+pub emit_one_of-returns-in_err-p-in-Compare-clause-register : goal.emit_one_of-returns-in_err-p-in-Compare-clause-register
+emit_one_of-returns-in_err-p-in-Compare-clause-register t c = IfOk-from_err _ _ c.from_residual-in_err-p-in-Compare.ensures.0
+
+pub emit_one_of-returns-in_err-p-in-Compare-clause-item : goal.emit_one_of-returns-in_err-p-in-Compare-clause-item
+emit_one_of-returns-in_err-p-in-Compare-clause-item t c = IfOk-from_err _ _ c.from_residual-in_err-p-in-Compare.ensures.0
+
+pub emit_one_of-returns-in_err-p-in-Compare-clause-emits : goal.emit_one_of-returns-in_err-p-in-Compare-clause-emits
+emit_one_of-returns-in_err-p-in-Compare-clause-emits t c = IfOk-from_err _ _ c.from_residual-in_err-p-in-Compare.ensures.0
+
+pub emit_one_of-returns-in_err-put-in-Compare-clause-register : goal.emit_one_of-returns-in_err-put-in-Compare-clause-register
+emit_one_of-returns-in_err-put-in-Compare-clause-register t c = IfOk-from_err _ _ c.from_residual-in_err-put-in-Compare.ensures.0
+
+pub emit_one_of-returns-in_err-put-in-Compare-clause-item : goal.emit_one_of-returns-in_err-put-in-Compare-clause-item
+emit_one_of-returns-in_err-put-in-Compare-clause-item t c = IfOk-from_err _ _ c.from_residual-in_err-put-in-Compare.ensures.0
+
+pub emit_one_of-returns-in_err-put-in-Compare-clause-emits : goal.emit_one_of-returns-in_err-put-in-Compare-clause-emits
+emit_one_of-returns-in_err-put-in-Compare-clause-emits t c = IfOk-from_err _ _ c.from_residual-in_err-put-in-Compare.ensures.0
+
+pub emit_one_of-returns-in_err-emit_jump-in_default : goal.emit_one_of-returns-in_err-emit_jump-in_default
+emit_one_of-returns-in_err-emit_jump-in_default t c = record { register = IfOk-from_err _ _ c.from_residual-in_err-emit_jump-in_default.ensures.0; item = IfOk-from_err _ _ c.from_residual-in_err-emit_jump-in_default.ensures.0; emits = IfOk-from_err _ _ c.from_residual-in_err-emit_jump-in_default.ensures.0 }
+
+pub emit_parts-returns-in_err-emit_loose-in-Binary-clause-item : goal.emit_parts-returns-in_err-emit_loose-in-Binary-clause-item
+emit_parts-returns-in_err-emit_loose-in-Binary-clause-item t c = IfOk-from_err _ _ c.from_residual.ensures.0
+
+pub emit_parts-returns-in_err-emit_loose-in-Binary-clause-emits : goal.emit_parts-returns-in_err-emit_loose-in-Binary-clause-emits
+emit_parts-returns-in_err-emit_loose-in-Binary-clause-emits t c = IfOk-from_err _ _ c.from_residual.ensures.0
+
+pub emit_read-returns-in_err-x-in-None-clause-register : goal.emit_read-returns-in_err-x-in-None-clause-register
+emit_read-returns-in_err-x-in-None-clause-register t c = IfOk-from_err _ _ c.from_residual.ensures.0
+
+pub emit_read-returns-in_err-x-in-None-clause-item : goal.emit_read-returns-in_err-x-in-None-clause-item
+emit_read-returns-in_err-x-in-None-clause-item t c = IfOk-from_err _ _ c.from_residual.ensures.0
+
+pub emit_read-returns-in_err-x-in-None-clause-emits : goal.emit_read-returns-in_err-x-in-None-clause-emits
+emit_read-returns-in_err-x-in-None-clause-emits t c = IfOk-from_err _ _ c.from_residual.ensures.0
+
+pub emit_side-returns-in_err-emit_parts-in-None-clause-side : goal.emit_side-returns-in_err-emit_parts-in-None-clause-side
+emit_side-returns-in_err-emit_parts-in-None-clause-side t c = IfOk-from_err _ _ c.from_residual.ensures.0
+
+pub emit_side-returns-in_err-emit_parts-in-None-clause-item : goal.emit_side-returns-in_err-emit_parts-in-None-clause-item
+emit_side-returns-in_err-emit_parts-in-None-clause-item t c = IfOk-from_err _ _ c.from_residual.ensures.0
+
+pub emit_side-returns-in_err-emit_parts-in-None-clause-emits : goal.emit_side-returns-in_err-emit_parts-in-None-clause-emits
+emit_side-returns-in_err-emit_parts-in-None-clause-emits t c = IfOk-from_err _ _ c.from_residual.ensures.0
+
+pub emit_side-returns-in_err-r-in-None-clause-side : goal.emit_side-returns-in_err-r-in-None-clause-side
+emit_side-returns-in_err-r-in-None-clause-side t c = IfOk-from_err _ _ c.from_residual-in_err-r-in-None.ensures.0
+
+pub emit_side-returns-in_err-r-in-None-clause-item : goal.emit_side-returns-in_err-r-in-None-clause-item
+emit_side-returns-in_err-r-in-None-clause-item t c = IfOk-from_err _ _ c.from_residual-in_err-r-in-None.ensures.0
+
+pub emit_side-returns-in_err-r-in-None-clause-emits : goal.emit_side-returns-in_err-r-in-None-clause-emits
+emit_side-returns-in_err-r-in-None-clause-emits t c = IfOk-from_err _ _ c.from_residual-in_err-r-in-None.ensures.0
+
+pub emit_two-returns-in_err-sides-clause-register : goal.emit_two-returns-in_err-sides-clause-register
+emit_two-returns-in_err-sides-clause-register t c = IfOk-from_err _ _ c.from_residual.ensures.0
+
+pub emit_two-returns-in_err-sides-clause-item : goal.emit_two-returns-in_err-sides-clause-item
+emit_two-returns-in_err-sides-clause-item t c = IfOk-from_err _ _ c.from_residual.ensures.0
+
+pub emit_two-returns-in_err-sides-clause-emits : goal.emit_two-returns-in_err-sides-clause-emits
+emit_two-returns-in_err-sides-clause-emits t c = IfOk-from_err _ _ c.from_residual.ensures.0
