@@ -1,1 +1,2 @@
 pub mod OperatorCode
+pub mod TermItems

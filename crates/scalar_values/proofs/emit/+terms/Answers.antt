@@ -1,29 +1,33 @@
-use Rattle.std.proofs.lemmas.Result.{IfOk-from_err}
+use Rattle.std.proofs.lemmas.Result.{IfOk-from_err, IfOk-weaker, IfOk-equal, on_ok_weaker}
 use Rattle.std.proofs.lemmas.Grind.{common_steps}
-use Rattle.std.proofs.Common.{◌≡◌, ℕ, ◌+◌, Bool, List, ◌++◌, refl, sym, ap, subst, ◌∙◌, arith, rules}
+use Rattle.std.proofs.Common.{◌≡◌, ℕ, ◌+◌, ◌<◌, ◌^◌, Bool, List, ◌++◌, refl, sym, ap, subst, ◌∙◌, arith, rules}
 use Rattle.std.specs.Prelude.{if◌then◌else◌}
-use Rattle.kernel_tree.specs.Plain.{Term, Element, Unary, Operation, Shift, Conversion, Choice, Comparison, Both, Either, Not, name_of, term_of}
+use Rattle.kernel_tree.specs.Plain.{Term, Literal, Variable, Element, Unary, Operation, Shift, Conversion, Choice, Comparison, Both, Either, Not, name_of, term_of}
 use mir.Syntax.{w128}
 use mir.Val.{SFits, of_z, to_z}
 use Rattle.std.proofs.lemmas.Int.{to_z-of_z}
 use Rattle.kernel_scope.specs.Scopes.{scope_of}
 use Rattle.label_fix.specs.DraftRun.{DraftEntry}
-use Rattle.scalar_words.specs.Layout.{reg_of}
+use Rattle.scalar_words.specs.Layout.{reg_of, register_at}
 use Rattle.scalar_words.specs.View.{homes_of, register_number}
 use Rattle.label_fix.specs.Draft.{word_view}
 use Rattle.kernel_tree.specs.declared.ops.Ty.TheVariants as ty
-use Rattle.kernel_tree.specs.Items.{term_size, stream_offset}
+use Rattle.kernel_tree.specs.Items.{term_size, index_items, stream_offset}
 use Rattle.kernel_tree.specs.Limits.{term_depth}
 use Rattle.kernel_tree.specs.Kinds.{IsValue, IsTruth}
-use Rattle.kernel_tree.specs.Typing.{first}
-use Rattle.std.specs.Prelude.{Option, None, Some, option_map}
+use Rattle.kernel_tree.specs.Typing.{first, lookup, element_type}
+use Rattle.std.specs.Prelude.{Option, None, Some, option_map, option_and_then}
 use Rattle.kernel_tree.specs.declared.ops.Ty.{Ty}
 use Rattle.scalar_values.specs.Sides.{side_view}
-use Rattle.value_code.specs.Code.{HasParts, labels, added_number, IsHeld, loose_code, jump_code, one_of_code}
+use Rattle.value_code.specs.ValueRegisters.{home, literal_home}
+use Rattle.value_code.specs.ItemWords.{Register}
+use Rattle.value_code.specs.Code.{HasParts, labels, added_number, is_fused, is_led, right_side, IsHeld, loose_code, jump_code, one_of_code}
 use Rattle.value_code.specs.declared.extent.Extent.TheVariants.{Whole}
 use Rattle.scalar_values.proofs.OperatorCode.{two_is, led_sides, straight_sides}
 use Rattle.value_code.proofs.TermCode.{unary_is, shift_is, cast_is, parts_binary, operation_labels, parts_shift, parts_cast, compare_is, compared_labels, chosen_is, chosen_labels, two_more, compared_size, literal_item, literal_labels, held_code, side_number, side_parts, side_whole, placed_is, placed_labels, computed_is, both_is, either_is, joined_labels, choice_is, choice_labels, offset_code, offset_labels, computed_labels, on_ok, on_and}
 use Rattle.value_code.proofs.IndexCode.{index_is}
+use Rattle.value_code.proofs.NearOffsets.{no_items}
+use Rattle.scalar_values.proofs.TermItems.{on_any, with_value, then_is, else_is, left_below, right_below, truth_below, value_below, index_below, own_room, next_fits, whole_fits, part_room, after_room, left_room, right_room, led_fits, last_fits, last_room, either_left_room, either_mark_fits, either_right_room, either_last_fits, compared_room, compared_fits, truth_fits, not_fits, chosen_fits, chosen_room, still_given, over_given, both_given, either_given, compared_given, other_given, end_given, end_next, one_item, one_part, two_parts, two_items, both_items, either_items, choice_items, indexed_items, placed_item, placed_items, literal_size, computed_items, computed_home, offset_items, offset_home, by_number, by_part, by_register, loose_as, jump_as, loose_literal, loose_variable, compared_both}
 use Rattle.scalar_values.proofs.emit.+terms.Goals as goal
 use Rattle.scalar_values.proofs.emit.+terms.Goals.{emit_both-then-sense, emit_both-else-sense, emit_either-then-sense, emit_either-else-sense}
 
@@ -684,3 +688,450 @@ emit_two-returns-in_err-sides-clause-item t c = IfOk-from_err _ _ c.from_residua
 
 pub emit_two-returns-in_err-sides-clause-emits : goal.emit_two-returns-in_err-sides-clause-emits
 emit_two-returns-in_err-sides-clause-emits t c = IfOk-from_err _ _ c.from_residual.ensures.0
+
+-- ---- two conditions, one after another
+
+pub emit_both-emit_jump-requires : goal.emit_both-emit_jump-requires
+emit_both-emit_jump-requires t c =
+    let first : c.if-sense.first ≡ (if c.args.sense then c.in_ok-over.over else c.args.to) = elim c.if-sense.branch [ emit_both-then-sense w ↦ w.first-is ∙ sym (ap (λ (v : Bool). if v then c.in_ok-over.over else c.args.to) w.if-sense.true) | emit_both-else-sense w ↦ w.first-is ∙ sym (ap (λ (v : Bool). if v then c.in_ok-over.over else c.args.to) w.if-sense.false) ] in
+    (left_below t (term_depth (term_of c.args.left.now)) (term_depth (term_of c.args.right.now)) c.decreases, (both_given c.args.sense c.if-sense.first c.in_ok-over.over c.args.to c.args.draft.now.labels c.label.new.self.labels first c.in_ok-over.ensures.next c.in_ok-over.ensures.count c.requires.given, (c.requires.left, left_room c.args.item.now (term_size (scope_of c.args.scope.now).index (term_of c.args.left.now)) (term_size (scope_of c.args.scope.now).index (term_of c.args.right.now)) c.requires.fits)))
+
+pub emit_both-emit_jump-requires-2 : goal.emit_both-emit_jump-requires-2
+emit_both-emit_jump-requires-2 t c = (right_below t (term_depth (term_of c.args.left.now)) (term_depth (term_of c.args.right.now)) c.decreases, (still_given c.args.to c.args.draft.now.labels c.label.new.self.labels c.emit_jump.new.draft.labels (labels (scope_of c.args.scope.now).index (term_of c.args.left.now)) c.requires.given c.in_ok-over.ensures.count c.in_ok-emit_jump.ensures.emits.labels, (c.requires.right, right_room c.args.item.now (term_size (scope_of c.args.scope.now).index (term_of c.args.left.now)) (term_size (scope_of c.args.scope.now).index (term_of c.args.right.now)) c.emit_jump.new.item c.requires.fits c.in_ok-emit_jump.ensures.item)))
+
+pub emit_both-overflow_add-item : goal.emit_both-overflow_add-item
+emit_both-overflow_add-item t c = last_fits c.args.item.now (term_size (scope_of c.args.scope.now).index (term_of c.args.left.now)) (term_size (scope_of c.args.scope.now).index (term_of c.args.right.now)) c.emit_jump.new.item c.emit_jump-2.new.item c.requires.fits c.in_ok-emit_jump.ensures.item c.in_ok-emit_jump-2.ensures.item
+
+pub emit_both-emit_placed-requires : goal.emit_both-emit_placed-requires
+emit_both-emit_placed-requires t c = over_given c.in_ok-over.over c.args.draft.now.labels c.label.new.self.labels c.emit_jump.new.draft.labels c.emit_jump-2.new.draft.labels (labels (scope_of c.args.scope.now).index (term_of c.args.left.now)) (labels (scope_of c.args.scope.now).index (term_of c.args.right.now)) c.in_ok-over.ensures.next c.in_ok-over.ensures.count c.in_ok-emit_jump.ensures.emits.labels c.in_ok-emit_jump-2.ensures.emits.labels
+
+pub emit_both-returns-clause-item : goal.emit_both-returns-clause-item
+emit_both-returns-clause-item t c = on_any c.emit_placed.result (both_items c.args.item.now (term_size (scope_of c.args.scope.now).index (term_of c.args.left.now)) (term_size (scope_of c.args.scope.now).index (term_of c.args.right.now)) c.emit_jump.new.item c.emit_jump-2.new.item c.in_ok-emit_jump.ensures.item c.in_ok-emit_jump-2.ensures.item)
+
+pub emit_either-emit_jump-requires : goal.emit_either-emit_jump-requires
+emit_either-emit_jump-requires t c =
+    let first : c.if-sense.first ≡ (if c.args.sense then c.args.to else c.in_ok-over.over) = elim c.if-sense.branch [ emit_either-then-sense w ↦ w.first-is ∙ sym (ap (λ (v : Bool). if v then c.args.to else c.in_ok-over.over) w.if-sense.true) | emit_either-else-sense w ↦ w.first-is ∙ sym (ap (λ (v : Bool). if v then c.args.to else c.in_ok-over.over) w.if-sense.false) ] in
+    (left_below t (term_depth (term_of c.args.left.now)) (term_depth (term_of c.args.right.now)) c.decreases, (either_given c.args.sense c.if-sense.first c.in_ok-over.over c.args.to c.args.draft.now.labels c.label.new.self.labels first c.in_ok-over.ensures.next c.in_ok-over.ensures.count c.requires.given, (c.requires.left, either_left_room c.args.item.now (term_size (scope_of c.args.scope.now).index (term_of c.args.left.now)) (term_size (scope_of c.args.scope.now).index (term_of c.args.right.now)) c.requires.fits)))
+
+pub emit_either-overflow_add-item : goal.emit_either-overflow_add-item
+emit_either-overflow_add-item t c = either_mark_fits c.args.item.now (term_size (scope_of c.args.scope.now).index (term_of c.args.left.now)) (term_size (scope_of c.args.scope.now).index (term_of c.args.right.now)) c.emit_jump.new.item c.requires.fits c.in_ok-emit_jump.ensures.item
+
+pub emit_either-emit_jump-requires-2 : goal.emit_either-emit_jump-requires-2
+emit_either-emit_jump-requires-2 t c = (right_below t (term_depth (term_of c.args.left.now)) (term_depth (term_of c.args.right.now)) c.decreases, (still_given c.args.to c.args.draft.now.labels c.label.new.self.labels c.emit_jump.new.draft.labels (labels (scope_of c.args.scope.now).index (term_of c.args.left.now)) c.requires.given c.in_ok-over.ensures.count c.in_ok-emit_jump.ensures.emits.labels, (c.requires.right, either_right_room c.args.item.now (term_size (scope_of c.args.scope.now).index (term_of c.args.left.now)) (term_size (scope_of c.args.scope.now).index (term_of c.args.right.now)) c.emit_jump.new.item c.requires.fits c.in_ok-emit_jump.ensures.item)))
+
+pub emit_either-overflow_add-item-2 : goal.emit_either-overflow_add-item-2
+emit_either-overflow_add-item-2 t c = either_last_fits c.args.item.now (term_size (scope_of c.args.scope.now).index (term_of c.args.left.now)) (term_size (scope_of c.args.scope.now).index (term_of c.args.right.now)) c.emit_jump.new.item c.emit_jump-2.new.item c.requires.fits c.in_ok-emit_jump.ensures.item c.in_ok-emit_jump-2.ensures.item
+
+pub emit_either-emit_placed-requires : goal.emit_either-emit_placed-requires
+emit_either-emit_placed-requires t c = over_given c.in_ok-over.over c.args.draft.now.labels c.label.new.self.labels c.emit_jump.new.draft.labels c.emit_jump-2.new.draft.labels (labels (scope_of c.args.scope.now).index (term_of c.args.left.now)) (labels (scope_of c.args.scope.now).index (term_of c.args.right.now)) c.in_ok-over.ensures.next c.in_ok-over.ensures.count c.in_ok-emit_jump.ensures.emits.labels c.in_ok-emit_jump-2.ensures.emits.labels
+
+pub emit_either-returns-clause-item : goal.emit_either-returns-clause-item
+emit_either-returns-clause-item t c = on_any c.emit_placed.result (either_items c.args.item.now (term_size (scope_of c.args.scope.now).index (term_of c.args.left.now)) (term_size (scope_of c.args.scope.now).index (term_of c.args.right.now)) c.emit_jump.new.item c.emit_jump-2.new.item c.in_ok-emit_jump.ensures.item c.in_ok-emit_jump-2.ensures.item)
+
+-- ---- two values that are compared
+
+pub emit_compared-home_of-b-requires : goal.emit_compared-home_of-b-requires
+emit_compared-home_of-b-requires t c = compared_room c.args.item.now (term_size (scope_of c.args.scope.now).index (term_of c.args.left.now)) (term_size (scope_of c.args.scope.now).index (term_of c.args.right.now)) c.emit_loose.new.item c.requires.fits c.in_ok-a.ensures.item
+
+pub emit_compared-overflow_add-item : goal.emit_compared-overflow_add-item
+emit_compared-overflow_add-item t c = compared_fits c.args.item.now (term_size (scope_of c.args.scope.now).index (term_of c.args.left.now)) (term_size (scope_of c.args.scope.now).index (term_of c.args.right.now)) c.emit_loose.new.item c.requires.fits c.in_ok-a.ensures.item
+
+pub emit_compared-returns-in-Some-clause-left : goal.emit_compared-returns-in-Some-clause-left
+emit_compared-returns-in-Some-clause-left t c = c.in_ok-a.ensures.register
+
+pub emit_compared-returns-in-Some-clause-right : goal.emit_compared-returns-in-Some-clause-right
+emit_compared-returns-in-Some-clause-right t c = c.home_of-b.ensures ∙ ap (λ (b : ℕ). home c.args.places.now (homes_of c.args.homes.now) (scope_of c.args.scope.now).index b (term_of c.args.right.now)) c.in_ok-a.ensures.item
+
+pub emit_compared-returns-in_ok-b-in-None-clause-left : goal.emit_compared-returns-in_ok-b-in-None-clause-left
+emit_compared-returns-in_ok-b-in-None-clause-left t c = c.in_ok-a.ensures.register
+
+pub emit_compared-returns-in_ok-b-in-None-clause-right : goal.emit_compared-returns-in_ok-b-in-None-clause-right
+emit_compared-returns-in_ok-b-in-None-clause-right t c = c.in_ok-b-in-None.ensures.register ∙ ap (λ (b : ℕ). home c.args.places.now (homes_of c.args.homes.now) (scope_of c.args.scope.now).index b (term_of c.args.right.now)) c.in_ok-a.ensures.item
+
+pub emit_compared-returns-in_ok-b-in-None-clause-item : goal.emit_compared-returns-in_ok-b-in-None-clause-item
+emit_compared-returns-in_ok-b-in-None-clause-item t c = c.in_ok-b-in-None.ensures.item ∙ ap (λ (b : ℕ). b + term_size (scope_of c.args.scope.now).index (term_of c.args.right.now)) c.in_ok-a.ensures.item
+
+pub emit_compared-returns-in_ok-b-in-None-clause-emits : goal.emit_compared-returns-in_ok-b-in-None-clause-emits
+emit_compared-returns-in_ok-b-in-None-clause-emits t c = record {
+      labels = c.in_ok-b-in-None.ensures.emits.labels ∙ ap (λ (n : ℕ). n + labels (scope_of c.args.scope.now).index (term_of c.args.right.now)) c.in_ok-a.ensures.emits.labels;
+      code = λ rest. c.in_ok-b-in-None.ensures.emits.code rest
+          ∙ c.in_ok-a.ensures.emits.code _
+          ∙ ap (λ (l : List DraftEntry). c.args.draft.now.entries ++ l)
+          (compared_both c.args.places.now (homes_of c.args.homes.now) (scope_of c.args.scope.now) c.args.want c.args.item.now c.args.draft.now.labels c.emit_loose.new.item c.emit_loose.new.draft.labels (term_of c.args.left.now) (term_of c.args.right.now) c.args.number rest c.in-None.is c.in_ok-a.ensures.item c.in_ok-a.ensures.emits.labels);
+    }
+
+-- ---- a condition by its kind
+
+pub emit_jump-overflow_add-item : goal.emit_jump-overflow_add-item
+emit_jump-overflow_add-item t c =
+    let is : term_of c.args.expr.now ≡ Comparison c.in-Compare.op (term_of c.deref.result.now) (term_of c.deref-in-Compare.result.now) = rw (c.in-Compare.is, c.deref.ensures, c.deref-in-Compare.ensures) refl in
+    truth_fits c.args.item.now (term_size (scope_of c.args.scope.now).index (term_of c.deref.result.now)) (term_size (scope_of c.args.scope.now).index (term_of c.deref-in-Compare.result.now)) (term_size (scope_of c.args.scope.now).index (term_of c.args.expr.now)) c.emit_compared.new.item (ap (term_size (scope_of c.args.scope.now).index) is) c.requires.fits c.in_ok-a-in-Compare.ensures.item
+
+pub emit_jump-emit_branch-requires : goal.emit_jump-emit_branch-requires
+emit_jump-emit_branch-requires t c = compared_given c.args.to c.args.draft.now.labels c.emit_compared.new.draft.labels (labels (scope_of c.args.scope.now).index (term_of c.deref.result.now)) (labels (scope_of c.args.scope.now).index (term_of c.deref-in-Compare.result.now)) c.requires.given c.in_ok-a-in-Compare.ensures.emits.labels
+
+pub emit_jump-returns-in_ok-a-in-Compare-clause-item : goal.emit_jump-returns-in_ok-a-in-Compare-clause-item
+emit_jump-returns-in_ok-a-in-Compare-clause-item t c =
+    let is : term_of c.args.expr.now ≡ Comparison c.in-Compare.op (term_of c.deref.result.now) (term_of c.deref-in-Compare.result.now) = rw (c.in-Compare.is, c.deref.ensures, c.deref-in-Compare.ensures) refl in
+    on_any c.emit_branch.result (compared_size (scope_of c.args.scope.now).index c.args.item.now c.emit_compared.new.item c.in-Compare.op (term_of c.deref.result.now) (term_of c.deref-in-Compare.result.now) (term_of c.args.expr.now) is c.in_ok-a-in-Compare.ensures.item)
+
+pub emit_jump-returns-in-And-clause-item : goal.emit_jump-returns-in-And-clause-item
+emit_jump-returns-in-And-clause-item t c =
+    let is : term_of c.args.expr.now ≡ Both (term_of c.deref-in-And.result.now) (term_of c.deref-in-And-2.result.now) = rw (c.in-And.is, c.deref-in-And.ensures, c.deref-in-And-2.ensures) refl in
+    IfOk-equal c.emit_both.result _ _ _ c.emit_both.ensures.item (ap (λ (e : Term). c.args.item.now + term_size (scope_of c.args.scope.now).index e) (sym is))
+
+pub emit_jump-returns-in-And-clause-emits : goal.emit_jump-returns-in-And-clause-emits
+emit_jump-returns-in-And-clause-emits t c =
+    let is : term_of c.args.expr.now ≡ Both (term_of c.deref-in-And.result.now) (term_of c.deref-in-And-2.result.now) = rw (c.in-And.is, c.deref-in-And.ensures, c.deref-in-And-2.ensures) refl in
+    on_ok_weaker c.emit_both.result (λ p. jump_as c.args.places.now (homes_of c.args.homes.now) (scope_of c.args.scope.now) c.args.sense c.args.to c.args.item.now c.args.draft.now c.emit_both.new.draft (term_of c.args.expr.now) (Both (term_of c.deref-in-And.result.now) (term_of c.deref-in-And-2.result.now)) is p) c.emit_both.ensures.emits
+
+pub emit_jump-returns-in-Or-clause-item : goal.emit_jump-returns-in-Or-clause-item
+emit_jump-returns-in-Or-clause-item t c =
+    let is : term_of c.args.expr.now ≡ Either (term_of c.deref-in-Or.result.now) (term_of c.deref-in-Or-2.result.now) = rw (c.in-Or.is, c.deref-in-Or.ensures, c.deref-in-Or-2.ensures) refl in
+    IfOk-equal c.emit_either.result _ _ _ c.emit_either.ensures.item (ap (λ (e : Term). c.args.item.now + term_size (scope_of c.args.scope.now).index e) (sym is))
+
+pub emit_jump-returns-in-Or-clause-emits : goal.emit_jump-returns-in-Or-clause-emits
+emit_jump-returns-in-Or-clause-emits t c =
+    let is : term_of c.args.expr.now ≡ Either (term_of c.deref-in-Or.result.now) (term_of c.deref-in-Or-2.result.now) = rw (c.in-Or.is, c.deref-in-Or.ensures, c.deref-in-Or-2.ensures) refl in
+    on_ok_weaker c.emit_either.result (λ p. jump_as c.args.places.now (homes_of c.args.homes.now) (scope_of c.args.scope.now) c.args.sense c.args.to c.args.item.now c.args.draft.now c.emit_either.new.draft (term_of c.args.expr.now) (Either (term_of c.deref-in-Or.result.now) (term_of c.deref-in-Or-2.result.now)) is p) c.emit_either.ensures.emits
+
+pub emit_jump-overflow_add-item-in-Not : goal.emit_jump-overflow_add-item-in-Not
+emit_jump-overflow_add-item-in-Not t c =
+    let is : term_of c.args.expr.now ≡ Not (term_of c.deref-in-Not.result.now) = rw (c.in-Not.is, c.deref-in-Not.ensures) refl in
+    not_fits c.args.item.now (term_size (scope_of c.args.scope.now).index (term_of c.deref-in-Not.result.now)) (term_size (scope_of c.args.scope.now).index (term_of c.args.expr.now)) c.emit_jump.new.item (ap (term_size (scope_of c.args.scope.now).index) is) c.requires.fits c.in_ok-emit_jump-in-Not.ensures.item
+
+pub emit_jump-returns-in_ok-emit_jump-in-Not-clause-item : goal.emit_jump-returns-in_ok-emit_jump-in-Not-clause-item
+emit_jump-returns-in_ok-emit_jump-in-Not-clause-item t c =
+    let is : term_of c.args.expr.now ≡ Not (term_of c.deref-in-Not.result.now) = rw (c.in-Not.is, c.deref-in-Not.ensures) refl in
+    one_part c.args.item.now (term_size (scope_of c.args.scope.now).index (term_of c.args.expr.now)) (term_size (scope_of c.args.scope.now).index (term_of c.deref-in-Not.result.now)) c.emit_jump.new.item (ap (term_size (scope_of c.args.scope.now).index) is) c.in_ok-emit_jump-in-Not.ensures.item
+
+pub emit_jump-returns-in_ok-emit_jump-in-Not-clause-emits : goal.emit_jump-returns-in_ok-emit_jump-in-Not-clause-emits
+emit_jump-returns-in_ok-emit_jump-in-Not-clause-emits t c =
+    let is : term_of c.args.expr.now ≡ Not (term_of c.deref-in-Not.result.now) = rw (c.in-Not.is, c.deref-in-Not.ensures) refl in
+    jump_as c.args.places.now (homes_of c.args.homes.now) (scope_of c.args.scope.now) c.args.sense c.args.to c.args.item.now c.args.draft.now c.emit_jump.new.draft (term_of c.args.expr.now) (Not (term_of c.deref-in-Not.result.now)) is (record { labels = c.in_ok-emit_jump-in-Not.ensures.emits.labels; code = λ rest. c.in_ok-emit_jump-in-Not.ensures.emits.code rest })
+
+-- ---- a value by its kind
+
+pub emit_loose-emit_literal-requires : goal.emit_loose-emit_literal-requires
+emit_loose-emit_literal-requires t c = own_room c.args.item.now (term_size (scope_of c.args.scope.now).index (term_of c.args.expr.now)) c.requires.fits
+
+pub emit_loose-take_held-requires : goal.emit_loose-take_held-requires
+emit_loose-take_held-requires t c = own_room c.args.item.now (term_size (scope_of c.args.scope.now).index (term_of c.args.expr.now)) c.requires.fits
+
+pub emit_loose-returns-in-Lit-clause-register : goal.emit_loose-returns-in-Lit-clause-register
+emit_loose-returns-in-Lit-clause-register t c =
+    let is : term_of c.args.expr.now ≡ Literal c.in-Lit.value = ap term_of c.in-Lit.is in
+    let in_range : SFits w128 c.in-Lit.value = search rules in
+    IfOk-weaker c.emit_literal.result _ _ (λ r p. p ∙ ap (literal_home c.args.places.now c.args.item.now) (to_z-of_z w128 c.in-Lit.value in_range) ∙ ap (home c.args.places.now (homes_of c.args.homes.now) (scope_of c.args.scope.now).index c.args.item.now) (sym is)) c.emit_literal.ensures.register
+
+pub emit_loose-returns-in-Lit-clause-item : goal.emit_loose-returns-in-Lit-clause-item
+emit_loose-returns-in-Lit-clause-item t c =
+    let is : term_of c.args.expr.now ≡ Literal c.in-Lit.value = ap term_of c.in-Lit.is in
+    IfOk-equal c.emit_literal.result _ _ _ c.emit_literal.ensures.item (ap (λ (e : Term). c.args.item.now + term_size (scope_of c.args.scope.now).index e) (sym is))
+
+pub emit_loose-returns-in-Lit-clause-emits : goal.emit_loose-returns-in-Lit-clause-emits
+emit_loose-returns-in-Lit-clause-emits t c =
+    let is : term_of c.args.expr.now ≡ Literal c.in-Lit.value = ap term_of c.in-Lit.is in
+    let in_range : SFits w128 c.in-Lit.value = search rules in
+    on_ok_weaker c.emit_literal.result (λ p. loose_literal c.args.places.now (homes_of c.args.homes.now) (scope_of c.args.scope.now) c.args.extent c.args.want c.args.item.now c.args.draft.now c.emit_literal.new.draft (term_of c.args.expr.now) c.in-Lit.value (to_z w128 (of_z w128 c.in-Lit.value)) is (to_z-of_z w128 c.in-Lit.value in_range) p) c.emit_literal.ensures.emits
+
+pub emit_loose-returns-in-Var-clause-register : goal.emit_loose-returns-in-Var-clause-register
+emit_loose-returns-in-Var-clause-register t c =
+    let is : term_of c.args.expr.now ≡ Variable (name_of c.in-Var.name) = ap term_of c.in-Var.is in
+    c.take_held.ensures.register ∙ ap (home c.args.places.now (homes_of c.args.homes.now) (scope_of c.args.scope.now).index c.args.item.now) (sym is)
+
+pub emit_loose-returns-in-Var-clause-item : goal.emit_loose-returns-in-Var-clause-item
+emit_loose-returns-in-Var-clause-item t c =
+    let is : term_of c.args.expr.now ≡ Variable (name_of c.in-Var.name) = ap term_of c.in-Var.is in
+    c.take_held.ensures.item ∙ (ap (λ (e : Term). c.args.item.now + term_size (scope_of c.args.scope.now).index e) (sym is))
+
+pub emit_loose-returns-in-Var-clause-emits : goal.emit_loose-returns-in-Var-clause-emits
+emit_loose-returns-in-Var-clause-emits t c =
+    let is : term_of c.args.expr.now ≡ Variable (name_of c.in-Var.name) = ap term_of c.in-Var.is in
+    loose_variable c.args.places.now (homes_of c.args.homes.now) (scope_of c.args.scope.now) c.args.extent c.args.want c.args.item.now c.args.draft.now (term_of c.args.expr.now) (name_of c.in-Var.name) is
+
+pub emit_loose-returns-in_ok-a-in-Unary-clause-register : goal.emit_loose-returns-in_ok-a-in-Unary-clause-register
+emit_loose-returns-in_ok-a-in-Unary-clause-register t c =
+    let is : term_of c.args.expr.now ≡ Unary c.in-Unary.op (term_of c.deref-arg.result.now) = rw (c.in-Unary.is, c.deref-arg.ensures) refl in
+    IfOk-weaker c.want_unary.result _ _ (λ r p. p ∙ ap (reg_of c.args.places.now) c.in_ok-a-in-Unary.ensures.item ∙ ap (home c.args.places.now (homes_of c.args.homes.now) (scope_of c.args.scope.now).index c.args.item.now) (sym is)) c.want_unary.ensures.register
+
+pub emit_loose-returns-in_ok-a-in-Unary-clause-item : goal.emit_loose-returns-in_ok-a-in-Unary-clause-item
+emit_loose-returns-in_ok-a-in-Unary-clause-item t c =
+    let is : term_of c.args.expr.now ≡ Unary c.in-Unary.op (term_of c.deref-arg.result.now) = rw (c.in-Unary.is, c.deref-arg.ensures) refl in
+    on_any c.want_unary.result (one_item c.args.item.now (term_size (scope_of c.args.scope.now).index (term_of c.args.expr.now)) (term_size (scope_of c.args.scope.now).index (term_of c.deref-arg.result.now)) c.emit_loose.new.item c.want_unary.new.item (ap (term_size (scope_of c.args.scope.now).index) is) c.in_ok-a-in-Unary.ensures.item c.want_unary.ensures.item)
+
+pub emit_loose-returns-in_ok-a-in-Shift-clause-register : goal.emit_loose-returns-in_ok-a-in-Shift-clause-register
+emit_loose-returns-in_ok-a-in-Shift-clause-register t c =
+    let is : term_of c.args.expr.now ≡ Shift c.in-Shift.left_shift (term_of c.deref-arg-in-Shift.result.now) c.in-Shift.count = rw (c.in-Shift.is, c.deref-arg-in-Shift.ensures) refl in
+    IfOk-weaker c.want_shift.result _ _ (λ r p. p ∙ ap (reg_of c.args.places.now) c.in_ok-a-in-Shift.ensures.item ∙ ap (home c.args.places.now (homes_of c.args.homes.now) (scope_of c.args.scope.now).index c.args.item.now) (sym is)) c.want_shift.ensures.register
+
+pub emit_loose-returns-in_ok-a-in-Shift-clause-item : goal.emit_loose-returns-in_ok-a-in-Shift-clause-item
+emit_loose-returns-in_ok-a-in-Shift-clause-item t c =
+    let is : term_of c.args.expr.now ≡ Shift c.in-Shift.left_shift (term_of c.deref-arg-in-Shift.result.now) c.in-Shift.count = rw (c.in-Shift.is, c.deref-arg-in-Shift.ensures) refl in
+    on_any c.want_shift.result (one_item c.args.item.now (term_size (scope_of c.args.scope.now).index (term_of c.args.expr.now)) (term_size (scope_of c.args.scope.now).index (term_of c.deref-arg-in-Shift.result.now)) c.emit_loose-in-Shift.new.item c.want_shift.new.item (ap (term_size (scope_of c.args.scope.now).index) is) c.in_ok-a-in-Shift.ensures.item c.want_shift.ensures.item)
+
+pub emit_loose-returns-in_ok-a-in-Cast-clause-register : goal.emit_loose-returns-in_ok-a-in-Cast-clause-register
+emit_loose-returns-in_ok-a-in-Cast-clause-register t c =
+    let is : term_of c.args.expr.now ≡ Conversion (term_of c.deref-arg-in-Cast.result.now) c.in-Cast.ty = rw (c.in-Cast.is, c.deref-arg-in-Cast.ensures) refl in
+    IfOk-weaker c.want_cast.result _ _ (λ r p. p ∙ ap (reg_of c.args.places.now) c.in_ok-a-in-Cast.ensures.item ∙ ap (home c.args.places.now (homes_of c.args.homes.now) (scope_of c.args.scope.now).index c.args.item.now) (sym is)) c.want_cast.ensures.register
+
+pub emit_loose-returns-in_ok-a-in-Cast-clause-item : goal.emit_loose-returns-in_ok-a-in-Cast-clause-item
+emit_loose-returns-in_ok-a-in-Cast-clause-item t c =
+    let is : term_of c.args.expr.now ≡ Conversion (term_of c.deref-arg-in-Cast.result.now) c.in-Cast.ty = rw (c.in-Cast.is, c.deref-arg-in-Cast.ensures) refl in
+    on_any c.want_cast.result (one_item c.args.item.now (term_size (scope_of c.args.scope.now).index (term_of c.args.expr.now)) (term_size (scope_of c.args.scope.now).index (term_of c.deref-arg-in-Cast.result.now)) c.emit_loose-in-Cast.new.item c.want_cast.new.item (ap (term_size (scope_of c.args.scope.now).index) is) c.in_ok-a-in-Cast.ensures.item c.want_cast.ensures.item)
+
+pub emit_loose-returns-in-Binary-clause-register : goal.emit_loose-returns-in-Binary-clause-register
+emit_loose-returns-in-Binary-clause-register t c =
+    let is : term_of c.args.expr.now ≡ Operation c.in-Binary.op (term_of c.deref.result.now) (term_of c.deref-in-Binary.result.now) = rw (c.in-Binary.is, c.deref.ensures, c.deref-in-Binary.ensures) refl in
+    IfOk-weaker c.emit_two.result _ _ (λ r p. p ∙ ap (home c.args.places.now (homes_of c.args.homes.now) (scope_of c.args.scope.now).index c.args.item.now) (sym is)) c.emit_two.ensures.register
+
+pub emit_loose-returns-in-Binary-clause-item : goal.emit_loose-returns-in-Binary-clause-item
+emit_loose-returns-in-Binary-clause-item t c =
+    let is : term_of c.args.expr.now ≡ Operation c.in-Binary.op (term_of c.deref.result.now) (term_of c.deref-in-Binary.result.now) = rw (c.in-Binary.is, c.deref.ensures, c.deref-in-Binary.ensures) refl in
+    IfOk-equal c.emit_two.result _ _ _ c.emit_two.ensures.item (ap (λ (e : Term). c.args.item.now + term_size (scope_of c.args.scope.now).index e) (sym is))
+
+pub emit_loose-returns-in-Binary-clause-emits : goal.emit_loose-returns-in-Binary-clause-emits
+emit_loose-returns-in-Binary-clause-emits t c =
+    let is : term_of c.args.expr.now ≡ Operation c.in-Binary.op (term_of c.deref.result.now) (term_of c.deref-in-Binary.result.now) = rw (c.in-Binary.is, c.deref.ensures, c.deref-in-Binary.ensures) refl in
+    on_ok_weaker c.emit_two.result (λ p. loose_as c.args.places.now (homes_of c.args.homes.now) (scope_of c.args.scope.now) c.args.extent c.args.want c.args.item.now c.args.draft.now c.emit_two.new.draft (term_of c.args.expr.now) (Operation c.in-Binary.op (term_of c.deref.result.now) (term_of c.deref-in-Binary.result.now)) is p) c.emit_two.ensures.emits
+
+pub emit_loose-returns-in-Read-clause-register : goal.emit_loose-returns-in-Read-clause-register
+emit_loose-returns-in-Read-clause-register t c =
+    let is : term_of c.args.expr.now ≡ Element (name_of c.in-Read.array) (term_of c.deref-in-Read.result.now) = rw (c.in-Read.is, c.deref-in-Read.ensures) refl in
+    IfOk-weaker c.emit_read.result _ _ (λ r p. p ∙ ap (home c.args.places.now (homes_of c.args.homes.now) (scope_of c.args.scope.now).index c.args.item.now) (sym is)) c.emit_read.ensures.register
+
+pub emit_loose-returns-in-Read-clause-item : goal.emit_loose-returns-in-Read-clause-item
+emit_loose-returns-in-Read-clause-item t c =
+    let is : term_of c.args.expr.now ≡ Element (name_of c.in-Read.array) (term_of c.deref-in-Read.result.now) = rw (c.in-Read.is, c.deref-in-Read.ensures) refl in
+    IfOk-equal c.emit_read.result _ _ _ c.emit_read.ensures.item (ap (λ (e : Term). c.args.item.now + term_size (scope_of c.args.scope.now).index e) (sym is))
+
+pub emit_loose-returns-in-Read-clause-emits : goal.emit_loose-returns-in-Read-clause-emits
+emit_loose-returns-in-Read-clause-emits t c =
+    let is : term_of c.args.expr.now ≡ Element (name_of c.in-Read.array) (term_of c.deref-in-Read.result.now) = rw (c.in-Read.is, c.deref-in-Read.ensures) refl in
+    on_ok_weaker c.emit_read.result (λ p. loose_as c.args.places.now (homes_of c.args.homes.now) (scope_of c.args.scope.now) c.args.extent c.args.want c.args.item.now c.args.draft.now c.emit_read.new.draft (term_of c.args.expr.now) (Element (name_of c.in-Read.array) (term_of c.deref-in-Read.result.now)) is (record { labels = p.labels; code = λ rest. p.code rest })) c.emit_read.ensures.emits
+
+pub emit_loose-returns-in_ok-b-in-Select-clause-register : goal.emit_loose-returns-in_ok-b-in-Select-clause-register
+emit_loose-returns-in_ok-b-in-Select-clause-register t c =
+    let is : term_of c.args.expr.now ≡ Choice (term_of c.deref-in-Select-3.result.now) (term_of c.deref-in-Select.result.now) (term_of c.deref-in-Select-2.result.now) = rw (c.in-Select.is, c.deref-in-Select.ensures, c.deref-in-Select-2.ensures, c.deref-in-Select-3.ensures) refl in
+    IfOk-weaker c.emit_one_of.result _ _ (λ r p. p ∙ ap (λ (b : ℕ). reg_of c.args.places.now (b + term_size (scope_of c.args.scope.now).index (term_of c.deref-in-Select-3.result.now))) (c.in_ok-b-in-Select.ensures.item ∙ ap (λ (b : ℕ). b + term_size (scope_of c.args.scope.now).index (term_of c.deref-in-Select-2.result.now)) c.in_ok-a-in-Select.ensures.item) ∙ ap (home c.args.places.now (homes_of c.args.homes.now) (scope_of c.args.scope.now).index c.args.item.now) (sym is)) c.emit_one_of.ensures.register
+
+pub emit_loose-returns-in_ok-b-in-Select-clause-item : goal.emit_loose-returns-in_ok-b-in-Select-clause-item
+emit_loose-returns-in_ok-b-in-Select-clause-item t c =
+    let is : term_of c.args.expr.now ≡ Choice (term_of c.deref-in-Select-3.result.now) (term_of c.deref-in-Select.result.now) (term_of c.deref-in-Select-2.result.now) = rw (c.in-Select.is, c.deref-in-Select.ensures, c.deref-in-Select-2.ensures, c.deref-in-Select-3.ensures) refl in
+    on_ok_weaker c.emit_one_of.result (choice_items c.args.item.now (term_size (scope_of c.args.scope.now).index (term_of c.args.expr.now)) (term_size (scope_of c.args.scope.now).index (term_of c.deref-in-Select.result.now)) (term_size (scope_of c.args.scope.now).index (term_of c.deref-in-Select-2.result.now)) (term_size (scope_of c.args.scope.now).index (term_of c.deref-in-Select-3.result.now)) c.emit_loose-in-Select.new.item c.emit_loose-in-Select-2.new.item c.emit_one_of.new.item (ap (term_size (scope_of c.args.scope.now).index) is) c.in_ok-a-in-Select.ensures.item c.in_ok-b-in-Select.ensures.item) c.emit_one_of.ensures.item
+
+-- ---- the index of an element
+
+pub emit_number-emit_offset-requires : goal.emit_number-emit_offset-requires
+emit_number-emit_offset-requires t c = record { plain = c.in-Some.ensures.plain }
+
+pub emit_number-emit_loose-requires : goal.emit_number-emit_loose-requires
+emit_number-emit_loose-requires t c = (value_below t (term_depth (term_of c.args.number.now)) c.decreases, (c.requires.kind, subst (λ (k : ℕ). c.args.item.now + k < 2 ^ 32) (sym (computed_items (stream_offset (scope_of c.args.scope.now).index (term_of c.args.number.now)) (term_size (scope_of c.args.scope.now).index (term_of c.args.number.now)) (sym c.in-None.ensures.word))) c.requires.fits))
+
+pub emit_number-returns-in-Some-clause-register : goal.emit_number-returns-in-Some-clause-register
+emit_number-returns-in-Some-clause-register t c = IfOk-weaker c.emit_offset.result _ _ (λ r p. p ∙ offset_home (stream_offset (scope_of c.args.scope.now).index (term_of c.args.number.now)) _ _ c.in-Some.ensures.word) c.emit_offset.ensures.register
+
+pub emit_number-returns-in-Some-clause-item : goal.emit_number-returns-in-Some-clause-item
+emit_number-returns-in-Some-clause-item t c = on_any c.emit_offset.result (offset_items (stream_offset (scope_of c.args.scope.now).index (term_of c.args.number.now)) _ c.args.item.now (term_size (scope_of c.args.scope.now).index (term_of c.args.number.now)) c.in-Some.ensures.word)
+
+pub emit_number-returns-in-None-clause-register : goal.emit_number-returns-in-None-clause-register
+emit_number-returns-in-None-clause-register t c = IfOk-weaker c.emit_loose.result _ _ (λ r p. p ∙ computed_home (stream_offset (scope_of c.args.scope.now).index (term_of c.args.number.now)) _ (sym c.in-None.ensures.word)) c.emit_loose.ensures.register
+
+pub emit_number-returns-in-None-clause-item : goal.emit_number-returns-in-None-clause-item
+emit_number-returns-in-None-clause-item t c = IfOk-equal c.emit_loose.result _ _ _ c.emit_loose.ensures.item (ap (λ (k : ℕ). c.args.item.now + k) (computed_items (stream_offset (scope_of c.args.scope.now).index (term_of c.args.number.now)) (term_size (scope_of c.args.scope.now).index (term_of c.args.number.now)) (sym c.in-None.ensures.word)))
+
+-- ---- one of two registers
+
+pub emit_one_of-overflow_add-item : goal.emit_one_of-overflow_add-item
+emit_one_of-overflow_add-item t c =
+    let is : term_of c.args.cond.now ≡ Comparison c.in-Compare.op (term_of c.deref.result.now) (term_of c.deref-in-Compare.result.now) = rw (c.in-Compare.is, c.deref.ensures, c.deref-in-Compare.ensures) refl in
+    chosen_fits c.args.item.now (term_size (scope_of c.args.scope.now).index (term_of c.deref.result.now)) (term_size (scope_of c.args.scope.now).index (term_of c.deref-in-Compare.result.now)) (term_size (scope_of c.args.scope.now).index (term_of c.args.cond.now)) c.emit_compared.new.item (ap (term_size (scope_of c.args.scope.now).index) is) c.requires.fits c.in_ok-p-in-Compare.ensures.item
+
+pub emit_one_of-put-requires : goal.emit_one_of-put-requires
+emit_one_of-put-requires t c = record { plain = c.compare_word.ensures.plain }
+
+pub emit_one_of-emit_chosen-requires : goal.emit_one_of-emit_chosen-requires
+emit_one_of-emit_chosen-requires t c =
+    let is : term_of c.args.cond.now ≡ Comparison c.in-Compare.op (term_of c.deref.result.now) (term_of c.deref-in-Compare.result.now) = rw (c.in-Compare.is, c.deref.ensures, c.deref-in-Compare.ensures) refl in
+    chosen_room c.args.item.now (term_size (scope_of c.args.scope.now).index (term_of c.deref.result.now)) (term_size (scope_of c.args.scope.now).index (term_of c.deref-in-Compare.result.now)) (term_size (scope_of c.args.scope.now).index (term_of c.args.cond.now)) c.emit_compared.new.item (ap (term_size (scope_of c.args.scope.now).index) is) c.requires.fits c.in_ok-p-in-Compare.ensures.item
+
+pub emit_one_of-emit_jump-requires : goal.emit_one_of-emit_jump-requires
+emit_one_of-emit_jump-requires t c = (truth_below t (term_depth (term_of c.args.cond.now)) c.decreases, (other_given c.in_ok-other.other c.args.draft.now.labels c.label.new.self.labels c.label-2.new.self.labels c.in_ok-other.ensures.next c.in_ok-other.ensures.count c.in_ok-end.ensures.count, (c.requires.kind, part_room c.args.item.now (term_size (scope_of c.args.scope.now).index (term_of c.args.cond.now)) c.requires.fits)))
+
+pub emit_one_of-emit_pick-requires : goal.emit_one_of-emit_pick-requires
+emit_one_of-emit_pick-requires t c = record {
+      next = end_next c.in_ok-end.end c.in_ok-other.other c.args.draft.now.labels c.label.new.self.labels c.in_ok-end.ensures.next c.in_ok-other.ensures.count c.in_ok-other.ensures.next;
+      given = end_given c.in_ok-end.end c.label.new.self.labels c.label-2.new.self.labels c.emit_jump.new.draft.labels (labels (scope_of c.args.scope.now).index (term_of c.args.cond.now)) c.in_ok-end.ensures.next c.in_ok-end.ensures.count c.in_ok-emit_jump-in_default.ensures.emits.labels;
+      fits = after_room c.args.item.now (term_size (scope_of c.args.scope.now).index (term_of c.args.cond.now)) c.emit_jump.new.item c.requires.fits c.in_ok-emit_jump-in_default.ensures.item;
+    }
+
+pub emit_one_of-returns-in_ok-put-in-Compare-clause-register : goal.emit_one_of-returns-in_ok-put-in-Compare-clause-register
+emit_one_of-returns-in_ok-put-in-Compare-clause-register t c =
+    let is : term_of c.args.cond.now ≡ Comparison c.in-Compare.op (term_of c.deref.result.now) (term_of c.deref-in-Compare.result.now) = rw (c.in-Compare.is, c.deref.ensures, c.deref-in-Compare.ensures) refl in
+    IfOk-weaker c.emit_chosen.result _ _ (λ r p. p ∙ ap (reg_of c.args.places.now) (compared_size (scope_of c.args.scope.now).index c.args.item.now c.emit_compared.new.item c.in-Compare.op (term_of c.deref.result.now) (term_of c.deref-in-Compare.result.now) (term_of c.args.cond.now) is c.in_ok-p-in-Compare.ensures.item)) c.emit_chosen.ensures.register
+
+pub emit_one_of-returns-in_ok-put-in-Compare-clause-item : goal.emit_one_of-returns-in_ok-put-in-Compare-clause-item
+emit_one_of-returns-in_ok-put-in-Compare-clause-item t c =
+    let is : term_of c.args.cond.now ≡ Comparison c.in-Compare.op (term_of c.deref.result.now) (term_of c.deref-in-Compare.result.now) = rw (c.in-Compare.is, c.deref.ensures, c.deref-in-Compare.ensures) refl in
+    on_any c.emit_chosen.result (c.emit_chosen.ensures.item ∙ ap (λ (b : ℕ). b + 1) (compared_size (scope_of c.args.scope.now).index c.args.item.now c.emit_compared.new.item c.in-Compare.op (term_of c.deref.result.now) (term_of c.deref-in-Compare.result.now) (term_of c.args.cond.now) is c.in_ok-p-in-Compare.ensures.item))
+
+-- ---- the items of a value that stands in the word of its user
+
+pub emit_parts-returns-in_ok-emit_loose-in-Binary-clause-item : goal.emit_parts-returns-in_ok-emit_loose-in-Binary-clause-item
+emit_parts-returns-in_ok-emit_loose-in-Binary-clause-item t c =
+    let is : term_of c.args.expr.now ≡ Operation c.in-Binary.op (term_of c.deref.result.now) (term_of c.deref-in-Binary.result.now) = rw (c.in-Binary.is, c.deref.ensures, c.deref-in-Binary.ensures) refl in
+    on_ok_weaker c.emit_loose-in-Binary.result (two_parts c.args.item.now (term_size (scope_of c.args.scope.now).index (term_of c.args.expr.now)) (term_size (scope_of c.args.scope.now).index (term_of c.deref.result.now)) (term_size (scope_of c.args.scope.now).index (term_of c.deref-in-Binary.result.now)) c.emit_loose.new.item c.emit_loose-in-Binary.new.item (ap (term_size (scope_of c.args.scope.now).index) is) c.in_ok-emit_loose-in-Binary.ensures.item) c.emit_loose-in-Binary.ensures.item
+
+pub emit_parts-returns-in-Shift-clause-item : goal.emit_parts-returns-in-Shift-clause-item
+emit_parts-returns-in-Shift-clause-item t c =
+    let is : term_of c.args.expr.now ≡ Shift c.in-Shift.left_shift (term_of c.deref-arg.result.now) c.in-Shift.count = rw (c.in-Shift.is, c.deref-arg.ensures) refl in
+    on_ok_weaker c.emit_loose-in-Shift.result (one_part c.args.item.now (term_size (scope_of c.args.scope.now).index (term_of c.args.expr.now)) (term_size (scope_of c.args.scope.now).index (term_of c.deref-arg.result.now)) c.emit_loose-in-Shift.new.item (ap (term_size (scope_of c.args.scope.now).index) is)) c.emit_loose-in-Shift.ensures.item
+
+pub emit_parts-returns-in-Cast-clause-item : goal.emit_parts-returns-in-Cast-clause-item
+emit_parts-returns-in-Cast-clause-item t c =
+    let is : term_of c.args.expr.now ≡ Conversion (term_of c.deref-arg-in-Cast.result.now) c.in-Cast.ty = rw (c.in-Cast.is, c.deref-arg-in-Cast.ensures) refl in
+    on_ok_weaker c.emit_loose-in-Cast.result (one_part c.args.item.now (term_size (scope_of c.args.scope.now).index (term_of c.args.expr.now)) (term_size (scope_of c.args.scope.now).index (term_of c.deref-arg-in-Cast.result.now)) c.emit_loose-in-Cast.new.item (ap (term_size (scope_of c.args.scope.now).index) is)) c.emit_loose-in-Cast.ensures.item
+
+-- ---- what an element leaves
+
+pub emit_read-emit_load-requires : goal.emit_read-emit_load-requires
+emit_read-emit_load-requires t c = own_room c.args.item.now ((index_items (scope_of c.args.scope.now).index (term_of c.args.index.now)) + 1) c.requires.fits
+
+pub emit_read-emit_number-requires : goal.emit_read-emit_number-requires
+emit_read-emit_number-requires t c = (index_below t (term_depth (term_of c.args.index.now)) c.decreases, (c.requires.kind, part_room c.args.item.now (index_items (scope_of c.args.scope.now).index (term_of c.args.index.now)) c.requires.fits))
+
+pub emit_read-emit_load-requires-in-None : goal.emit_read-emit_load-requires-in-None
+emit_read-emit_load-requires-in-None t c = after_room c.args.item.now (index_items (scope_of c.args.scope.now).index (term_of c.args.index.now)) c.emit_number.new.item c.requires.fits c.in_ok-x-in-None.ensures.item
+
+pub emit_read-returns-in-Some-clause-register : goal.emit_read-returns-in-Some-clause-register
+emit_read-returns-in-Some-clause-register t c =
+    let none : index_items (scope_of c.args.scope.now).index (term_of c.args.index.now) ≡ 0 = no_items c.args.places.now (register_at (homes_of c.args.homes.now) (name_of c.args.array.now)) c.in-Some.place.number (option_and_then element_type (lookup (scope_of c.args.scope.now) (name_of c.args.array.now))) (stream_offset (scope_of c.args.scope.now).index (term_of c.args.index.now)) (term_size (scope_of c.args.scope.now).index (term_of c.args.index.now)) (sym c.place_of.ensures ∙ ap (option_map register_number) c.in-Some.is) in
+    IfOk-weaker c.emit_load.result _ _ (λ r p. p ∙ ap (reg_of c.args.places.now) (placed_item c.args.item.now (index_items (scope_of c.args.scope.now).index (term_of c.args.index.now)) none)) c.emit_load.ensures.register
+
+pub emit_read-returns-in-Some-clause-item : goal.emit_read-returns-in-Some-clause-item
+emit_read-returns-in-Some-clause-item t c =
+    let none : index_items (scope_of c.args.scope.now).index (term_of c.args.index.now) ≡ 0 = no_items c.args.places.now (register_at (homes_of c.args.homes.now) (name_of c.args.array.now)) c.in-Some.place.number (option_and_then element_type (lookup (scope_of c.args.scope.now) (name_of c.args.array.now))) (stream_offset (scope_of c.args.scope.now).index (term_of c.args.index.now)) (term_size (scope_of c.args.scope.now).index (term_of c.args.index.now)) (sym c.place_of.ensures ∙ ap (option_map register_number) c.in-Some.is) in
+    on_any c.emit_load.result (placed_items c.args.item.now (index_items (scope_of c.args.scope.now).index (term_of c.args.index.now)) c.emit_load.new.item none c.emit_load.ensures.item)
+
+pub emit_read-returns-in_ok-x-in-None-clause-register : goal.emit_read-returns-in_ok-x-in-None-clause-register
+emit_read-returns-in_ok-x-in-None-clause-register t c = IfOk-weaker c.emit_load-in-None.result _ _ (λ r p. p ∙ ap (reg_of c.args.places.now) c.in_ok-x-in-None.ensures.item) c.emit_load-in-None.ensures.register
+
+pub emit_read-returns-in_ok-x-in-None-clause-item : goal.emit_read-returns-in_ok-x-in-None-clause-item
+emit_read-returns-in_ok-x-in-None-clause-item t c = on_any c.emit_load-in-None.result (indexed_items c.args.item.now (index_items (scope_of c.args.scope.now).index (term_of c.args.index.now)) c.emit_number.new.item c.emit_load-in-None.new.item c.in_ok-x-in-None.ensures.item c.emit_load-in-None.ensures.item)
+
+-- ---- what right sides ask for and leave
+
+pub emit_side-overflow_add-item : goal.emit_side-overflow_add-item
+emit_side-overflow_add-item t c = next_fits c.args.item.now (term_size (scope_of c.args.scope.now).index (term_of c.args.expr.now)) c.requires.fits
+
+pub emit_side-part_side-side-requires : goal.emit_side-part_side-side-requires
+emit_side-part_side-side-requires t c = c.requires.fits
+
+pub emit_side-overflow_add-item-then-fused : goal.emit_side-overflow_add-item-then-fused
+emit_side-overflow_add-item-then-fused t c = whole_fits c.args.item.now (term_size (scope_of c.args.scope.now).index (term_of c.args.expr.now)) c.emit_parts.new.item c.requires.fits c.in_ok-emit_parts-in-None.ensures.item
+
+pub emit_side-returns-in-Some-clause-side : goal.emit_side-returns-in-Some-clause-side
+emit_side-returns-in-Some-clause-side t c = by_number (added_number c.args.op c.args.want (term_of c.args.expr.now)) c.in-Some.number _ _ _ (sym c.added_number.ensures.number ∙ c.in-Some.is)
+
+pub emit_side-returns-in-Some-clause-item : goal.emit_side-returns-in-Some-clause-item
+emit_side-returns-in-Some-clause-item t c = literal_size (scope_of c.args.scope.now).index c.args.item.now (term_of c.args.expr.now) (subst (λ (o : Option ℕ). IsHeld o (term_of c.args.expr.now)) c.in-Some.is c.added_number.ensures.held)
+
+pub emit_side-returns-in_ok-emit_parts-in-None-clause-side : goal.emit_side-returns-in_ok-emit_parts-in-None-clause-side
+emit_side-returns-in_ok-emit_parts-in-None-clause-side t c = c.part_side-side.ensures ∙ by_part (added_number c.args.op c.args.want (term_of c.args.expr.now)) (is_fused (scope_of c.args.scope.now) c.args.op c.args.extent c.args.want (term_of c.args.expr.now)) _ _ (sym c.added_number.ensures.number ∙ c.in-None.is) (sym c.is_fused-fused.ensures.fused ∙ c.if-fused.true)
+
+pub emit_side-returns-in_ok-emit_parts-in-None-clause-item : goal.emit_side-returns-in_ok-emit_parts-in-None-clause-item
+emit_side-returns-in_ok-emit_parts-in-None-clause-item t c = c.in_ok-emit_parts-in-None.ensures.item
+
+pub emit_side-returns-in_ok-r-in-None-clause-side : goal.emit_side-returns-in_ok-r-in-None-clause-side
+emit_side-returns-in_ok-r-in-None-clause-side t c = ap Register c.in_ok-r-in-None.ensures.register ∙ by_register (added_number c.args.op c.args.want (term_of c.args.expr.now)) (is_fused (scope_of c.args.scope.now) c.args.op c.args.extent c.args.want (term_of c.args.expr.now)) _ _ (sym c.added_number.ensures.number ∙ c.in-None.is) (sym c.is_fused-fused.ensures.fused ∙ c.if-fused.false)
+
+pub emit_side-returns-in_ok-r-in-None-clause-item : goal.emit_side-returns-in_ok-r-in-None-clause-item
+emit_side-returns-in_ok-r-in-None-clause-item t c = c.in_ok-r-in-None.ensures.item
+
+-- ---- what both sides of an operator ask for and leave
+
+pub emit_sides-is_led-requires : goal.emit_sides-is_led-requires
+emit_sides-is_led-requires t c = c.requires.fits
+
+pub emit_sides-part_side-side-requires : goal.emit_sides-part_side-side-requires
+emit_sides-part_side-side-requires t c = left_room c.args.item.now (term_size (scope_of c.args.scope.now).index (term_of c.args.left.now)) (term_size (scope_of c.args.scope.now).index (term_of c.args.right.now)) c.requires.fits
+
+pub emit_sides-returns-in_err-emit_parts-clause-side : goal.emit_sides-returns-in_err-emit_parts-clause-side
+emit_sides-returns-in_err-emit_parts-clause-side t c = IfOk-from_err _ _ c.from_residual.ensures.0
+
+pub emit_sides-returns-in_err-emit_parts-clause-other : goal.emit_sides-returns-in_err-emit_parts-clause-other
+emit_sides-returns-in_err-emit_parts-clause-other t c = IfOk-from_err _ _ c.from_residual.ensures.0
+
+pub emit_sides-returns-in_err-emit_parts-clause-item : goal.emit_sides-returns-in_err-emit_parts-clause-item
+emit_sides-returns-in_err-emit_parts-clause-item t c = IfOk-from_err _ _ c.from_residual.ensures.0
+
+pub emit_sides-returns-in_err-emit_parts-clause-emits : goal.emit_sides-returns-in_err-emit_parts-clause-emits
+emit_sides-returns-in_err-emit_parts-clause-emits t c = IfOk-from_err _ _ c.from_residual.ensures.0
+
+pub emit_sides-returns-in_err-r-clause-side : goal.emit_sides-returns-in_err-r-clause-side
+emit_sides-returns-in_err-r-clause-side t c = IfOk-from_err _ _ c.from_residual-in_err-r.ensures.0
+
+pub emit_sides-returns-in_err-r-clause-other : goal.emit_sides-returns-in_err-r-clause-other
+emit_sides-returns-in_err-r-clause-other t c = IfOk-from_err _ _ c.from_residual-in_err-r.ensures.0
+
+pub emit_sides-returns-in_err-r-clause-item : goal.emit_sides-returns-in_err-r-clause-item
+emit_sides-returns-in_err-r-clause-item t c = IfOk-from_err _ _ c.from_residual-in_err-r.ensures.0
+
+pub emit_sides-returns-in_err-r-clause-emits : goal.emit_sides-returns-in_err-r-clause-emits
+emit_sides-returns-in_err-r-clause-emits t c = IfOk-from_err _ _ c.from_residual-in_err-r.ensures.0
+
+pub emit_sides-returns-in_err-r-2-clause-side : goal.emit_sides-returns-in_err-r-2-clause-side
+emit_sides-returns-in_err-r-2-clause-side t c = IfOk-from_err _ _ c.from_residual-in_err-r-2.ensures.0
+
+pub emit_sides-returns-in_err-r-2-clause-other : goal.emit_sides-returns-in_err-r-2-clause-other
+emit_sides-returns-in_err-r-2-clause-other t c = IfOk-from_err _ _ c.from_residual-in_err-r-2.ensures.0
+
+pub emit_sides-returns-in_err-r-2-clause-item : goal.emit_sides-returns-in_err-r-2-clause-item
+emit_sides-returns-in_err-r-2-clause-item t c = IfOk-from_err _ _ c.from_residual-in_err-r-2.ensures.0
+
+pub emit_sides-returns-in_err-r-2-clause-emits : goal.emit_sides-returns-in_err-r-2-clause-emits
+emit_sides-returns-in_err-r-2-clause-emits t c = IfOk-from_err _ _ c.from_residual-in_err-r-2.ensures.0
+
+pub emit_sides-returns-in_err-side-clause-side : goal.emit_sides-returns-in_err-side-clause-side
+emit_sides-returns-in_err-side-clause-side t c = IfOk-from_err _ _ c.from_residual-in_err-side.ensures.0
+
+pub emit_sides-returns-in_err-side-clause-other : goal.emit_sides-returns-in_err-side-clause-other
+emit_sides-returns-in_err-side-clause-other t c = IfOk-from_err _ _ c.from_residual-in_err-side.ensures.0
+
+pub emit_sides-returns-in_err-side-clause-item : goal.emit_sides-returns-in_err-side-clause-item
+emit_sides-returns-in_err-side-clause-item t c = IfOk-from_err _ _ c.from_residual-in_err-side.ensures.0
+
+pub emit_sides-returns-in_err-side-clause-emits : goal.emit_sides-returns-in_err-side-clause-emits
+emit_sides-returns-in_err-side-clause-emits t c = IfOk-from_err _ _ c.from_residual-in_err-side.ensures.0
+
+pub emit_sides-overflow_add-item : goal.emit_sides-overflow_add-item
+emit_sides-overflow_add-item t c = led_fits c.args.item.now (term_size (scope_of c.args.scope.now).index (term_of c.args.left.now)) (term_size (scope_of c.args.scope.now).index (term_of c.args.right.now)) c.emit_parts.new.item c.requires.fits c.in_ok-emit_parts.ensures.item
+
+pub emit_sides-returns-in_ok-r-clause-side : goal.emit_sides-returns-in_ok-r-clause-side
+emit_sides-returns-in_ok-r-clause-side t c = c.part_side-side.ensures ∙ then_is (is_led c.args.places.now (homes_of c.args.homes.now) (scope_of c.args.scope.now) c.args.op c.args.extent c.args.want c.args.item.now (term_of c.args.left.now) (term_of c.args.right.now)) _ _ (sym c.is_led.ensures.led ∙ c.if-is_led.true)
+
+pub emit_sides-returns-in_ok-r-clause-other : goal.emit_sides-returns-in_ok-r-clause-other
+emit_sides-returns-in_ok-r-clause-other t c = c.in_ok-r.ensures.register ∙ ap (λ (b : ℕ). home c.args.places.now (homes_of c.args.homes.now) (scope_of c.args.scope.now).index b (term_of c.args.right.now)) c.in_ok-emit_parts.ensures.item ∙ then_is (is_led c.args.places.now (homes_of c.args.homes.now) (scope_of c.args.scope.now) c.args.op c.args.extent c.args.want c.args.item.now (term_of c.args.left.now) (term_of c.args.right.now)) _ _ (sym c.is_led.ensures.led ∙ c.if-is_led.true)
+
+pub emit_sides-returns-in_ok-r-clause-item : goal.emit_sides-returns-in_ok-r-clause-item
+emit_sides-returns-in_ok-r-clause-item t c = c.in_ok-r.ensures.item ∙ ap (λ (b : ℕ). b + term_size (scope_of c.args.scope.now).index (term_of c.args.right.now)) c.in_ok-emit_parts.ensures.item
+
+pub emit_sides-returns-in_ok-side-clause-side : goal.emit_sides-returns-in_ok-side-clause-side
+emit_sides-returns-in_ok-side-clause-side t c = c.in_ok-side.ensures.side ∙ ap (λ (b : ℕ). right_side c.args.places.now (homes_of c.args.homes.now) (scope_of c.args.scope.now) c.args.op c.args.extent c.args.want b (term_of c.args.right.now)) c.in_ok-r-2.ensures.item ∙ else_is (is_led c.args.places.now (homes_of c.args.homes.now) (scope_of c.args.scope.now) c.args.op c.args.extent c.args.want c.args.item.now (term_of c.args.left.now) (term_of c.args.right.now)) _ _ (sym c.is_led.ensures.led ∙ c.if-is_led.false)
+
+pub emit_sides-returns-in_ok-side-clause-other : goal.emit_sides-returns-in_ok-side-clause-other
+emit_sides-returns-in_ok-side-clause-other t c = c.in_ok-r-2.ensures.register ∙ else_is (is_led c.args.places.now (homes_of c.args.homes.now) (scope_of c.args.scope.now) c.args.op c.args.extent c.args.want c.args.item.now (term_of c.args.left.now) (term_of c.args.right.now)) _ _ (sym c.is_led.ensures.led ∙ c.if-is_led.false)
+
+pub emit_sides-returns-in_ok-side-clause-item : goal.emit_sides-returns-in_ok-side-clause-item
+emit_sides-returns-in_ok-side-clause-item t c = c.in_ok-side.ensures.item ∙ ap (λ (b : ℕ). b + term_size (scope_of c.args.scope.now).index (term_of c.args.right.now)) c.in_ok-r-2.ensures.item
+
+-- ---- what an operator asks for and leaves
+
+pub emit_two-take-r-requires : goal.emit_two-take-r-requires
+emit_two-take-r-requires t c = last_room c.args.item.now (term_size (scope_of c.args.scope.now).index (term_of c.args.left.now)) (term_size (scope_of c.args.scope.now).index (term_of c.args.right.now)) c.emit_sides.new.item c.requires.fits c.in_ok-sides.ensures.item
+
+pub emit_two-returns-clause-register : goal.emit_two-returns-clause-register
+emit_two-returns-clause-register t c = with_value c.want_operator.result c.take-r.result _ c.and.ensures (c.take-r.ensures.register ∙ ap (reg_of c.args.places.now) c.in_ok-sides.ensures.item)
+
+pub emit_two-returns-clause-item : goal.emit_two-returns-clause-item
+emit_two-returns-clause-item t c = on_any c.and.result (two_items c.args.item.now (term_size (scope_of c.args.scope.now).index (term_of c.args.left.now)) (term_size (scope_of c.args.scope.now).index (term_of c.args.right.now)) c.emit_sides.new.item c.take-r.new.item c.in_ok-sides.ensures.item c.take-r.ensures.item)
