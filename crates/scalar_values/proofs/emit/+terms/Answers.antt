@@ -37,9 +37,7 @@ emit_two-returns t c = record {
   item = on_any c.and.result (two_items c.args.item.now (term_size (scope_of c.args.scope.now).index (term_of c.args.left.now)) (term_size (scope_of c.args.scope.now).index (term_of c.args.right.now)) c.emit_sides.new.item c.take-r.new.item c.in_ok-sides.ensures.item c.take-r.ensures.item);
   emits = on_and c.want_operator.result c.take-r.result c.and.ensures c.want_operator.ensures (λ p. record {
     labels = p.labels ∙ c.in_ok-sides.ensures.emits.labels;
-    code = λ rest. p.code rest
-        ∙ c.in_ok-sides.ensures.emits.code _
-        ∙ ap (λ (l : List DraftEntry). c.args.draft.now.entries ++ l)
+    code = λ rest. p.code rest ∙ c.in_ok-sides.ensures.emits.code _ ∙ ap (λ (l : List DraftEntry). c.args.draft.now.entries ++ l)
         (two_is c.args.places.now (homes_of c.args.homes.now) (scope_of c.args.scope.now) c.args.extent c.binary_asks-asked.result.0 c.args.want c.args.item.now c.args.draft.now.labels c.args.op (term_of c.args.left.now) (term_of c.args.right.now) (side_view c.in_ok-sides.sides.0) c.binary_asks-asked.result.1 c.take-r.result.number c.in_ok-sides.sides.1.number rest
         c.binary_asks-asked.ensures.asked c.in_ok-sides.ensures.side c.binary_asks-asked.ensures.settles
         (c.take-r.ensures.register ∙ ap (reg_of c.args.places.now) c.in_ok-sides.ensures.item) c.in_ok-sides.ensures.other);
@@ -54,9 +52,7 @@ emit_sides-returns-in_ok-r t c = record {
   item = c.in_ok-r.ensures.item ∙ ap (λ (b : ℕ). b + term_size (scope_of c.args.scope.now).index (term_of c.args.right.now)) c.in_ok-emit_parts.ensures.item;
   emits = record {
     labels = grind (arith, common_steps);
-    code = λ rest. c.in_ok-r.ensures.emits.code rest
-        ∙ c.in_ok-emit_parts.ensures.emits.code _
-        ∙ ap (λ (l : List DraftEntry). c.args.draft.now.entries ++ l)
+    code = λ rest. c.in_ok-r.ensures.emits.code rest ∙ c.in_ok-emit_parts.ensures.emits.code _ ∙ ap (λ (l : List DraftEntry). c.args.draft.now.entries ++ l)
         (led_sides c.args.places.now (homes_of c.args.homes.now) (scope_of c.args.scope.now) c.args.extent c.args.want c.args.item.now c.args.draft.now.labels (c.emit_parts.new.item + 1) c.emit_parts.new.draft.labels c.args.op (term_of c.args.left.now) (term_of c.args.right.now) rest
         (sym c.is_led.ensures.led ∙ c.if-is_led.true) c.in_ok-emit_parts.ensures.item c.in_ok-emit_parts.ensures.emits.labels);
   };
@@ -70,9 +66,7 @@ emit_sides-returns-in_ok-side t c = record {
   item = c.in_ok-side.ensures.item ∙ ap (λ (b : ℕ). b + term_size (scope_of c.args.scope.now).index (term_of c.args.right.now)) c.in_ok-r-2.ensures.item;
   emits = record {
     labels = grind (arith, common_steps);
-    code = λ rest. c.in_ok-side.ensures.emits.code rest
-        ∙ c.in_ok-r-2.ensures.emits.code _
-        ∙ ap (λ (l : List DraftEntry). c.args.draft.now.entries ++ l)
+    code = λ rest. c.in_ok-side.ensures.emits.code rest ∙ c.in_ok-r-2.ensures.emits.code _ ∙ ap (λ (l : List DraftEntry). c.args.draft.now.entries ++ l)
         (straight_sides c.args.places.now (homes_of c.args.homes.now) (scope_of c.args.scope.now) c.args.extent c.args.want c.args.item.now c.args.draft.now.labels c.emit_loose-else-is_led.new.item c.emit_loose-else-is_led.new.draft.labels c.args.op (term_of c.args.left.now) (term_of c.args.right.now) rest
         (sym c.is_led.ensures.led ∙ c.if-is_led.false) c.in_ok-r-2.ensures.item c.in_ok-r-2.ensures.emits.labels);
   };
@@ -85,10 +79,7 @@ emit_both-returns t c =
       item = on_any c.emit_placed.result (both_items c.args.item.now (term_size (scope_of c.args.scope.now).index (term_of c.args.left.now)) (term_size (scope_of c.args.scope.now).index (term_of c.args.right.now)) c.emit_jump.new.item c.emit_jump-2.new.item c.in_ok-emit_jump.ensures.item c.in_ok-emit_jump-2.ensures.item);
       emits = on_ok c.emit_placed.result c.emit_placed.ensures (λ p. record {
         labels = joined_labels c.args.draft.now.labels c.label.new.self.labels c.emit_jump.new.draft.labels c.emit_jump-2.new.draft.labels c.emit_placed.new.draft.labels _ _ c.in_ok-over.ensures.count c.in_ok-emit_jump.ensures.emits.labels c.in_ok-emit_jump-2.ensures.emits.labels p.labels;
-        code = λ rest. p.code rest
-            ∙ c.in_ok-emit_jump-2.ensures.emits.code _
-            ∙ c.in_ok-emit_jump.ensures.emits.code _
-            ∙ ap (λ (l : List DraftEntry). c.label.new.self.entries ++ l)
+        code = λ rest. p.code rest ∙ c.in_ok-emit_jump-2.ensures.emits.code _ ∙ c.in_ok-emit_jump.ensures.emits.code _ ∙ ap (λ (l : List DraftEntry). c.label.new.self.entries ++ l)
             (both_is c.args.places.now (homes_of c.args.homes.now) (scope_of c.args.scope.now) c.args.sense c.args.to c.in_ok-over.over c.if-sense.first c.args.item.now c.args.draft.now.labels c.emit_jump.new.item c.label.new.self.labels c.emit_jump.new.draft.labels (term_of c.args.left.now) (term_of c.args.right.now) rest
             first c.in_ok-over.ensures.next c.in_ok-over.ensures.count c.in_ok-emit_jump.ensures.item c.in_ok-emit_jump.ensures.emits.labels)
             ∙ ap (λ (l : List DraftEntry). l ++ jump_code c.args.places.now (homes_of c.args.homes.now) (scope_of c.args.scope.now) c.args.sense c.args.to c.args.item.now c.args.draft.now.labels (Both (term_of c.args.left.now) (term_of c.args.right.now)) rest) c.in_ok-over.ensures.entries;
@@ -102,10 +93,7 @@ emit_either-returns t c =
       item = on_any c.emit_placed.result (either_items c.args.item.now (term_size (scope_of c.args.scope.now).index (term_of c.args.left.now)) (term_size (scope_of c.args.scope.now).index (term_of c.args.right.now)) c.emit_jump.new.item c.emit_jump-2.new.item c.in_ok-emit_jump.ensures.item c.in_ok-emit_jump-2.ensures.item);
       emits = on_ok c.emit_placed.result c.emit_placed.ensures (λ p. record {
         labels = joined_labels c.args.draft.now.labels c.label.new.self.labels c.emit_jump.new.draft.labels c.emit_jump-2.new.draft.labels c.emit_placed.new.draft.labels _ _ c.in_ok-over.ensures.count c.in_ok-emit_jump.ensures.emits.labels c.in_ok-emit_jump-2.ensures.emits.labels p.labels;
-        code = λ rest. p.code rest
-            ∙ c.in_ok-emit_jump-2.ensures.emits.code _
-            ∙ c.in_ok-emit_jump.ensures.emits.code _
-            ∙ ap (λ (l : List DraftEntry). c.label.new.self.entries ++ l)
+        code = λ rest. p.code rest ∙ c.in_ok-emit_jump-2.ensures.emits.code _ ∙ c.in_ok-emit_jump.ensures.emits.code _ ∙ ap (λ (l : List DraftEntry). c.label.new.self.entries ++ l)
             (either_is c.args.places.now (homes_of c.args.homes.now) (scope_of c.args.scope.now) c.args.sense c.args.to c.in_ok-over.over c.if-sense.first c.args.item.now c.args.draft.now.labels c.emit_jump.new.item c.label.new.self.labels c.emit_jump.new.draft.labels (term_of c.args.left.now) (term_of c.args.right.now) rest
             first c.in_ok-over.ensures.next c.in_ok-over.ensures.count c.in_ok-emit_jump.ensures.item c.in_ok-emit_jump.ensures.emits.labels)
             ∙ ap (λ (l : List DraftEntry). l ++ jump_code c.args.places.now (homes_of c.args.homes.now) (scope_of c.args.scope.now) c.args.sense c.args.to c.args.item.now c.args.draft.now.labels (Either (term_of c.args.left.now) (term_of c.args.right.now)) rest) c.in_ok-over.ensures.entries;
@@ -126,10 +114,7 @@ emit_loose-returns-in_ok-b-in-Select t c =
       item = on_ok_weaker c.emit_one_of.result (choice_items c.args.item.now (term_size (scope_of c.args.scope.now).index (term_of c.args.expr.now)) (term_size (scope_of c.args.scope.now).index (term_of c.deref-in-Select.result.now)) (term_size (scope_of c.args.scope.now).index (term_of c.deref-in-Select-2.result.now)) (term_size (scope_of c.args.scope.now).index (term_of c.deref-in-Select-3.result.now)) c.emit_loose-in-Select.new.item c.emit_loose-in-Select-2.new.item c.emit_one_of.new.item (ap (term_size (scope_of c.args.scope.now).index) is) c.in_ok-a-in-Select.ensures.item c.in_ok-b-in-Select.ensures.item) c.emit_one_of.ensures.item;
       emits = on_ok c.emit_one_of.result c.emit_one_of.ensures.emits (λ p. record {
         labels = choice_labels s.index c.args.draft.now.labels c.emit_loose-in-Select.new.draft.labels c.emit_loose-in-Select-2.new.draft.labels _ k x y (term_of c.args.expr.now) is first.emits.labels second.emits.labels p.labels;
-        code = λ rest. p.code rest
-            ∙ second.emits.code _
-            ∙ first.emits.code _
-            ∙ ap (λ (l : List DraftEntry). c.args.draft.now.entries ++ l)
+        code = λ rest. p.code rest ∙ second.emits.code _ ∙ first.emits.code _ ∙ ap (λ (l : List DraftEntry). c.args.draft.now.entries ++ l)
             (choice_is c.args.places.now (homes_of c.args.homes.now) s c.args.extent c.args.want c.args.item.now c.args.draft.now.labels c.emit_loose-in-Select.new.item c.emit_loose-in-Select.new.draft.labels c.emit_loose-in-Select-2.new.item c.emit_loose-in-Select-2.new.draft.labels k x y (term_of c.args.expr.now) c.in_ok-a-in-Select.a.number c.in_ok-b-in-Select.b.number rest
             is first.register second.register second.item second.emits.labels first.item first.emits.labels);
       });
@@ -180,8 +165,7 @@ emit_number-returns-in-None t c =
       item = IfOk-equal c.emit_loose.result _ _ _ c.emit_loose.ensures.item (ap (λ (k : ℕ). c.args.item.now + k) (computed_items (stream_offset (scope_of c.args.scope.now).index (term_of c.args.number.now)) (term_size (scope_of c.args.scope.now).index (term_of c.args.number.now)) (sym c.in-None.ensures.word)));
       emits = on_ok c.emit_loose.result c.emit_loose.ensures.emits (λ p. record {
         labels = p.labels ∙ computed_labels (stream_offset s.index e) c.args.draft.now.labels (labels s.index e) (sym c.in-None.ensures.word);
-        code = λ rest. p.code rest
-            ∙ ap (λ (l : List DraftEntry). c.args.draft.now.entries ++ l)
+        code = λ rest. p.code rest ∙ ap (λ (l : List DraftEntry). c.args.draft.now.entries ++ l)
             (index_is c.args.places.now (homes_of c.args.homes.now) (scope_of c.args.scope.now) c.args.item.now c.args.draft.now.labels e c.first-want.result rest (sym c.in-None.ensures.word) (c.first-want.ensures ∙ ap (λ (o : Option Ty). first o (Some ty.U64)) c.own_type.ensures));
       });
     }
@@ -198,9 +182,7 @@ emit_loose-returns-in_ok-a-in-Unary t c =
       item = on_any c.want_unary.result (one_item c.args.item.now (term_size (scope_of c.args.scope.now).index (term_of c.args.expr.now)) (term_size (scope_of c.args.scope.now).index (term_of c.deref-arg.result.now)) c.emit_loose.new.item c.want_unary.new.item (ap (term_size (scope_of c.args.scope.now).index) is) c.in_ok-a-in-Unary.ensures.item c.want_unary.ensures.item);
       emits = on_ok c.want_unary.result c.want_unary.ensures.emits (λ p. record {
         labels = p.labels ∙ c.in_ok-a-in-Unary.ensures.emits.labels ∙ ap (λ (e : Term). c.args.draft.now.labels + labels s.index e) (sym is);
-        code = λ rest. p.code rest
-            ∙ c.in_ok-a-in-Unary.ensures.emits.code _
-            ∙ ap (λ (l : List DraftEntry). c.args.draft.now.entries ++ l)
+        code = λ rest. p.code rest ∙ c.in_ok-a-in-Unary.ensures.emits.code _ ∙ ap (λ (l : List DraftEntry). c.args.draft.now.entries ++ l)
             (unary_is c.args.places.now (homes_of c.args.homes.now) s c.args.extent c.unary_asks-asked.result.0 c.args.want c.args.item.now c.args.draft.now.labels c.in-Unary.op e (term_of c.args.expr.now) c.unary_asks-asked.result.1 (reg_of c.args.places.now c.emit_loose.new.item) c.in_ok-a-in-Unary.a.number rest
             is c.unary_asks-asked.ensures.asked c.unary_asks-asked.ensures.settles (ap (reg_of c.args.places.now) c.in_ok-a-in-Unary.ensures.item) c.in_ok-a-in-Unary.ensures.register);
       });
@@ -217,9 +199,7 @@ emit_loose-returns-in_ok-a-in-Shift t c =
       item = on_any c.want_shift.result (one_item c.args.item.now (term_size (scope_of c.args.scope.now).index (term_of c.args.expr.now)) (term_size (scope_of c.args.scope.now).index (term_of c.deref-arg-in-Shift.result.now)) c.emit_loose-in-Shift.new.item c.want_shift.new.item (ap (term_size (scope_of c.args.scope.now).index) is) c.in_ok-a-in-Shift.ensures.item c.want_shift.ensures.item);
       emits = on_ok c.want_shift.result c.want_shift.ensures.emits (λ p. record {
         labels = p.labels ∙ c.in_ok-a-in-Shift.ensures.emits.labels ∙ ap (λ (e : Term). c.args.draft.now.labels + labels s.index e) (sym is);
-        code = λ rest. p.code rest
-            ∙ c.in_ok-a-in-Shift.ensures.emits.code _
-            ∙ ap (λ (l : List DraftEntry). c.args.draft.now.entries ++ l)
+        code = λ rest. p.code rest ∙ c.in_ok-a-in-Shift.ensures.emits.code _ ∙ ap (λ (l : List DraftEntry). c.args.draft.now.entries ++ l)
             (shift_is c.args.places.now (homes_of c.args.homes.now) s c.args.extent c.shift_asks-asked.result.0 c.args.want c.args.item.now c.args.draft.now.labels c.in-Shift.left_shift e (term_of c.args.expr.now) c.in-Shift.count (to_z w128 (of_z w128 c.in-Shift.count)) c.shift_asks-asked.result.1 (reg_of c.args.places.now c.emit_loose-in-Shift.new.item) c.in_ok-a-in-Shift.a.number rest
             is (to_z-of_z w128 c.in-Shift.count in_range) c.shift_asks-asked.ensures.asked c.shift_asks-asked.ensures.settles (ap (reg_of c.args.places.now) c.in_ok-a-in-Shift.ensures.item) c.in_ok-a-in-Shift.ensures.register);
       });
@@ -235,9 +215,7 @@ emit_loose-returns-in_ok-a-in-Cast t c =
       item = on_any c.want_cast.result (one_item c.args.item.now (term_size (scope_of c.args.scope.now).index (term_of c.args.expr.now)) (term_size (scope_of c.args.scope.now).index (term_of c.deref-arg-in-Cast.result.now)) c.emit_loose-in-Cast.new.item c.want_cast.new.item (ap (term_size (scope_of c.args.scope.now).index) is) c.in_ok-a-in-Cast.ensures.item c.want_cast.ensures.item);
       emits = on_ok c.want_cast.result c.want_cast.ensures.emits (λ p. record {
         labels = p.labels ∙ c.in_ok-a-in-Cast.ensures.emits.labels ∙ ap (λ (e : Term). c.args.draft.now.labels + labels s.index e) (sym is);
-        code = λ rest. p.code rest
-            ∙ c.in_ok-a-in-Cast.ensures.emits.code _
-            ∙ ap (λ (l : List DraftEntry). c.args.draft.now.entries ++ l)
+        code = λ rest. p.code rest ∙ c.in_ok-a-in-Cast.ensures.emits.code _ ∙ ap (λ (l : List DraftEntry). c.args.draft.now.entries ++ l)
             (cast_is c.args.places.now (homes_of c.args.homes.now) s c.args.extent c.converted_extent-asked.result c.own_type-from.result c.args.want c.args.item.now c.args.draft.now.labels e (term_of c.args.expr.now) c.in-Cast.ty c.within_type.result (reg_of c.args.places.now c.emit_loose-in-Cast.new.item) c.in_ok-a-in-Cast.a.number rest
             is c.own_type-from.ensures c.converted_extent-asked.ensures c.within_type.ensures (ap (reg_of c.args.places.now) c.in_ok-a-in-Cast.ensures.item) c.in_ok-a-in-Cast.ensures.register);
       });
@@ -256,9 +234,7 @@ emit_parts-returns-in_ok-emit_loose-in-Binary t c =
       item = on_ok_weaker c.emit_loose-in-Binary.result (two_parts c.args.item.now (term_size (scope_of c.args.scope.now).index (term_of c.args.expr.now)) (term_size (scope_of c.args.scope.now).index (term_of c.deref.result.now)) (term_size (scope_of c.args.scope.now).index (term_of c.deref-in-Binary.result.now)) c.emit_loose.new.item c.emit_loose-in-Binary.new.item (ap (term_size (scope_of c.args.scope.now).index) is) c.in_ok-emit_loose-in-Binary.ensures.item) c.emit_loose-in-Binary.ensures.item;
       emits = on_ok c.emit_loose-in-Binary.result c.emit_loose-in-Binary.ensures.emits (λ p. record {
         labels = operation_labels s.index c.args.draft.now.labels c.emit_loose.new.draft.labels _ c.in-Binary.op x y (term_of c.args.expr.now) is first.emits.labels p.labels;
-        code = λ rest. p.code rest
-            ∙ first.emits.code _
-            ∙ ap (λ (l : List DraftEntry). c.args.draft.now.entries ++ l)
+        code = λ rest. p.code rest ∙ first.emits.code _ ∙ ap (λ (l : List DraftEntry). c.args.draft.now.entries ++ l)
             (parts_binary c.args.places.now (homes_of c.args.homes.now) s c.args.extent c.binary_asks-asked.result.0 c.args.want c.args.item.now c.args.draft.now.labels c.emit_loose.new.item c.emit_loose.new.draft.labels c.in-Binary.op x y (term_of c.args.expr.now) rest
             is c.binary_asks-asked.ensures.asked first.item first.emits.labels);
       });
@@ -274,8 +250,7 @@ emit_parts-returns-in-Shift t c =
       item = on_ok_weaker c.emit_loose-in-Shift.result (one_part c.args.item.now (term_size (scope_of c.args.scope.now).index (term_of c.args.expr.now)) (term_size (scope_of c.args.scope.now).index (term_of c.deref-arg.result.now)) c.emit_loose-in-Shift.new.item (ap (term_size (scope_of c.args.scope.now).index) is)) c.emit_loose-in-Shift.ensures.item;
       emits = on_ok c.emit_loose-in-Shift.result c.emit_loose-in-Shift.ensures.emits (λ p. record {
         labels = p.labels ∙ ap (λ (e : Term). c.args.draft.now.labels + labels s.index e) (sym is);
-        code = λ rest. p.code rest
-            ∙ ap (λ (l : List DraftEntry). c.args.draft.now.entries ++ l)
+        code = λ rest. p.code rest ∙ ap (λ (l : List DraftEntry). c.args.draft.now.entries ++ l)
             (parts_shift c.args.places.now (homes_of c.args.homes.now) s c.args.extent c.shift_asks-asked.result.0 c.args.want c.args.item.now c.args.draft.now.labels c.in-Shift.left_shift e (term_of c.args.expr.now) c.in-Shift.count (to_z w128 (of_z w128 c.in-Shift.count)) rest
             is (to_z-of_z w128 c.in-Shift.count in_range) c.shift_asks-asked.ensures.asked);
       });
@@ -290,8 +265,7 @@ emit_parts-returns-in-Cast t c =
       item = on_ok_weaker c.emit_loose-in-Cast.result (one_part c.args.item.now (term_size (scope_of c.args.scope.now).index (term_of c.args.expr.now)) (term_size (scope_of c.args.scope.now).index (term_of c.deref-arg-in-Cast.result.now)) c.emit_loose-in-Cast.new.item (ap (term_size (scope_of c.args.scope.now).index) is)) c.emit_loose-in-Cast.ensures.item;
       emits = on_ok c.emit_loose-in-Cast.result c.emit_loose-in-Cast.ensures.emits (λ p. record {
         labels = p.labels ∙ ap (λ (e : Term). c.args.draft.now.labels + labels s.index e) (sym is);
-        code = λ rest. p.code rest
-            ∙ ap (λ (l : List DraftEntry). c.args.draft.now.entries ++ l)
+        code = λ rest. p.code rest ∙ ap (λ (l : List DraftEntry). c.args.draft.now.entries ++ l)
             (parts_cast c.args.places.now (homes_of c.args.homes.now) s c.args.extent c.converted_extent-asked.result c.own_type-from.result c.args.want c.args.item.now c.args.draft.now.labels e (term_of c.args.expr.now) c.in-Cast.ty rest
             is c.own_type-from.ensures c.converted_extent-asked.ensures);
       });
@@ -310,9 +284,7 @@ emit_jump-returns-in_ok-a-in-Compare t c =
       item = on_any c.emit_branch.result (compared_size (scope_of c.args.scope.now).index c.args.item.now c.emit_compared.new.item c.in-Compare.op (term_of c.deref.result.now) (term_of c.deref-in-Compare.result.now) (term_of c.args.expr.now) is c.in_ok-a-in-Compare.ensures.item);
       emits = on_ok c.emit_branch.result c.emit_branch.ensures (λ p. record {
         labels = compared_labels s.index c.args.draft.now.labels _ c.in-Compare.op x y (term_of c.args.expr.now) is (p.labels ∙ sides.emits.labels);
-        code = λ rest. p.code rest
-            ∙ sides.emits.code _
-            ∙ ap (λ (l : List DraftEntry). c.args.draft.now.entries ++ l)
+        code = λ rest. p.code rest ∙ sides.emits.code _ ∙ ap (λ (l : List DraftEntry). c.args.draft.now.entries ++ l)
             (compare_is c.args.places.now (homes_of c.args.homes.now) s c.args.sense c.args.to c.side_type-want.result c.args.item.now c.args.draft.now.labels c.in-Compare.op x y (term_of c.args.expr.now) c.compared_number-number.result c.in_ok-a-in-Compare.a.number c.in_ok-a-in-Compare.b.number rest
             is c.side_type-want.ensures c.compared_number-number.ensures.number sides.left sides.right);
       });
@@ -330,10 +302,7 @@ emit_one_of-returns-in_ok-put-in-Compare t c =
       item = on_any c.emit_chosen.result (c.emit_chosen.ensures.item ∙ ap (λ (b : ℕ). b + 1) (compared_size (scope_of c.args.scope.now).index c.args.item.now c.emit_compared.new.item c.in-Compare.op (term_of c.deref.result.now) (term_of c.deref-in-Compare.result.now) (term_of c.args.cond.now) is c.in_ok-p-in-Compare.ensures.item));
       emits = on_ok c.emit_chosen.result c.emit_chosen.ensures.emits (λ p. record {
         labels = chosen_labels s.index c.args.draft.now.labels c.label.new.self.labels c.label-2.new.self.labels c.emit_compared.new.draft.labels c.put.new.self.labels c.emit_chosen.new.draft.labels c.in-Compare.op x y (term_of c.args.cond.now) is c.in_ok-other.ensures.count c.in_ok-end.ensures.count sides.emits.labels c.in_ok-put-in-Compare.ensures.labels p.labels;
-        code = λ rest. p.code rest
-            ∙ c.in_ok-put-in-Compare.ensures.code _
-            ∙ sides.emits.code _
-            ∙ ap (λ (l : List DraftEntry). c.label-2.new.self.entries ++ l)
+        code = λ rest. p.code rest ∙ c.in_ok-put-in-Compare.ensures.code _ ∙ sides.emits.code _ ∙ ap (λ (l : List DraftEntry). c.label-2.new.self.entries ++ l)
             (chosen_is c.args.places.now (homes_of c.args.homes.now) s c.side_type-want.result c.args.item.now c.args.draft.now.labels c.label-2.new.self.labels c.in-Compare.op x y (term_of c.args.cond.now) c.compared_number-number.result (word_view c.compare_word.result) c.in_ok-p-in-Compare.p.number c.in_ok-p-in-Compare.q.number (reg_of c.args.places.now (c.emit_compared.new.item + 1)) c.args.a.number c.args.b.number rest
             is c.side_type-want.ensures c.compared_number-number.ensures.number c.compare_word.ensures.word sides.left sides.right
             (two_more c.args.draft.now.labels c.label.new.self.labels c.label-2.new.self.labels c.in_ok-other.ensures.count c.in_ok-end.ensures.count)
@@ -402,8 +371,7 @@ emit_read-returns-in-Some t c =
       item = on_any c.emit_load.result (placed_items c.args.item.now (index_items (scope_of c.args.scope.now).index (term_of c.args.index.now)) c.emit_load.new.item none c.emit_load.ensures.item);
       emits = on_ok c.emit_load.result c.emit_load.ensures.emits (λ p. record {
         labels = p.labels ∙ placed_labels L hs s c.args.draft.now.labels a e c.in-Some.place.number place;
-        code = λ rest. p.code rest
-            ∙ ap (λ (l : List DraftEntry). c.args.draft.now.entries ++ l)
+        code = λ rest. p.code rest ∙ ap (λ (l : List DraftEntry). c.args.draft.now.entries ++ l)
             (placed_is L hs s c.args.extent None c.args.item.now c.args.draft.now.labels a e c.array_type-ty.result (reg_of L c.args.item.now) c.in-Some.place.number c.index.result.number rest c.array_type-ty.ensures place refl c.index.ensures);
       });
     }
@@ -422,9 +390,7 @@ emit_read-returns-in_ok-x-in-None t c =
       item = on_any c.emit_load-in-None.result (indexed_items c.args.item.now (index_items (scope_of c.args.scope.now).index (term_of c.args.index.now)) c.emit_number.new.item c.emit_load-in-None.new.item c.in_ok-x-in-None.ensures.item c.emit_load-in-None.ensures.item);
       emits = on_ok c.emit_load-in-None.result c.emit_load-in-None.ensures.emits (λ p. record {
         labels = p.labels ∙ index.emits.labels;
-        code = λ rest. p.code rest
-            ∙ index.emits.code _
-            ∙ ap (λ (l : List DraftEntry). c.args.draft.now.entries ++ l)
+        code = λ rest. p.code rest ∙ index.emits.code _ ∙ ap (λ (l : List DraftEntry). c.args.draft.now.entries ++ l)
             (computed_is L hs s c.args.extent None c.args.item.now c.args.draft.now.labels a e c.array_type-ty.result (reg_of L c.emit_number.new.item) c.register_at.result.number c.in_ok-x-in-None.x.number rest c.array_type-ty.ensures place (ap (reg_of L) index.item) c.register_at.ensures index.register);
       });
     }
@@ -691,9 +657,7 @@ emit_compared-returns-in_ok-b-in-None t c = record {
   item = c.in_ok-b-in-None.ensures.item ∙ ap (λ (b : ℕ). b + term_size (scope_of c.args.scope.now).index (term_of c.args.right.now)) c.in_ok-a.ensures.item;
   emits = record {
     labels = c.in_ok-b-in-None.ensures.emits.labels ∙ ap (λ (n : ℕ). n + labels (scope_of c.args.scope.now).index (term_of c.args.right.now)) c.in_ok-a.ensures.emits.labels;
-    code = λ rest. c.in_ok-b-in-None.ensures.emits.code rest
-        ∙ c.in_ok-a.ensures.emits.code _
-        ∙ ap (λ (l : List DraftEntry). c.args.draft.now.entries ++ l)
+    code = λ rest. c.in_ok-b-in-None.ensures.emits.code rest ∙ c.in_ok-a.ensures.emits.code _ ∙ ap (λ (l : List DraftEntry). c.args.draft.now.entries ++ l)
         (compared_both c.args.places.now (homes_of c.args.homes.now) (scope_of c.args.scope.now) c.args.want c.args.item.now c.args.draft.now.labels c.emit_loose.new.item c.emit_loose.new.draft.labels (term_of c.args.left.now) (term_of c.args.right.now) c.args.number rest c.in-None.is c.in_ok-a.ensures.item c.in_ok-a.ensures.emits.labels);
   };
 }
