@@ -1,2 +1,3 @@
 pub mod OperatorCode
 pub mod TermItems
+pub mod TermCalls

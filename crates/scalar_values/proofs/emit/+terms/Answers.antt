@@ -1,7 +1,6 @@
 use Rattle.std.proofs.lemmas.Result.{IfOk-from_err, IfOk-weaker, IfOk-equal, on_ok_weaker}
-use Rattle.std.proofs.lemmas.Grind.{common_steps}
 use Rattle.std.proofs.Common.{◌≡◌, ℕ, ◌+◌, ◌<◌, ◌^◌, Bool, List, ◌++◌, refl, sym, ap, subst, ◌∙◌, arith, rules}
-use Rattle.std.specs.Prelude.{if◌then◌else◌}
+use Rattle.std.specs.Prelude.{if◌then◌else◌, max}
 use Rattle.kernel_tree.specs.Plain.{Term, Literal, Variable, Element, Unary, Operation, Shift, Conversion, Choice, Comparison, Both, Either, Not, name_of, term_of}
 use mir.Syntax.{w128}
 use mir.Val.{SFits, of_z, to_z}
@@ -28,6 +27,7 @@ use Rattle.value_code.proofs.TermCode.{unary_is, shift_is, cast_is, parts_binary
 use Rattle.value_code.proofs.IndexCode.{index_is}
 use Rattle.value_code.proofs.NearOffsets.{no_items}
 use Rattle.scalar_values.proofs.TermItems.{on_any, with_value, then_is, else_is, left_below, right_below, truth_below, value_below, index_below, own_room, next_fits, whole_fits, part_room, after_room, left_room, right_room, led_fits, last_fits, last_room, either_left_room, either_mark_fits, either_right_room, either_last_fits, compared_room, compared_fits, truth_fits, not_fits, chosen_fits, chosen_room, still_given, over_given, both_given, either_given, compared_given, other_given, end_given, end_next, one_item, one_part, two_parts, two_items, both_items, either_items, choice_items, indexed_items, placed_item, placed_items, literal_size, computed_items, computed_home, offset_items, offset_home, by_number, by_part, by_register, loose_as, jump_as, loose_literal, loose_variable, compared_both}
+use Rattle.scalar_values.proofs.TermCalls.{unary_call, unary_room, shift_call, shift_room, cast_call, cast_room, two_call, read_call, yes_call, no_call, one_of_call, left_call, right_call, compare_call, chosen_call, both_call, either_call, not_call, sides_below, left_side_below, right_side_below, side_below, left_compared_below, right_compared_below, left_compared_room, two_labels}
 use Rattle.scalar_values.proofs.emit.+terms.Goals as goal
 use Rattle.scalar_values.proofs.emit.+terms.Goals.{emit_both-then-sense, emit_both-else-sense, emit_either-then-sense, emit_either-else-sense}
 
@@ -51,7 +51,7 @@ emit_sides-returns-in_ok-r t c = record {
   other = c.in_ok-r.ensures.register ∙ ap (λ (b : ℕ). home c.args.places.now (homes_of c.args.homes.now) (scope_of c.args.scope.now).index b (term_of c.args.right.now)) c.in_ok-emit_parts.ensures.item ∙ then_is (is_led c.args.places.now (homes_of c.args.homes.now) (scope_of c.args.scope.now) c.args.op c.args.extent c.args.want c.args.item.now (term_of c.args.left.now) (term_of c.args.right.now)) _ _ (sym c.is_led.ensures.led ∙ c.if-is_led.true);
   item = c.in_ok-r.ensures.item ∙ ap (λ (b : ℕ). b + term_size (scope_of c.args.scope.now).index (term_of c.args.right.now)) c.in_ok-emit_parts.ensures.item;
   emits = record {
-    labels = grind (arith, common_steps);
+    labels = two_labels c.args.draft.now.labels (labels (scope_of c.args.scope.now).index (term_of c.args.left.now)) (labels (scope_of c.args.scope.now).index (term_of c.args.right.now)) c.emit_parts.new.draft.labels _ c.in_ok-emit_parts.ensures.emits.labels c.in_ok-r.ensures.emits.labels;
     code = λ rest. c.in_ok-r.ensures.emits.code rest ∙ c.in_ok-emit_parts.ensures.emits.code _ ∙ ap (λ (l : List DraftEntry). c.args.draft.now.entries ++ l)
         (led_sides c.args.places.now (homes_of c.args.homes.now) (scope_of c.args.scope.now) c.args.extent c.args.want c.args.item.now c.args.draft.now.labels (c.emit_parts.new.item + 1) c.emit_parts.new.draft.labels c.args.op (term_of c.args.left.now) (term_of c.args.right.now) rest
         (sym c.is_led.ensures.led ∙ c.if-is_led.true) c.in_ok-emit_parts.ensures.item c.in_ok-emit_parts.ensures.emits.labels);
@@ -65,7 +65,7 @@ emit_sides-returns-in_ok-side t c = record {
   other = c.in_ok-r-2.ensures.register ∙ else_is (is_led c.args.places.now (homes_of c.args.homes.now) (scope_of c.args.scope.now) c.args.op c.args.extent c.args.want c.args.item.now (term_of c.args.left.now) (term_of c.args.right.now)) _ _ (sym c.is_led.ensures.led ∙ c.if-is_led.false);
   item = c.in_ok-side.ensures.item ∙ ap (λ (b : ℕ). b + term_size (scope_of c.args.scope.now).index (term_of c.args.right.now)) c.in_ok-r-2.ensures.item;
   emits = record {
-    labels = grind (arith, common_steps);
+    labels = two_labels c.args.draft.now.labels (labels (scope_of c.args.scope.now).index (term_of c.args.left.now)) (labels (scope_of c.args.scope.now).index (term_of c.args.right.now)) c.emit_loose-else-is_led.new.draft.labels _ c.in_ok-r-2.ensures.emits.labels c.in_ok-side.ensures.emits.labels;
     code = λ rest. c.in_ok-side.ensures.emits.code rest ∙ c.in_ok-r-2.ensures.emits.code _ ∙ ap (λ (l : List DraftEntry). c.args.draft.now.entries ++ l)
         (straight_sides c.args.places.now (homes_of c.args.homes.now) (scope_of c.args.scope.now) c.args.extent c.args.want c.args.item.now c.args.draft.now.labels c.emit_loose-else-is_led.new.item c.emit_loose-else-is_led.new.draft.labels c.args.op (term_of c.args.left.now) (term_of c.args.right.now) rest
         (sym c.is_led.ensures.led ∙ c.if-is_led.false) c.in_ok-r-2.ensures.item c.in_ok-r-2.ensures.emits.labels);
@@ -398,141 +398,91 @@ emit_read-returns-in_ok-x-in-None t c =
 -- ---- what calls ask for: operands below what is emitted, of their kinds, whose items are numbered
 
 pub emit_loose-emit_loose-requires : goal.emit_loose-emit_loose-requires
-emit_loose-emit_loose-requires t c =
-    let is : term_of c.args.expr.now ≡ Unary c.in-Unary.op (term_of c.deref-arg.result.now) = rw (c.in-Unary.is, c.deref-arg.ensures) refl in
-    (omega (arith, ap term_depth is), (subst IsValue is c.requires.kind, omega (arith, ap (term_size (scope_of c.args.scope.now).index) is, c.requires.fits)))
+emit_loose-emit_loose-requires t c = unary_call (scope_of c.args.scope.now).index t c.args.item.now c.in-Unary.op (term_of c.args.expr.now) (term_of c.deref-arg.result.now) (rw (c.in-Unary.is, c.deref-arg.ensures) refl) c.decreases c.requires.kind c.requires.fits
 
 pub emit_loose-want_unary-requires : goal.emit_loose-want_unary-requires
-emit_loose-want_unary-requires t c =
-    let is : term_of c.args.expr.now ≡ Unary c.in-Unary.op (term_of c.deref-arg.result.now) = rw (c.in-Unary.is, c.deref-arg.ensures) refl in
-    omega (arith, c.in_ok-a-in-Unary.ensures.item, ap (term_size (scope_of c.args.scope.now).index) is, c.requires.fits)
+emit_loose-want_unary-requires t c = unary_room (scope_of c.args.scope.now).index c.args.item.now c.emit_loose.new.item c.in-Unary.op (term_of c.args.expr.now) (term_of c.deref-arg.result.now) (rw (c.in-Unary.is, c.deref-arg.ensures) refl) c.in_ok-a-in-Unary.ensures.item c.requires.fits
 
 pub emit_loose-emit_loose-requires-in-Shift : goal.emit_loose-emit_loose-requires-in-Shift
-emit_loose-emit_loose-requires-in-Shift t c =
-    let is : term_of c.args.expr.now ≡ Shift c.in-Shift.left_shift (term_of c.deref-arg-in-Shift.result.now) c.in-Shift.count = rw (c.in-Shift.is, c.deref-arg-in-Shift.ensures) refl in
-    (omega (arith, ap term_depth is), (subst IsValue is c.requires.kind, omega (arith, ap (term_size (scope_of c.args.scope.now).index) is, c.requires.fits)))
+emit_loose-emit_loose-requires-in-Shift t c = shift_call (scope_of c.args.scope.now).index t c.args.item.now c.in-Shift.left_shift c.in-Shift.count (term_of c.args.expr.now) (term_of c.deref-arg-in-Shift.result.now) (rw (c.in-Shift.is, c.deref-arg-in-Shift.ensures) refl) c.decreases c.requires.kind c.requires.fits
 
 pub emit_loose-want_shift-requires : goal.emit_loose-want_shift-requires
-emit_loose-want_shift-requires t c =
-    let is : term_of c.args.expr.now ≡ Shift c.in-Shift.left_shift (term_of c.deref-arg-in-Shift.result.now) c.in-Shift.count = rw (c.in-Shift.is, c.deref-arg-in-Shift.ensures) refl in
-    omega (arith, c.in_ok-a-in-Shift.ensures.item, ap (term_size (scope_of c.args.scope.now).index) is, c.requires.fits)
+emit_loose-want_shift-requires t c = shift_room (scope_of c.args.scope.now).index c.args.item.now c.emit_loose-in-Shift.new.item c.in-Shift.left_shift c.in-Shift.count (term_of c.args.expr.now) (term_of c.deref-arg-in-Shift.result.now) (rw (c.in-Shift.is, c.deref-arg-in-Shift.ensures) refl) c.in_ok-a-in-Shift.ensures.item c.requires.fits
 
 pub emit_loose-emit_loose-requires-in-Cast : goal.emit_loose-emit_loose-requires-in-Cast
-emit_loose-emit_loose-requires-in-Cast t c =
-    let is : term_of c.args.expr.now ≡ Conversion (term_of c.deref-arg-in-Cast.result.now) c.in-Cast.ty = rw (c.in-Cast.is, c.deref-arg-in-Cast.ensures) refl in
-    (omega (arith, ap term_depth is), (subst IsValue is c.requires.kind, omega (arith, ap (term_size (scope_of c.args.scope.now).index) is, c.requires.fits)))
+emit_loose-emit_loose-requires-in-Cast t c = cast_call (scope_of c.args.scope.now).index t c.args.item.now c.in-Cast.ty (term_of c.args.expr.now) (term_of c.deref-arg-in-Cast.result.now) (rw (c.in-Cast.is, c.deref-arg-in-Cast.ensures) refl) c.decreases c.requires.kind c.requires.fits
 
 pub emit_loose-want_cast-requires : goal.emit_loose-want_cast-requires
-emit_loose-want_cast-requires t c =
-    let is : term_of c.args.expr.now ≡ Conversion (term_of c.deref-arg-in-Cast.result.now) c.in-Cast.ty = rw (c.in-Cast.is, c.deref-arg-in-Cast.ensures) refl in
-    omega (arith, c.in_ok-a-in-Cast.ensures.item, ap (term_size (scope_of c.args.scope.now).index) is, c.requires.fits)
+emit_loose-want_cast-requires t c = cast_room (scope_of c.args.scope.now).index c.args.item.now c.emit_loose-in-Cast.new.item c.in-Cast.ty (term_of c.args.expr.now) (term_of c.deref-arg-in-Cast.result.now) (rw (c.in-Cast.is, c.deref-arg-in-Cast.ensures) refl) c.in_ok-a-in-Cast.ensures.item c.requires.fits
 
 pub emit_loose-emit_two-requires : goal.emit_loose-emit_two-requires
-emit_loose-emit_two-requires t c =
-    let is : term_of c.args.expr.now ≡ Operation c.in-Binary.op (term_of c.deref.result.now) (term_of c.deref-in-Binary.result.now) = rw (c.in-Binary.is, c.deref.ensures, c.deref-in-Binary.ensures) refl in
-    let both = subst IsValue is c.requires.kind in
-    (omega (arith, ap term_depth is), (both.0, (both.1, omega (arith, ap (term_size (scope_of c.args.scope.now).index) is, c.requires.fits))))
+emit_loose-emit_two-requires t c = two_call (scope_of c.args.scope.now).index t c.args.item.now c.in-Binary.op (term_of c.args.expr.now) (term_of c.deref.result.now) (term_of c.deref-in-Binary.result.now) (rw (c.in-Binary.is, c.deref.ensures, c.deref-in-Binary.ensures) refl) c.decreases c.requires.kind c.requires.fits
 
 pub emit_loose-emit_read-requires : goal.emit_loose-emit_read-requires
-emit_loose-emit_read-requires t c =
-    let is : term_of c.args.expr.now ≡ Element (name_of c.in-Read.array) (term_of c.deref-in-Read.result.now) = rw (c.in-Read.is, c.deref-in-Read.ensures) refl in
-    (omega (arith, ap term_depth is), (subst IsValue is c.requires.kind, omega (arith, ap (term_size (scope_of c.args.scope.now).index) is, c.requires.fits)))
+emit_loose-emit_read-requires t c = read_call (scope_of c.args.scope.now).index t c.args.item.now (name_of c.in-Read.array) (term_of c.args.expr.now) (term_of c.deref-in-Read.result.now) (rw (c.in-Read.is, c.deref-in-Read.ensures) refl) c.decreases c.requires.kind c.requires.fits
 
 pub emit_loose-emit_loose-requires-in-Select : goal.emit_loose-emit_loose-requires-in-Select
-emit_loose-emit_loose-requires-in-Select t c =
-    let is : term_of c.args.expr.now ≡ Choice (term_of c.in-Select.cond.value) (term_of c.deref-in-Select.result.now) (term_of c.in-Select.no.value) = rw (c.in-Select.is, c.deref-in-Select.ensures) refl in
-    let parts = subst IsValue is c.requires.kind in
-    (omega (arith, ap term_depth is), (parts.0, omega (arith, ap (term_size (scope_of c.args.scope.now).index) is, c.requires.fits)))
+emit_loose-emit_loose-requires-in-Select t c = yes_call (scope_of c.args.scope.now).index t c.args.item.now (term_of c.args.expr.now) (term_of c.in-Select.cond.value) (term_of c.deref-in-Select.result.now) (term_of c.in-Select.no.value) (rw (c.in-Select.is, c.deref-in-Select.ensures) refl) c.decreases c.requires.kind c.requires.fits
 
 pub emit_loose-emit_loose-requires-in-Select-2 : goal.emit_loose-emit_loose-requires-in-Select-2
-emit_loose-emit_loose-requires-in-Select-2 t c =
-    let is : term_of c.args.expr.now ≡ Choice (term_of c.in-Select.cond.value) (term_of c.deref-in-Select.result.now) (term_of c.deref-in-Select-2.result.now) = rw (c.in-Select.is, c.deref-in-Select.ensures, c.deref-in-Select-2.ensures) refl in
-    let parts = subst IsValue is c.requires.kind in
-    (omega (arith, ap term_depth is), (parts.1, omega (arith, c.in_ok-a-in-Select.ensures.item, ap (term_size (scope_of c.args.scope.now).index) is, c.requires.fits)))
+emit_loose-emit_loose-requires-in-Select-2 t c = no_call (scope_of c.args.scope.now).index t c.args.item.now c.emit_loose-in-Select.new.item (term_of c.args.expr.now) (term_of c.in-Select.cond.value) (term_of c.deref-in-Select.result.now) (term_of c.deref-in-Select-2.result.now) (rw (c.in-Select.is, c.deref-in-Select.ensures, c.deref-in-Select-2.ensures) refl) c.decreases c.requires.kind c.requires.fits c.in_ok-a-in-Select.ensures.item
 
 pub emit_loose-emit_one_of-requires : goal.emit_loose-emit_one_of-requires
-emit_loose-emit_one_of-requires t c =
-    let is : term_of c.args.expr.now ≡ Choice (term_of c.deref-in-Select-3.result.now) (term_of c.deref-in-Select.result.now) (term_of c.deref-in-Select-2.result.now) = rw (c.in-Select.is, c.deref-in-Select.ensures, c.deref-in-Select-2.ensures, c.deref-in-Select-3.ensures) refl in
-    let parts = subst IsValue is c.requires.kind in
-    (omega (arith, ap term_depth is), (parts.2, omega (arith, c.in_ok-a-in-Select.ensures.item, c.in_ok-b-in-Select.ensures.item, ap (term_size (scope_of c.args.scope.now).index) is, c.requires.fits)))
+emit_loose-emit_one_of-requires t c = one_of_call (scope_of c.args.scope.now).index t c.args.item.now c.emit_loose-in-Select.new.item c.emit_loose-in-Select-2.new.item (term_of c.args.expr.now) (term_of c.deref-in-Select-3.result.now) (term_of c.deref-in-Select.result.now) (term_of c.deref-in-Select-2.result.now) (rw (c.in-Select.is, c.deref-in-Select.ensures, c.deref-in-Select-2.ensures, c.deref-in-Select-3.ensures) refl) c.decreases c.requires.kind c.requires.fits c.in_ok-a-in-Select.ensures.item c.in_ok-b-in-Select.ensures.item
 
 pub emit_two-emit_sides-requires : goal.emit_two-emit_sides-requires
-emit_two-emit_sides-requires t c = (omega arith, (c.requires.left, (c.requires.right, c.requires.fits)))
+emit_two-emit_sides-requires t c = (sides_below t (max (term_depth (term_of c.args.left.now)) (term_depth (term_of c.args.right.now))) c.decreases, (c.requires.left, (c.requires.right, c.requires.fits)))
 
 pub emit_sides-emit_parts-requires : goal.emit_sides-emit_parts-requires
-emit_sides-emit_parts-requires t c = (omega arith, (c.requires.left, (subst (λ (b : Bool). HasParts b (term_of c.args.left.now)) c.if-is_led.true c.is_led.ensures.parts, omega (arith, c.requires.fits))))
+emit_sides-emit_parts-requires t c = (left_side_below t (term_depth (term_of c.args.left.now)) (term_depth (term_of c.args.right.now)) c.decreases, (c.requires.left, (subst (λ (b : Bool). HasParts b (term_of c.args.left.now)) c.if-is_led.true c.is_led.ensures.parts, left_room c.args.item.now (term_size (scope_of c.args.scope.now).index (term_of c.args.left.now)) (term_size (scope_of c.args.scope.now).index (term_of c.args.right.now)) c.requires.fits)))
 
 pub emit_sides-emit_loose-requires : goal.emit_sides-emit_loose-requires
-emit_sides-emit_loose-requires t c = (omega arith, (c.requires.right, omega (arith, c.in_ok-emit_parts.ensures.item, c.requires.fits)))
+emit_sides-emit_loose-requires t c = (right_side_below t (term_depth (term_of c.args.left.now)) (term_depth (term_of c.args.right.now)) c.decreases, (c.requires.right, right_room c.args.item.now (term_size (scope_of c.args.scope.now).index (term_of c.args.left.now)) (term_size (scope_of c.args.scope.now).index (term_of c.args.right.now)) (c.emit_parts.new.item + 1) c.requires.fits c.in_ok-emit_parts.ensures.item))
 
 pub emit_sides-emit_loose-requires-else-is_led : goal.emit_sides-emit_loose-requires-else-is_led
-emit_sides-emit_loose-requires-else-is_led t c = (omega arith, (c.requires.left, omega (arith, c.requires.fits)))
+emit_sides-emit_loose-requires-else-is_led t c = (left_side_below t (term_depth (term_of c.args.left.now)) (term_depth (term_of c.args.right.now)) c.decreases, (c.requires.left, left_room c.args.item.now (term_size (scope_of c.args.scope.now).index (term_of c.args.left.now)) (term_size (scope_of c.args.scope.now).index (term_of c.args.right.now)) c.requires.fits))
 
 pub emit_sides-emit_side-requires : goal.emit_sides-emit_side-requires
-emit_sides-emit_side-requires t c = (omega arith, (c.requires.right, omega (arith, c.in_ok-r-2.ensures.item, c.requires.fits)))
+emit_sides-emit_side-requires t c = (side_below t (term_depth (term_of c.args.left.now)) (term_depth (term_of c.args.right.now)) c.decreases, (c.requires.right, right_room c.args.item.now (term_size (scope_of c.args.scope.now).index (term_of c.args.left.now)) (term_size (scope_of c.args.scope.now).index (term_of c.args.right.now)) c.emit_loose-else-is_led.new.item c.requires.fits c.in_ok-r-2.ensures.item))
 
 pub emit_side-emit_parts-requires : goal.emit_side-emit_parts-requires
-emit_side-emit_parts-requires t c = (omega arith, (c.requires.kind, (subst (λ (b : Bool). HasParts b (term_of c.args.expr.now)) c.if-fused.true c.is_fused-fused.ensures.parts, c.requires.fits)))
+emit_side-emit_parts-requires t c = (value_below t (term_depth (term_of c.args.expr.now)) c.decreases, (c.requires.kind, (subst (λ (b : Bool). HasParts b (term_of c.args.expr.now)) c.if-fused.true c.is_fused-fused.ensures.parts, c.requires.fits)))
 
 pub emit_side-emit_loose-requires : goal.emit_side-emit_loose-requires
-emit_side-emit_loose-requires t c = (omega arith, (c.requires.kind, c.requires.fits))
+emit_side-emit_loose-requires t c = (value_below t (term_depth (term_of c.args.expr.now)) c.decreases, (c.requires.kind, c.requires.fits))
 
 pub emit_parts-emit_loose-requires : goal.emit_parts-emit_loose-requires
-emit_parts-emit_loose-requires t c =
-    let is : term_of c.args.expr.now ≡ Operation c.in-Binary.op (term_of c.deref.result.now) (term_of c.deref-in-Binary.result.now) = rw (c.in-Binary.is, c.deref.ensures, c.deref-in-Binary.ensures) refl in
-    let both = subst IsValue is c.requires.kind in
-    (omega (arith, ap term_depth is), (both.0, omega (arith, ap (term_size (scope_of c.args.scope.now).index) is, c.requires.fits)))
+emit_parts-emit_loose-requires t c = left_call (scope_of c.args.scope.now).index t c.args.item.now c.in-Binary.op (term_of c.args.expr.now) (term_of c.deref.result.now) (term_of c.deref-in-Binary.result.now) (rw (c.in-Binary.is, c.deref.ensures, c.deref-in-Binary.ensures) refl) c.decreases c.requires.kind c.requires.fits
 
 pub emit_parts-emit_loose-requires-in-Binary : goal.emit_parts-emit_loose-requires-in-Binary
-emit_parts-emit_loose-requires-in-Binary t c =
-    let is : term_of c.args.expr.now ≡ Operation c.in-Binary.op (term_of c.deref.result.now) (term_of c.deref-in-Binary.result.now) = rw (c.in-Binary.is, c.deref.ensures, c.deref-in-Binary.ensures) refl in
-    let both = subst IsValue is c.requires.kind in
-    (omega (arith, ap term_depth is), (both.1, omega (arith, c.in_ok-emit_loose-in-Binary.ensures.item, ap (term_size (scope_of c.args.scope.now).index) is, c.requires.fits)))
+emit_parts-emit_loose-requires-in-Binary t c = right_call (scope_of c.args.scope.now).index t c.args.item.now c.emit_loose.new.item c.in-Binary.op (term_of c.args.expr.now) (term_of c.deref.result.now) (term_of c.deref-in-Binary.result.now) (rw (c.in-Binary.is, c.deref.ensures, c.deref-in-Binary.ensures) refl) c.decreases c.requires.kind c.requires.fits c.in_ok-emit_loose-in-Binary.ensures.item
 
 pub emit_parts-emit_loose-requires-in-Shift : goal.emit_parts-emit_loose-requires-in-Shift
-emit_parts-emit_loose-requires-in-Shift t c =
-    let is : term_of c.args.expr.now ≡ Shift c.in-Shift.left_shift (term_of c.deref-arg.result.now) c.in-Shift.count = rw (c.in-Shift.is, c.deref-arg.ensures) refl in
-    (omega (arith, ap term_depth is), (subst IsValue is c.requires.kind, omega (arith, ap (term_size (scope_of c.args.scope.now).index) is, c.requires.fits)))
+emit_parts-emit_loose-requires-in-Shift t c = shift_call (scope_of c.args.scope.now).index t c.args.item.now c.in-Shift.left_shift c.in-Shift.count (term_of c.args.expr.now) (term_of c.deref-arg.result.now) (rw (c.in-Shift.is, c.deref-arg.ensures) refl) c.decreases c.requires.kind c.requires.fits
 
 pub emit_parts-emit_loose-requires-in-Cast : goal.emit_parts-emit_loose-requires-in-Cast
-emit_parts-emit_loose-requires-in-Cast t c =
-    let is : term_of c.args.expr.now ≡ Conversion (term_of c.deref-arg-in-Cast.result.now) c.in-Cast.ty = rw (c.in-Cast.is, c.deref-arg-in-Cast.ensures) refl in
-    (omega (arith, ap term_depth is), (subst IsValue is c.requires.kind, omega (arith, ap (term_size (scope_of c.args.scope.now).index) is, c.requires.fits)))
+emit_parts-emit_loose-requires-in-Cast t c = cast_call (scope_of c.args.scope.now).index t c.args.item.now c.in-Cast.ty (term_of c.args.expr.now) (term_of c.deref-arg-in-Cast.result.now) (rw (c.in-Cast.is, c.deref-arg-in-Cast.ensures) refl) c.decreases c.requires.kind c.requires.fits
 
 pub emit_compared-emit_loose-requires : goal.emit_compared-emit_loose-requires
-emit_compared-emit_loose-requires t c = (omega arith, (c.requires.left, omega (arith, c.requires.fits)))
+emit_compared-emit_loose-requires t c = (left_compared_below t (term_depth (term_of c.args.left.now)) (term_depth (term_of c.args.right.now)) c.decreases, (c.requires.left, left_compared_room c.args.item.now (term_size (scope_of c.args.scope.now).index (term_of c.args.left.now)) (term_size (scope_of c.args.scope.now).index (term_of c.args.right.now)) c.requires.fits))
 
 pub emit_compared-emit_loose-requires-in-None : goal.emit_compared-emit_loose-requires-in-None
-emit_compared-emit_loose-requires-in-None t c = (omega arith, (c.requires.right, omega (arith, c.in_ok-a.ensures.item, c.requires.fits)))
+emit_compared-emit_loose-requires-in-None t c = (right_compared_below t (term_depth (term_of c.args.left.now)) (term_depth (term_of c.args.right.now)) c.decreases, (c.requires.right, compared_room c.args.item.now (term_size (scope_of c.args.scope.now).index (term_of c.args.left.now)) (term_size (scope_of c.args.scope.now).index (term_of c.args.right.now)) c.emit_loose.new.item c.requires.fits c.in_ok-a.ensures.item))
 
 pub emit_jump-emit_compared-requires : goal.emit_jump-emit_compared-requires
-emit_jump-emit_compared-requires t c =
-    let is : term_of c.args.expr.now ≡ Comparison c.in-Compare.op (term_of c.deref.result.now) (term_of c.deref-in-Compare.result.now) = rw (c.in-Compare.is, c.deref.ensures, c.deref-in-Compare.ensures) refl in
-    let both = subst IsTruth is c.requires.kind in
-    (omega (arith, ap term_depth is), (both.0, (both.1, (c.compared_number-number.ensures.held, omega (arith, ap (term_size (scope_of c.args.scope.now).index) is, c.requires.fits)))))
+emit_jump-emit_compared-requires t c = compare_call (scope_of c.args.scope.now).index t c.args.item.now c.in-Compare.op (term_of c.args.expr.now) (term_of c.deref.result.now) (term_of c.deref-in-Compare.result.now) (rw (c.in-Compare.is, c.deref.ensures, c.deref-in-Compare.ensures) refl) c.decreases c.requires.kind c.compared_number-number.ensures.held c.requires.fits
 
 pub emit_one_of-emit_compared-requires : goal.emit_one_of-emit_compared-requires
-emit_one_of-emit_compared-requires t c =
-    let is : term_of c.args.cond.now ≡ Comparison c.in-Compare.op (term_of c.deref.result.now) (term_of c.deref-in-Compare.result.now) = rw (c.in-Compare.is, c.deref.ensures, c.deref-in-Compare.ensures) refl in
-    let both = subst IsTruth is c.requires.kind in
-    (omega (arith, ap term_depth is), (both.0, (both.1, (c.compared_number-number.ensures.held, omega (arith, ap (term_size (scope_of c.args.scope.now).index) is, c.requires.fits)))))
+emit_one_of-emit_compared-requires t c = chosen_call (scope_of c.args.scope.now).index t c.args.item.now c.in-Compare.op (term_of c.args.cond.now) (term_of c.deref.result.now) (term_of c.deref-in-Compare.result.now) (rw (c.in-Compare.is, c.deref.ensures, c.deref-in-Compare.ensures) refl) c.decreases c.requires.kind c.compared_number-number.ensures.held c.requires.fits
 
 pub emit_jump-emit_both-requires : goal.emit_jump-emit_both-requires
-emit_jump-emit_both-requires t c =
-    let is : term_of c.args.expr.now ≡ Both (term_of c.deref-in-And.result.now) (term_of c.deref-in-And-2.result.now) = rw (c.in-And.is, c.deref-in-And.ensures, c.deref-in-And-2.ensures) refl in
-    let both = subst IsTruth is c.requires.kind in
-    (omega (arith, ap term_depth is), (c.requires.given, (both.0, (both.1, omega (arith, ap (term_size (scope_of c.args.scope.now).index) is, c.requires.fits)))))
+emit_jump-emit_both-requires t c = both_call (scope_of c.args.scope.now).index t c.args.item.now (term_of c.args.expr.now) (term_of c.deref-in-And.result.now) (term_of c.deref-in-And-2.result.now) (rw (c.in-And.is, c.deref-in-And.ensures, c.deref-in-And-2.ensures) refl) c.decreases c.requires.given c.requires.kind c.requires.fits
 
 pub emit_jump-emit_either-requires : goal.emit_jump-emit_either-requires
-emit_jump-emit_either-requires t c =
-    let is : term_of c.args.expr.now ≡ Either (term_of c.deref-in-Or.result.now) (term_of c.deref-in-Or-2.result.now) = rw (c.in-Or.is, c.deref-in-Or.ensures, c.deref-in-Or-2.ensures) refl in
-    let both = subst IsTruth is c.requires.kind in
-    (omega (arith, ap term_depth is), (c.requires.given, (both.0, (both.1, omega (arith, ap (term_size (scope_of c.args.scope.now).index) is, c.requires.fits)))))
+emit_jump-emit_either-requires t c = either_call (scope_of c.args.scope.now).index t c.args.item.now (term_of c.args.expr.now) (term_of c.deref-in-Or.result.now) (term_of c.deref-in-Or-2.result.now) (rw (c.in-Or.is, c.deref-in-Or.ensures, c.deref-in-Or-2.ensures) refl) c.decreases c.requires.given c.requires.kind c.requires.fits
 
 pub emit_jump-emit_jump-requires : goal.emit_jump-emit_jump-requires
-emit_jump-emit_jump-requires t c =
-    let is : term_of c.args.expr.now ≡ Not (term_of c.deref-in-Not.result.now) = rw (c.in-Not.is, c.deref-in-Not.ensures) refl in
-    (omega (arith, ap term_depth is), (c.requires.given, (subst IsTruth is c.requires.kind, omega (arith, ap (term_size (scope_of c.args.scope.now).index) is, c.requires.fits))))
+emit_jump-emit_jump-requires t c = not_call (scope_of c.args.scope.now).index t c.args.item.now (term_of c.args.expr.now) (term_of c.deref-in-Not.result.now) (rw (c.in-Not.is, c.deref-in-Not.ensures) refl) c.decreases c.requires.given c.requires.kind c.requires.fits
 
 pub emit_both-returns-in_err-over : goal.emit_both-returns-in_err-over
 emit_both-returns-in_err-over t c = record { item = IfOk-from_err _ _ c.from_residual.ensures.0; emits = IfOk-from_err _ _ c.from_residual.ensures.0 }
