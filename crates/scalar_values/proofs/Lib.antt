@@ -1,3 +1,4 @@
 pub mod OperatorCode
 pub mod TermItems
 pub mod TermCalls
+pub mod TermKinds

@@ -28,6 +28,7 @@ use Rattle.value_code.proofs.IndexCode.{index_is}
 use Rattle.value_code.proofs.NearOffsets.{no_items}
 use Rattle.scalar_values.proofs.TermItems.{on_any, with_value, then_is, else_is, left_below, right_below, truth_below, value_below, index_below, own_room, next_fits, whole_fits, part_room, after_room, left_room, right_room, led_fits, last_fits, last_room, either_left_room, either_mark_fits, either_right_room, either_last_fits, compared_room, compared_fits, truth_fits, not_fits, chosen_fits, chosen_room, still_given, over_given, both_given, either_given, compared_given, other_given, end_given, end_next, one_item, one_part, two_parts, two_items, both_items, either_items, choice_items, indexed_items, placed_item, placed_items, literal_size, computed_items, computed_home, offset_items, offset_home, by_number, by_part, by_register, loose_as, jump_as, loose_literal, loose_variable, compared_both}
 use Rattle.scalar_values.proofs.TermCalls.{unary_call, unary_room, shift_call, shift_room, cast_call, cast_room, two_call, read_call, yes_call, no_call, one_of_call, left_call, right_call, compare_call, chosen_call, both_call, either_call, not_call, sides_below, left_side_below, right_side_below, side_below, left_compared_below, right_compared_below, left_compared_room, two_labels}
+use Rattle.scalar_values.proofs.TermKinds.{no_truth, no_value, no_parts, no_flags, picked_is, picked_labels}
 use Rattle.scalar_values.proofs.emit.+terms.Goals as goal
 use Rattle.scalar_values.proofs.emit.+terms.Goals.{emit_both-then-sense, emit_both-else-sense, emit_either-then-sense, emit_either-else-sense}
 
@@ -53,8 +54,7 @@ emit_sides-returns-in_ok-r t c = record {
   emits = record {
     labels = two_labels c.args.draft.now.labels (labels (scope_of c.args.scope.now).index (term_of c.args.left.now)) (labels (scope_of c.args.scope.now).index (term_of c.args.right.now)) c.emit_parts.new.draft.labels _ c.in_ok-emit_parts.ensures.emits.labels c.in_ok-r.ensures.emits.labels;
     code = λ rest. c.in_ok-r.ensures.emits.code rest ∙ c.in_ok-emit_parts.ensures.emits.code _ ∙ ap (λ (l : List DraftEntry). c.args.draft.now.entries ++ l)
-        (led_sides c.args.places.now (homes_of c.args.homes.now) (scope_of c.args.scope.now) c.args.extent c.args.want c.args.item.now c.args.draft.now.labels (c.emit_parts.new.item + 1) c.emit_parts.new.draft.labels c.args.op (term_of c.args.left.now) (term_of c.args.right.now) rest
-        (sym c.is_led.ensures.led ∙ c.if-is_led.true) c.in_ok-emit_parts.ensures.item c.in_ok-emit_parts.ensures.emits.labels);
+        (led_sides c.args.places.now (homes_of c.args.homes.now) (scope_of c.args.scope.now) c.args.extent c.args.want c.args.item.now c.args.draft.now.labels (c.emit_parts.new.item + 1) c.emit_parts.new.draft.labels c.args.op (term_of c.args.left.now) (term_of c.args.right.now) rest (sym c.is_led.ensures.led ∙ c.if-is_led.true) c.in_ok-emit_parts.ensures.item c.in_ok-emit_parts.ensures.emits.labels);
   };
 }
 
@@ -67,8 +67,7 @@ emit_sides-returns-in_ok-side t c = record {
   emits = record {
     labels = two_labels c.args.draft.now.labels (labels (scope_of c.args.scope.now).index (term_of c.args.left.now)) (labels (scope_of c.args.scope.now).index (term_of c.args.right.now)) c.emit_loose-else-is_led.new.draft.labels _ c.in_ok-r-2.ensures.emits.labels c.in_ok-side.ensures.emits.labels;
     code = λ rest. c.in_ok-side.ensures.emits.code rest ∙ c.in_ok-r-2.ensures.emits.code _ ∙ ap (λ (l : List DraftEntry). c.args.draft.now.entries ++ l)
-        (straight_sides c.args.places.now (homes_of c.args.homes.now) (scope_of c.args.scope.now) c.args.extent c.args.want c.args.item.now c.args.draft.now.labels c.emit_loose-else-is_led.new.item c.emit_loose-else-is_led.new.draft.labels c.args.op (term_of c.args.left.now) (term_of c.args.right.now) rest
-        (sym c.is_led.ensures.led ∙ c.if-is_led.false) c.in_ok-r-2.ensures.item c.in_ok-r-2.ensures.emits.labels);
+        (straight_sides c.args.places.now (homes_of c.args.homes.now) (scope_of c.args.scope.now) c.args.extent c.args.want c.args.item.now c.args.draft.now.labels c.emit_loose-else-is_led.new.item c.emit_loose-else-is_led.new.draft.labels c.args.op (term_of c.args.left.now) (term_of c.args.right.now) rest (sym c.is_led.ensures.led ∙ c.if-is_led.false) c.in_ok-r-2.ensures.item c.in_ok-r-2.ensures.emits.labels);
   };
 }
 
@@ -80,8 +79,7 @@ emit_both-returns t c =
       emits = on_ok c.emit_placed.result c.emit_placed.ensures (λ p. record {
         labels = joined_labels c.args.draft.now.labels c.label.new.self.labels c.emit_jump.new.draft.labels c.emit_jump-2.new.draft.labels c.emit_placed.new.draft.labels _ _ c.in_ok-over.ensures.count c.in_ok-emit_jump.ensures.emits.labels c.in_ok-emit_jump-2.ensures.emits.labels p.labels;
         code = λ rest. p.code rest ∙ c.in_ok-emit_jump-2.ensures.emits.code _ ∙ c.in_ok-emit_jump.ensures.emits.code _ ∙ ap (λ (l : List DraftEntry). c.label.new.self.entries ++ l)
-            (both_is c.args.places.now (homes_of c.args.homes.now) (scope_of c.args.scope.now) c.args.sense c.args.to c.in_ok-over.over c.if-sense.first c.args.item.now c.args.draft.now.labels c.emit_jump.new.item c.label.new.self.labels c.emit_jump.new.draft.labels (term_of c.args.left.now) (term_of c.args.right.now) rest
-            first c.in_ok-over.ensures.next c.in_ok-over.ensures.count c.in_ok-emit_jump.ensures.item c.in_ok-emit_jump.ensures.emits.labels)
+            (both_is c.args.places.now (homes_of c.args.homes.now) (scope_of c.args.scope.now) c.args.sense c.args.to c.in_ok-over.over c.if-sense.first c.args.item.now c.args.draft.now.labels c.emit_jump.new.item c.label.new.self.labels c.emit_jump.new.draft.labels (term_of c.args.left.now) (term_of c.args.right.now) rest first c.in_ok-over.ensures.next c.in_ok-over.ensures.count c.in_ok-emit_jump.ensures.item c.in_ok-emit_jump.ensures.emits.labels)
             ∙ ap (λ (l : List DraftEntry). l ++ jump_code c.args.places.now (homes_of c.args.homes.now) (scope_of c.args.scope.now) c.args.sense c.args.to c.args.item.now c.args.draft.now.labels (Both (term_of c.args.left.now) (term_of c.args.right.now)) rest) c.in_ok-over.ensures.entries;
       });
     }
@@ -94,8 +92,7 @@ emit_either-returns t c =
       emits = on_ok c.emit_placed.result c.emit_placed.ensures (λ p. record {
         labels = joined_labels c.args.draft.now.labels c.label.new.self.labels c.emit_jump.new.draft.labels c.emit_jump-2.new.draft.labels c.emit_placed.new.draft.labels _ _ c.in_ok-over.ensures.count c.in_ok-emit_jump.ensures.emits.labels c.in_ok-emit_jump-2.ensures.emits.labels p.labels;
         code = λ rest. p.code rest ∙ c.in_ok-emit_jump-2.ensures.emits.code _ ∙ c.in_ok-emit_jump.ensures.emits.code _ ∙ ap (λ (l : List DraftEntry). c.label.new.self.entries ++ l)
-            (either_is c.args.places.now (homes_of c.args.homes.now) (scope_of c.args.scope.now) c.args.sense c.args.to c.in_ok-over.over c.if-sense.first c.args.item.now c.args.draft.now.labels c.emit_jump.new.item c.label.new.self.labels c.emit_jump.new.draft.labels (term_of c.args.left.now) (term_of c.args.right.now) rest
-            first c.in_ok-over.ensures.next c.in_ok-over.ensures.count c.in_ok-emit_jump.ensures.item c.in_ok-emit_jump.ensures.emits.labels)
+            (either_is c.args.places.now (homes_of c.args.homes.now) (scope_of c.args.scope.now) c.args.sense c.args.to c.in_ok-over.over c.if-sense.first c.args.item.now c.args.draft.now.labels c.emit_jump.new.item c.label.new.self.labels c.emit_jump.new.draft.labels (term_of c.args.left.now) (term_of c.args.right.now) rest first c.in_ok-over.ensures.next c.in_ok-over.ensures.count c.in_ok-emit_jump.ensures.item c.in_ok-emit_jump.ensures.emits.labels)
             ∙ ap (λ (l : List DraftEntry). l ++ jump_code c.args.places.now (homes_of c.args.homes.now) (scope_of c.args.scope.now) c.args.sense c.args.to c.args.item.now c.args.draft.now.labels (Either (term_of c.args.left.now) (term_of c.args.right.now)) rest) c.in_ok-over.ensures.entries;
       });
     }
@@ -115,8 +112,7 @@ emit_loose-returns-in_ok-b-in-Select t c =
       emits = on_ok c.emit_one_of.result c.emit_one_of.ensures.emits (λ p. record {
         labels = choice_labels s.index c.args.draft.now.labels c.emit_loose-in-Select.new.draft.labels c.emit_loose-in-Select-2.new.draft.labels _ k x y (term_of c.args.expr.now) is first.emits.labels second.emits.labels p.labels;
         code = λ rest. p.code rest ∙ second.emits.code _ ∙ first.emits.code _ ∙ ap (λ (l : List DraftEntry). c.args.draft.now.entries ++ l)
-            (choice_is c.args.places.now (homes_of c.args.homes.now) s c.args.extent c.args.want c.args.item.now c.args.draft.now.labels c.emit_loose-in-Select.new.item c.emit_loose-in-Select.new.draft.labels c.emit_loose-in-Select-2.new.item c.emit_loose-in-Select-2.new.draft.labels k x y (term_of c.args.expr.now) c.in_ok-a-in-Select.a.number c.in_ok-b-in-Select.b.number rest
-            is first.register second.register second.item second.emits.labels first.item first.emits.labels);
+            (choice_is c.args.places.now (homes_of c.args.homes.now) s c.args.extent c.args.want c.args.item.now c.args.draft.now.labels c.emit_loose-in-Select.new.item c.emit_loose-in-Select.new.draft.labels c.emit_loose-in-Select-2.new.item c.emit_loose-in-Select-2.new.draft.labels k x y (term_of c.args.expr.now) c.in_ok-a-in-Select.a.number c.in_ok-b-in-Select.b.number rest is first.register second.register second.item second.emits.labels first.item first.emits.labels);
       });
     }
 
@@ -183,8 +179,7 @@ emit_loose-returns-in_ok-a-in-Unary t c =
       emits = on_ok c.want_unary.result c.want_unary.ensures.emits (λ p. record {
         labels = p.labels ∙ c.in_ok-a-in-Unary.ensures.emits.labels ∙ ap (λ (e : Term). c.args.draft.now.labels + labels s.index e) (sym is);
         code = λ rest. p.code rest ∙ c.in_ok-a-in-Unary.ensures.emits.code _ ∙ ap (λ (l : List DraftEntry). c.args.draft.now.entries ++ l)
-            (unary_is c.args.places.now (homes_of c.args.homes.now) s c.args.extent c.unary_asks-asked.result.0 c.args.want c.args.item.now c.args.draft.now.labels c.in-Unary.op e (term_of c.args.expr.now) c.unary_asks-asked.result.1 (reg_of c.args.places.now c.emit_loose.new.item) c.in_ok-a-in-Unary.a.number rest
-            is c.unary_asks-asked.ensures.asked c.unary_asks-asked.ensures.settles (ap (reg_of c.args.places.now) c.in_ok-a-in-Unary.ensures.item) c.in_ok-a-in-Unary.ensures.register);
+            (unary_is c.args.places.now (homes_of c.args.homes.now) s c.args.extent c.unary_asks-asked.result.0 c.args.want c.args.item.now c.args.draft.now.labels c.in-Unary.op e (term_of c.args.expr.now) c.unary_asks-asked.result.1 (reg_of c.args.places.now c.emit_loose.new.item) c.in_ok-a-in-Unary.a.number rest is c.unary_asks-asked.ensures.asked c.unary_asks-asked.ensures.settles (ap (reg_of c.args.places.now) c.in_ok-a-in-Unary.ensures.item) c.in_ok-a-in-Unary.ensures.register);
       });
     }
 
@@ -216,8 +211,7 @@ emit_loose-returns-in_ok-a-in-Cast t c =
       emits = on_ok c.want_cast.result c.want_cast.ensures.emits (λ p. record {
         labels = p.labels ∙ c.in_ok-a-in-Cast.ensures.emits.labels ∙ ap (λ (e : Term). c.args.draft.now.labels + labels s.index e) (sym is);
         code = λ rest. p.code rest ∙ c.in_ok-a-in-Cast.ensures.emits.code _ ∙ ap (λ (l : List DraftEntry). c.args.draft.now.entries ++ l)
-            (cast_is c.args.places.now (homes_of c.args.homes.now) s c.args.extent c.converted_extent-asked.result c.own_type-from.result c.args.want c.args.item.now c.args.draft.now.labels e (term_of c.args.expr.now) c.in-Cast.ty c.within_type.result (reg_of c.args.places.now c.emit_loose-in-Cast.new.item) c.in_ok-a-in-Cast.a.number rest
-            is c.own_type-from.ensures c.converted_extent-asked.ensures c.within_type.ensures (ap (reg_of c.args.places.now) c.in_ok-a-in-Cast.ensures.item) c.in_ok-a-in-Cast.ensures.register);
+            (cast_is c.args.places.now (homes_of c.args.homes.now) s c.args.extent c.converted_extent-asked.result c.own_type-from.result c.args.want c.args.item.now c.args.draft.now.labels e (term_of c.args.expr.now) c.in-Cast.ty c.within_type.result (reg_of c.args.places.now c.emit_loose-in-Cast.new.item) c.in_ok-a-in-Cast.a.number rest is c.own_type-from.ensures c.converted_extent-asked.ensures c.within_type.ensures (ap (reg_of c.args.places.now) c.in_ok-a-in-Cast.ensures.item) c.in_ok-a-in-Cast.ensures.register);
       });
     }
 
@@ -235,8 +229,7 @@ emit_parts-returns-in_ok-emit_loose-in-Binary t c =
       emits = on_ok c.emit_loose-in-Binary.result c.emit_loose-in-Binary.ensures.emits (λ p. record {
         labels = operation_labels s.index c.args.draft.now.labels c.emit_loose.new.draft.labels _ c.in-Binary.op x y (term_of c.args.expr.now) is first.emits.labels p.labels;
         code = λ rest. p.code rest ∙ first.emits.code _ ∙ ap (λ (l : List DraftEntry). c.args.draft.now.entries ++ l)
-            (parts_binary c.args.places.now (homes_of c.args.homes.now) s c.args.extent c.binary_asks-asked.result.0 c.args.want c.args.item.now c.args.draft.now.labels c.emit_loose.new.item c.emit_loose.new.draft.labels c.in-Binary.op x y (term_of c.args.expr.now) rest
-            is c.binary_asks-asked.ensures.asked first.item first.emits.labels);
+            (parts_binary c.args.places.now (homes_of c.args.homes.now) s c.args.extent c.binary_asks-asked.result.0 c.args.want c.args.item.now c.args.draft.now.labels c.emit_loose.new.item c.emit_loose.new.draft.labels c.in-Binary.op x y (term_of c.args.expr.now) rest is c.binary_asks-asked.ensures.asked first.item first.emits.labels);
       });
     }
 
@@ -266,8 +259,7 @@ emit_parts-returns-in-Cast t c =
       emits = on_ok c.emit_loose-in-Cast.result c.emit_loose-in-Cast.ensures.emits (λ p. record {
         labels = p.labels ∙ ap (λ (e : Term). c.args.draft.now.labels + labels s.index e) (sym is);
         code = λ rest. p.code rest ∙ ap (λ (l : List DraftEntry). c.args.draft.now.entries ++ l)
-            (parts_cast c.args.places.now (homes_of c.args.homes.now) s c.args.extent c.converted_extent-asked.result c.own_type-from.result c.args.want c.args.item.now c.args.draft.now.labels e (term_of c.args.expr.now) c.in-Cast.ty rest
-            is c.own_type-from.ensures c.converted_extent-asked.ensures);
+            (parts_cast c.args.places.now (homes_of c.args.homes.now) s c.args.extent c.converted_extent-asked.result c.own_type-from.result c.args.want c.args.item.now c.args.draft.now.labels e (term_of c.args.expr.now) c.in-Cast.ty rest is c.own_type-from.ensures c.converted_extent-asked.ensures);
       });
     }
 
@@ -285,8 +277,7 @@ emit_jump-returns-in_ok-a-in-Compare t c =
       emits = on_ok c.emit_branch.result c.emit_branch.ensures (λ p. record {
         labels = compared_labels s.index c.args.draft.now.labels _ c.in-Compare.op x y (term_of c.args.expr.now) is (p.labels ∙ sides.emits.labels);
         code = λ rest. p.code rest ∙ sides.emits.code _ ∙ ap (λ (l : List DraftEntry). c.args.draft.now.entries ++ l)
-            (compare_is c.args.places.now (homes_of c.args.homes.now) s c.args.sense c.args.to c.side_type-want.result c.args.item.now c.args.draft.now.labels c.in-Compare.op x y (term_of c.args.expr.now) c.compared_number-number.result c.in_ok-a-in-Compare.a.number c.in_ok-a-in-Compare.b.number rest
-            is c.side_type-want.ensures c.compared_number-number.ensures.number sides.left sides.right);
+            (compare_is c.args.places.now (homes_of c.args.homes.now) s c.args.sense c.args.to c.side_type-want.result c.args.item.now c.args.draft.now.labels c.in-Compare.op x y (term_of c.args.expr.now) c.compared_number-number.result c.in_ok-a-in-Compare.a.number c.in_ok-a-in-Compare.b.number rest is c.side_type-want.ensures c.compared_number-number.ensures.number sides.left sides.right);
       });
     }
 
@@ -780,3 +771,27 @@ emit_sides-overflow_add-item t c = led_fits c.args.item.now (term_size (scope_of
 
 pub emit_two-take-r-requires : goal.emit_two-take-r-requires
 emit_two-take-r-requires t c = last_room c.args.item.now (term_size (scope_of c.args.scope.now).index (term_of c.args.left.now)) (term_size (scope_of c.args.scope.now).index (term_of c.args.right.now)) c.emit_sides.new.item c.requires.fits c.in_ok-sides.ensures.item
+
+pub emit_one_of-returns-in_ok-emit_jump-in_default : goal.emit_one_of-returns-in_ok-emit_jump-in_default
+emit_one_of-returns-in_ok-emit_jump-in_default t c =
+    let jump = c.in_ok-emit_jump-in_default.ensures in
+    record {
+      register = IfOk-weaker c.emit_pick.result _ _ (λ r p. p ∙ ap (reg_of c.args.places.now) jump.item) c.emit_pick.ensures.register;
+      item = on_any c.emit_pick.result (c.emit_pick.ensures.item ∙ ap (λ (b : ℕ). b + 1) jump.item);
+      emits = on_ok c.emit_pick.result c.emit_pick.ensures.emits (λ p. record {
+        labels = picked_labels c.args.draft.now.labels (labels (scope_of c.args.scope.now).index (term_of c.args.cond.now)) c.label.new.self.labels c.label-2.new.self.labels c.emit_jump.new.draft.labels c.emit_pick.new.draft.labels c.in_ok-other.ensures.count c.in_ok-end.ensures.count jump.emits.labels p.labels;
+        code = λ rest. p.code rest ∙ jump.emits.code _ ∙ ap (λ (l : List DraftEntry). c.label-2.new.self.entries ++ l) (picked_is c.args.places.now (homes_of c.args.homes.now) (scope_of c.args.scope.now) c.args.item.now c.args.draft.now.labels c.label-2.new.self.labels c.emit_jump.new.item c.in_ok-other.other (term_of c.args.cond.now) c.args.a.number c.args.b.number rest (no_flags (scope_of c.args.scope.now) c.args.cond.now c.in_default.not-Compare) c.in_ok-other.ensures.next (two_more c.args.draft.now.labels c.label.new.self.labels c.label-2.new.self.labels c.in_ok-other.ensures.count c.in_ok-end.ensures.count) jump.item)
+            ∙ ap (λ (l : List DraftEntry). l ++ one_of_code c.args.places.now (homes_of c.args.homes.now) (scope_of c.args.scope.now) c.args.item.now c.args.draft.now.labels (term_of c.args.cond.now) c.args.a.number c.args.b.number rest) (c.in_ok-end.ensures.entries ∙ c.in_ok-other.ensures.entries);
+      });
+    }
+
+-- ---- what a `match` has left over
+
+pub emit_jump-unreachable-requires : goal.emit_jump-unreachable-requires
+emit_jump-unreachable-requires t c = no_truth c.args.expr.now c.requires.kind c.in_default.not-Compare c.in_default.not-And c.in_default.not-Or c.in_default.not-Not
+
+pub emit_loose-unreachable-requires : goal.emit_loose-unreachable-requires
+emit_loose-unreachable-requires t c = no_value c.args.expr.now c.requires.kind c.in_default.not-Lit c.in_default.not-Var c.in_default.not-Read c.in_default.not-Unary c.in_default.not-Binary c.in_default.not-Shift c.in_default.not-Cast c.in_default.not-Select
+
+pub emit_parts-unreachable-requires : goal.emit_parts-unreachable-requires
+emit_parts-unreachable-requires t c = no_parts c.args.expr.now c.requires.parts c.in_default.not-Binary c.in_default.not-Shift c.in_default.not-Cast
