@@ -1,6 +1,6 @@
 -- Where the items of an expression stand, for its parts one after another: sums of their counts, written as facts on
 -- numbers.
-use Rattle.std.proofs.Common.{◌≡◌, ℕ, ◌+◌, ◌*◌, ◌<◌, ◌^◌, ◌++◌, Bool, true, false, List, Option, Some, None, refl, sym, ap, ap₂, subst, ◌∙◌, arith}
+use Rattle.std.proofs.Common.{◌≡◌, ℕ, ◌+◌, ◌*◌, ◌<◌, ◌^◌, ◌++◌, Bool, true, false, List, Option, Some, None, refl, sym, ap, ap₂, ◌∙◌, arith}
 use Rattle.std.specs.Prelude.{ℤ, max, if◌then◌else◌, option_map, IfOk, OnOk}
 use Rattle.std.specs.Result.{result_and}
 use Rattle.std.specs.declared.result.Result.{Result}
@@ -121,9 +121,6 @@ pub chosen_room : (b x y size item : ℕ) → size ≡ x + y + 1 → b + (size +
 chosen_room b x y size item is h e = omega arith
 
 -- ---- labels that are given
-
-pub label_given : (other n a : ℕ) → other ≡ n → a ≡ n + 1 → other < a
-label_given other n a e f = omega arith
 
 pub still_given : (to n a b p : ℕ) → to < n → a ≡ n + 1 → b ≡ a + p → to < b
 still_given to n a b p h e f = omega arith

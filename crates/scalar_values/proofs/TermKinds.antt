@@ -1,5 +1,5 @@
 -- Expressions of no other kind: what a `match` on one has left over.
-use Rattle.std.proofs.Common.{◌≡◌, ℕ, ◌+◌, Bool, true, false, List, Option, Some, None, Box, Global, refl, arith}
+use Rattle.std.proofs.Common.{◌≡◌, ℕ, ◌+◌, Bool, true, false, List, Option, None, Box, Global, refl, arith}
 use Rattle.std.specs.Prelude.{ℤ}
 use Rattle.kernel_tree.specs.declared.name.Name.{Name}
 use Rattle.kernel_tree.specs.declared.ops.Ty.{Ty}

@@ -1,5 +1,5 @@
 use Rattle.std.proofs.lemmas.Result.{IfOk-from_err, IfOk-weaker, IfOk-equal, on_ok_weaker}
-use Rattle.std.proofs.Common.{◌≡◌, ℕ, ◌+◌, ◌<◌, ◌^◌, Bool, List, ◌++◌, refl, sym, ap, subst, ◌∙◌, arith, rules}
+use Rattle.std.proofs.Common.{◌≡◌, ℕ, ◌+◌, ◌<◌, ◌^◌, Bool, List, ◌++◌, refl, sym, ap, subst, ◌∙◌, rules}
 use Rattle.std.specs.Prelude.{if◌then◌else◌, max}
 use Rattle.kernel_tree.specs.Plain.{Term, Literal, Variable, Element, Unary, Operation, Shift, Conversion, Choice, Comparison, Both, Either, Not, name_of, term_of}
 use mir.Syntax.{w128}
@@ -13,7 +13,6 @@ use Rattle.label_fix.specs.Draft.{word_view}
 use Rattle.kernel_tree.specs.declared.ops.Ty.TheVariants as ty
 use Rattle.kernel_tree.specs.Items.{term_size, index_items, stream_offset}
 use Rattle.kernel_tree.specs.Limits.{term_depth}
-use Rattle.kernel_tree.specs.Kinds.{IsValue, IsTruth}
 use Rattle.kernel_tree.specs.Typing.{first, lookup, element_type}
 use Rattle.std.specs.Prelude.{Option, None, Some, option_map, option_and_then}
 use Rattle.kernel_tree.specs.declared.ops.Ty.{Ty}
