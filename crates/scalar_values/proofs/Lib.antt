@@ -1,1 +1,4 @@
 pub mod OperatorCode
+pub mod TermItems
+pub mod TermCalls
+pub mod TermKinds
