@@ -1,5 +1,5 @@
 -- What a load leaves, of the right shape, and what the rows of loads and stores say of it.
-use Rattle.std.proofs.Common.{[], ◌∷◌, get_or, ◌≡◌, ℕ, Bool, List, Option, Some, None, Result, Ok, refl, sym, ap, ◌∙◌, subst}
+use Rattle.std.proofs.Common.{[], ◌∷◌, get_or, ◌≡◌, ℕ, Bool, List, Option, Some, None, Result, Ok, Err, refl, sym, ap, ◌∙◌, subst}
 use Rattle.std.specs.Prelude.{slice_set}
 use Rattle.guest_types.specs.declared.memory.AccessFault.{AccessFault}
 use Rattle.guest_types.specs.declared.row.LoadMode.{LoadMode}
@@ -17,6 +17,7 @@ use Rattle.a64_machine.specs.Cores.{VectorState, state_of}
 use Rattle.guest_types.specs.declared.register.ZReg.{ZReg}
 use Rattle.guest_types.specs.declared.predicate.PReg.{PReg}
 use Rattle.std.proofs.Math.ListN.{get_or-map}
+use Rattle.std.proofs.lemmas.List.{set-get_or}
 use Rattle.machine_model.specs.Machine.{x_at, x_or_sp}
 use Rattle.machine_model.specs.VectorEffects.{do_vector}
 use Rattle.machine_model.specs.VectorEffects as effects
@@ -93,6 +94,20 @@ load_done mode dtype base index memory z p ffr vl stops g n ffr2 stops2 out e =
     ap (λ m. put_load (load_of mode dtype base index vl memory stops m ffr.bits) n r) (get_or-map p_bits p g (record { bits = [] }))
     ∙ ap (λ o. put_load o n r) e
     ∙ ap Ok (sym (z_set z p ffr2 vl stops2 n out))
+
+pub load_refused : (mode : LoadMode) (dtype base index : ℕ) (memory : Memory) (z : List ZReg) (p : List PReg) (ffr : PReg) (vl : ℕ) (stops : StopList) (g n : ℕ) (fault : AccessFault) → load_of mode dtype base index vl memory stops (get_or p g (record { bits = [] })).bits ffr.bits ≡ Err fault → let r = vector_state_of z p ffr vl stops in put_load (load_of mode dtype base index r.vl memory r.stops (p_of r g) r.ffr) n r ≡ Err fault
+load_refused mode dtype base index memory z p ffr vl stops g n fault e =
+    let r = vector_state_of z p ffr vl stops in
+    ap (λ m. put_load (load_of mode dtype base index vl memory stops m ffr.bits) n r) (get_or-map p_bits p g (record { bits = [] }))
+    ∙ ap (λ o. put_load o n r) e
+
+-- a load that is refused leaves the registers as they were
+pub load_kept : (z : List ZReg) (p : List PReg) (ffr : PReg) (vl : ℕ) (stops : StopList) (ffr2 : PReg) (stops2 : StopList) (n : ℕ) (out : ZReg) → (out ≡ get_or z n (record { bytes = [] })) × (ffr2 ≡ ffr) × (stops2 ≡ stops) → vector_state_of (slice_set z n out) p ffr2 vl stops2 ≡ vector_state_of z p ffr vl stops
+load_kept z p ffr vl stops ffr2 stops2 n out same =
+    ap (λ o. vector_state_of (slice_set z n o) p ffr2 vl stops2) same.0
+    ∙ ap (λ zs. vector_state_of zs p ffr2 vl stops2) (set-get_or z n (record { bytes = [] }))
+    ∙ ap (λ f. vector_state_of z p f vl stops2) same.1
+    ∙ ap (vector_state_of z p ffr vl) same.2
 
 -- ---- what the rows say
 
