@@ -16,8 +16,8 @@ use Rattle.machine_model.proofs.MemoryStays.{step_code}
 use Rattle.a64_machine.specs.Cores.{said}
 use Rattle.sve_machine.specs.declared.kept.CacheEntry.{CacheEntry}
 use Rattle.sve_machine.specs.declared.kept.Kept.{Kept}
-use Rattle.sve_machine.specs.declared.kept.Kept.TheVariants.{Nowhere, Ready}
-use Rattle.sve_machine.specs.Keeping.{Keeps, Holds, IsOther, kept_does}
+use Rattle.sve_machine.specs.declared.kept.Kept.TheVariants.{Nowhere}
+use Rattle.sve_machine.specs.Keeping.{Keeps, Holds, kept_does}
 
 -- the word of an instruction does what the instruction does
 pub word_does : (word : ℕ) (i : Listed) (s : State) → reads_word word ≡ Some i → do_word (Some word) s ≡ does i s

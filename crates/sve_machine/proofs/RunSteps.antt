@@ -11,6 +11,8 @@ use Rattle.machine_model.specs.Debugged.{View, CameTo, ending_by}
 use Rattle.machine_model.proofs.Runs.{leads_after, comes_to}
 use Rattle.machine_model.specs.Debugged.{RunLeaves, is_never}
 use Rattle.machine_model.specs.declared.outcome.Ending.{Ending}
+use Rattle.machine_model.specs.declared.outcome.Ending.TheVariants as endings
+use Rattle.std.specs.Option.{IfSome}
 use Rattle.debug_history.specs.Answered.{answer_of}
 use Rattle.machine_model.specs.Answers.{outcome_of}
 use Rattle.machine_model.proofs.Quiet.{step_quiet, steps_quiet}
@@ -114,3 +116,22 @@ pub leaves_seen : (answer : StepAnswer) (steps done : ℕ) (own seen : View) (af
 leaves_seen answer steps done own seen after is h =
     let e : done ≡ own.steps + done - own.steps = omega arith in
     subst (λ (v : View). Leaves answer steps (own.steps + done - v.steps) v.state after) is (subst (λ n. Leaves answer steps n own.state after) e h)
+
+ended_by : (over : Option Ending) → ending_by (answer_of over) ≡ over
+ended_by None = refl
+ended_by (Some endings.Ended) = refl
+ended_by (Some (endings.Stopped stop)) = refl
+
+pub over_by : (over : Option Ending) (answer : StepAnswer) → answer ≡ answer_of over → over ≡ ending_by answer
+over_by over answer e = sym (ap ending_by e ∙ ended_by over)
+
+-- ---- a machine that came to its end, or did not
+
+pub some_over : (P : Ending → Type 0) (over : Option Ending) (ending : Ending) → over ≡ Some ending → P ending → IfSome over P
+some_over P over ending e p = subst (λ o. IfSome o P) (sym e) p
+
+pub none_over : (P : Ending → Type 0) (over : Option Ending) → over ≡ None → IfSome over P
+none_over P over e = subst (λ o. IfSome o P) (sym e) tt
+
+pub not_over : {P : Type 0} (over : Option Ending) (ending : Ending) → over ≡ Some ending → over ≡ None → P
+not_over over ending some none = absurd cc

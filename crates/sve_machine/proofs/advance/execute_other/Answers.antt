@@ -5,7 +5,6 @@ use Rattle.sve_machine.specs.Keeping.{IsOther}
 use Rattle.sve_machine.proofs.KeptWords.{kept_as, stops_nowhere}
 use Rattle.sve_machine.proofs.advance.execute_other.Goals as goal
 
-
 pub returns-in-Vector : goal.returns-in-Vector
 returns-in-Vector c = record {
   answer = kept_as c.args.kept.now (Vector c.in-Vector.word) _ _ _ c.in-Vector.is c.vector_goes.ensures.answer;

@@ -1,4 +1,4 @@
-use Rattle.std.proofs.Common.{ap, ◌∙◌, sym, subst, arith}
+use Rattle.std.proofs.Common.{ap, ◌∙◌, arith}
 use Rattle.machine_model.specs.Debugged.{View}
 use Rattle.a64_machine.specs.Cores.{state_of}
 use Rattle.sve_machine.proofs.RunSteps.{quiet_left, leaves_seen}

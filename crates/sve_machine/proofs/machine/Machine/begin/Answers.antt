@@ -5,7 +5,6 @@ use Rattle.sve_machine.proofs.Errors.{on_error, in_error}
 use Rattle.sve_machine.proofs.PastLaws.{now-seen, whole-same, whole-begun}
 use Rattle.sve_machine.proofs.machine.Machine.begin.Goals as goal
 
-
 pub returns-in_err-history : goal.returns-in_err-history
 returns-in_err-history c = record {
   now = refl;

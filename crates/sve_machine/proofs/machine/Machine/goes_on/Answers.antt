@@ -31,7 +31,7 @@ returns-then-went g c =
       place = c.advance-went.ensures.place ∙ ap (λ (v : View). v.state.pc) c.self.view_is;
       goes_on = ap is_none (sym (ap (λ (v : View). v.over) c.self.view_is ∙ c.requires.running));
       quiet = λ quiet. one_quiet (said c.advance-went.result left.answer) (state_of own.core own.pages.memory own.vectors) (state_of left.core left.pages.memory left.vectors)
-      c.advance-went.ensures.answer (ap (λ (v : View). v.quiet) c.self.view_is ∙ quiet);
+          c.advance-went.ensures.answer (ap (λ (v : View). v.quiet) c.self.view_is ∙ quiet);
       past = ap (λ ms. past_by ms (rests_of own.history)) c.advance-went.ensures.past ∙ ap (λ (v : View). v.past) c.self.view_is;
     }
 
@@ -53,6 +53,6 @@ returns g c =
       place = c.advance-went.ensures.place ∙ ap (λ (v : View). v.state.pc) c.self.view_is;
       goes_on = c.come_to_end.ensures.goes_on;
       quiet = λ quiet. one_quiet (said c.advance-went.result left.answer) (state_of own.core own.pages.memory own.vectors) (state_of left.core left.pages.memory left.vectors)
-      c.advance-went.ensures.answer (ap (λ (v : View). v.quiet) c.self.view_is ∙ quiet);
+          c.advance-went.ensures.answer (ap (λ (v : View). v.quiet) c.self.view_is ∙ quiet);
       past = ap (λ ms. past_by ms (rests_of own.history)) c.advance-went.ensures.past ∙ ap (λ (v : View). v.past) c.self.view_is;
     }

@@ -1,4 +1,4 @@
-use Rattle.std.proofs.Common.{◌≡◌, Ok, Err, [], get_or, sym, ◌∙◌, subst}
+use Rattle.std.proofs.Common.{◌≡◌, Ok, Err, [], get_or, sym, ◌∙◌, subst, arith}
 use Rattle.std.specs.Prelude.{slice_set}
 use Rattle.a64_machine.specs.Cores.{VectorState}
 use Rattle.lane_memory.specs.Loads.{load_of}
@@ -57,3 +57,9 @@ returns-clause-refused c = tt
 
 pub returns-clause-unchanged : goal.returns-clause-unchanged
 returns-clause-unchanged c = tt
+
+pub offset_bounds-self-inside-pg : goal.offset_bounds-self-inside-pg
+offset_bounds-self-inside-pg c = omega (arith, c.requires.predicate)
+
+pub offset_bounds-self-inside-zt : goal.offset_bounds-self-inside-zt
+offset_bounds-self-inside-zt c = omega (arith, c.requires.register)
