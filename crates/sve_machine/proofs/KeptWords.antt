@@ -17,6 +17,8 @@ use Rattle.a64_machine.specs.Cores.{said}
 use Rattle.sve_machine.specs.declared.kept.CacheEntry.{CacheEntry}
 use Rattle.sve_machine.specs.declared.kept.Kept.{Kept}
 use Rattle.sve_machine.specs.declared.kept.Kept.TheVariants.{Nowhere}
+use Rattle.sve_machine.specs.declared.instruction.Instruction.{Instruction}
+use Rattle.sve_machine.specs.Listing.{view_of}
 use Rattle.sve_machine.specs.Keeping.{Keeps, Holds, kept_does}
 
 -- the word of an instruction does what the instruction does
@@ -86,3 +88,6 @@ pub stops_nowhere : (kept : Kept) (went : Bool) (answer : StepAnswer) (s : State
 stops_nowhere kept went answer s k w a =
     kept_as kept Nowhere (said went answer) s s k
     (subst (λ w. IsAnswer (kept_does Nowhere s) (said w answer) s s) (sym w) (subst (λ a. IsAnswer (kept_does Nowhere s) a s s) (sym a) (refl, refl)))
+
+pub ready_as : (i form : Instruction) (pc : ℕ) (kept : Kept) → i ≡ form → ((s : State) → s.pc ≡ pc → does (view_of form) s ≡ kept_does kept s) → (s : State) → s.pc ≡ pc → does (view_of i) s ≡ kept_does kept s
+ready_as i form pc kept e h = subst (λ i. (s : State) → s.pc ≡ pc → does (view_of i) s ≡ kept_does kept s) (sym e) h

@@ -2,6 +2,8 @@
 use Rattle.std.proofs.Common.{◌≡◌, ℕ, zero, suc, ◌+◌, ◌-◌, ◌<◌, List, [], ◌∷◌, ◌++◌, length, take, drop, get_or, Option, Some, None, refl, sym, ap, ap₂, ◌∙◌, subst, arith}
 use Rattle.guest_types.specs.Memory.{Memory}
 use Rattle.std.specs.Prelude.{All, ◌≤◌}
+use Rattle.std.specs.List.{slice_get}
+use Rattle.std.proofs.lemmas.Option.{get_or_from_slice_get, slice_get-get_or}
 use Rattle.std.proofs.lemmas.List.{length-drop, length-append}
 use Rattle.machine_model.specs.declared.outcome.Ending.{Ending}
 use Rattle.a64_machine.specs.Cores.{VectorState}
@@ -105,3 +107,15 @@ whole-begun m m2 ms2 entries rs r e es er kept = record {
 
 pub whole-left : (m m2 : Memory) (ms ms2 : List Memory) (entries entries2 : List CacheEntry) (h : Option (List Snapshot)) → All (Keeps m2) entries2 → ms2 ≡ ms → IsWhole m ms entries h → IsWhole m2 ms2 entries2 h
 whole-left m m2 ms ms2 entries entries2 h kept es w = record { kept = kept; beside = subst (λ ms. AreBeside ms h) (sym es) w.beside }
+
+-- ---- one of those that are kept
+
+pub got-at : (xs ys : List Snapshot) (n : ℕ) (r d : Snapshot) → xs ≡ ys → slice_get xs n ≡ Some r → get_or ys n d ≡ r
+got-at xs ys n r d e h = get_or_from_slice_get ys n r d (subst (λ l. slice_get l n ≡ Some r) e h)
+
+pub got-none : (xs ys : List Snapshot) (n : ℕ) → xs ≡ ys → n < length ys → slice_get xs n ≡ None → ⊥
+got-none xs [] n e lt h = omega (arith, lt)
+got-none xs (y ∷ ys) n e lt h =
+    let some = slice_get-get_or (y ∷ ys) n y lt in
+    let none = subst (λ l. slice_get l n ≡ None) e h in
+    cc
