@@ -1,5 +1,5 @@
 -- What a load leaves, of the right shape, and what the rows of loads and stores say of it.
-use Rattle.std.proofs.Common.{[], ◌∷◌, get_or, ◌≡◌, ℕ, Bool, List, Option, Some, None, Result, Ok, Err, refl, sym, ap, ◌∙◌, subst}
+use Rattle.std.proofs.Common.{[], ◌∷◌, get_or, ◌≡◌, ℕ, ◌+◌, ◌^◌, ◌%◌, Bool, false, List, Option, Some, None, Result, Ok, Err, refl, sym, ap, ◌∙◌, subst}
 use Rattle.std.specs.Prelude.{slice_set}
 use Rattle.guest_types.specs.declared.memory.AccessFault.{AccessFault}
 use Rattle.guest_types.specs.declared.row.LoadMode.{LoadMode}
@@ -13,12 +13,16 @@ use Rattle.machine_model.specs.States.{IsVector, IsPredicate}
 use Rattle.machine_model.proofs.StateSteps.{vector_made, fills, cleared_is}
 use Rattle.lane_memory.specs.Loads.{LoadLeft, left_by_plain, left_by_early, left_by_first, left_by, load_of}
 use Rattle.lane_memory.specs.Gathers.{gather_address, gather_of}
-use Rattle.a64_machine.specs.Cores.{VectorState, state_of}
+use Rattle.a64_machine.specs.Cores.{VectorState, state_of, said}
 use Rattle.guest_types.specs.declared.register.ZReg.{ZReg}
 use Rattle.guest_types.specs.declared.predicate.PReg.{PReg}
 use Rattle.std.proofs.Math.ListN.{get_or-map}
 use Rattle.std.proofs.lemmas.List.{set-get_or}
-use Rattle.machine_model.specs.Machine.{x_at, x_or_sp}
+use Rattle.machine_model.specs.declared.outcome.Step.{Step as StepAnswer}
+use Rattle.machine_model.specs.declared.outcome.Step.TheVariants as answers
+use Rattle.machine_model.specs.declared.outcome.StopKind.TheVariants.{Read}
+use Rattle.machine_model.specs.Answers.{IsAnswer}
+use Rattle.machine_model.specs.Machine.{Went, x_at, x_or_sp}
 use Rattle.machine_model.specs.VectorEffects.{do_vector}
 use Rattle.machine_model.specs.VectorEffects as effects
 use Rattle.a64_machine.specs.declared.core_state.Core.{Core}
@@ -159,3 +163,15 @@ gather_row gather_ops.Ld1d zt rn pg zm r core memory = gathered_is zt rn pg zm 1
 gather_row gather_ops.Ld1sb zt rn pg zm r core memory = gathered_is zt rn pg zm 12 r core memory
 gather_row gather_ops.Ld1sh zt rn pg zm r core memory = gathered_is zt rn pg zm 8 r core memory
 gather_row gather_ops.Ld1sw zt rn pg zm r core memory = gathered_is zt rn pg zm 4 r core memory
+
+-- ---- what a load answers
+
+pub load_went : (load : Result VectorState AccessFault) (core core2 : Core) (memory : Memory) (left : VectorState) → load ≡ Ok left → core2 ≡ record core { pc = (core.pc + 4) % 2 ^ 64 } → after_load load core memory ≡ Went (state_of core2 memory left)
+load_went load core core2 memory left e next = ap (λ o. after_load o core memory) e ∙ ap (λ core. Went (state_of core memory left)) (sym next)
+
+pub load_stopped : (load : Result VectorState AccessFault) (fault : AccessFault) (went : Bool) (answer : StepAnswer) (core : Core) (memory : Memory) (r left : VectorState) → load ≡ Err fault → left ≡ r → went ≡ false → answer ≡ answers.Stopped (record { kind = Read; pc = core.pc; at = fault.address }) → IsAnswer (after_load load core memory) (said went answer) (state_of core memory r) (state_of core memory left)
+load_stopped load fault went answer core memory r left e same w a =
+    subst (λ left. IsAnswer (after_load load core memory) (said went answer) (state_of core memory r) (state_of core memory left)) (sym same)
+    (subst (λ o. IsAnswer (after_load o core memory) (said went answer) (state_of core memory r) (state_of core memory r)) (sym e)
+    (subst (λ w. IsAnswer (after_load (Err fault) core memory) (said w answer) (state_of core memory r) (state_of core memory r)) (sym w)
+    (subst (λ a. IsAnswer (after_load (Err fault) core memory) a (state_of core memory r) (state_of core memory r)) (sym a) (refl, refl))))
