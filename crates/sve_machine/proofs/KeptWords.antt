@@ -1,19 +1,24 @@
 -- What is kept of words stays right.
-use Rattle.std.proofs.Common.{◌≡◌, ℕ, ◌^◌, ◌<◌, List, get_or, Some, None, refl, sym, ap, ◌∙◌, subst, arith}
-use Rattle.std.specs.Prelude.{All, replicate}
+use Rattle.std.proofs.Common.{◌≡◌, ℕ, ◌^◌, ◌<◌, ◌/◌, ◌%◌, Bool, true, false, List, get_or, length, Option, Some, None, refl, sym, ap, ap₂, ◌∙◌, subst, arith}
+use Rattle.std.specs.Prelude.{All, replicate, slice_set, IsTrue}
+use Rattle.std.proofs.lemmas.List.{get_or-set_same}
 use Rattle.std.proofs.lemmas.List.Elements.{All-replicate}
 use Rattle.guest_types.specs.Memory.{Memory, fetched}
 use Rattle.machine_model.specs.declared.outcome.Step.{Step as StepAnswer}
 use Rattle.machine_model.specs.declared.outcome.Step.TheVariants as answers
-use Rattle.machine_model.specs.declared.outcome.StopKind.TheVariants.{Undefined}
+use Rattle.machine_model.specs.declared.outcome.StopKind.{StopKind}
+use Rattle.machine_model.specs.declared.outcome.StopKind.TheVariants.{Fetch, Undefined}
 use Rattle.machine_model.specs.InstructionTable.{Listed}
 use Rattle.machine_model.specs.Machine.{State, Step, Stopped, memory_after}
 use Rattle.machine_model.specs.OneStep.{step, does, do_word, reads_word}
 use Rattle.machine_model.specs.Answers.{IsAnswer}
 use Rattle.machine_model.proofs.MemoryStays.{step_code}
+use Rattle.a64_machine.specs.Cores.{said}
 use Rattle.sve_machine.specs.declared.kept.CacheEntry.{CacheEntry}
 use Rattle.sve_machine.specs.declared.kept.Kept.{Kept}
 use Rattle.sve_machine.specs.declared.kept.Kept.TheVariants.{Nowhere}
+use Rattle.sve_machine.specs.declared.instruction.Instruction.{Instruction}
+use Rattle.sve_machine.specs.Listing.{view_of}
 use Rattle.sve_machine.specs.Keeping.{Keeps, Holds, kept_does}
 
 -- the word of an instruction does what the instruction does
@@ -48,3 +53,41 @@ none_kept m n = All-replicate (Keeps m) n nothing (omega arith, λ s at. refl)
 -- a step does what an entry keeps
 pub step_by : (s t : State) (r : StepAnswer) (kept : List CacheEntry) (i : ℕ) (d : CacheEntry) → ((x : CacheEntry) → Holds s.memory s.pc (get_or kept i x)) → IsAnswer (kept_does (get_or kept i d).kept s) r s t → IsAnswer (step s) r s t
 step_by s t r kept i d found h = subst (λ o. IsAnswer o r s t) (sym (found d s refl)) h
+
+-- ---- a word that is looked up
+
+pub not_found : {P : Type 0} (found : Bool) → found ≡ false → IsTrue found → P
+not_found true e t = absurd cc
+not_found false e t = absurd cc
+
+pub in_entries : (pc count : ℕ) → count ≡ 1024 → pc / 4 % 1024 < count
+in_entries pc count e = omega (arith, e)
+
+pub found_there : (memory : Memory) (pc : ℕ) (es : List CacheEntry) (n : ℕ) (entry d : CacheEntry) → n < length es → Holds memory pc entry → Holds memory pc (get_or (slice_set es n entry) n d)
+found_there memory pc es n entry d lt h = subst (Holds memory pc) (sym (get_or-set_same es n entry d lt)) h
+
+stops_by : (memory : Memory) (pc at : ℕ) (kind : StopKind) (word : Option ℕ) (answer : StepAnswer) (s : State) → answer ≡ answers.Stopped (record { kind = kind; pc = pc; at = at }) → fetched memory pc ≡ word → s.memory ≡ memory → s.pc ≡ pc → do_word word s ≡ Stopped kind pc at s.memory → IsAnswer (step s) answer s s
+stops_by memory pc at kind word answer s a f m p h =
+    subst (λ x. IsAnswer (step s) x s s) (sym a) (ap₂ (λ m p. do_word (fetched m p) s) m p ∙ ap (λ w. do_word w s) f ∙ h, refl)
+
+pub no_word : (memory : Memory) (pc : ℕ) (answer : StepAnswer) (s : State) → answer ≡ answers.Stopped (record { kind = Fetch; pc = pc; at = pc }) → fetched memory pc ≡ None → s.memory ≡ memory → s.pc ≡ pc → IsAnswer (step s) answer s s
+no_word memory pc answer s a f m p = stops_by memory pc pc Fetch None answer s a f m p (ap (λ p. Stopped Fetch p p s.memory) p)
+
+pub undefined : (memory : Memory) (pc word at : ℕ) (answer : StepAnswer) (s : State) → answer ≡ answers.Stopped (record { kind = Undefined; pc = pc; at = at }) → at ≡ word → fetched memory pc ≡ Some word → reads_word word ≡ None → s.memory ≡ memory → s.pc ≡ pc → IsAnswer (step s) answer s s
+undefined memory pc word at answer s a same f r m p =
+    stops_by memory pc at Undefined (Some word) answer s a f m p
+    (ap (λ r. elim r as (λ o. Step) [ None ↦ Stopped Undefined s.pc word s.memory | Some i ↦ does i s ]) r
+    ∙ ap₂ (λ p w. Stopped Undefined p w s.memory) p (sym same))
+
+-- ---- what is kept, by its form
+
+pub kept_as : (kept form : Kept) (r : StepAnswer) (before after : State) → kept ≡ form → IsAnswer (kept_does form before) r before after → IsAnswer (kept_does kept before) r before after
+kept_as kept form r before after e h = subst (λ k. IsAnswer (kept_does k before) r before after) (sym e) h
+
+pub stops_nowhere : (kept : Kept) (went : Bool) (answer : StepAnswer) (s : State) → kept ≡ Nowhere → went ≡ false → answer ≡ answers.Stopped (record { kind = Fetch; pc = s.pc; at = s.pc }) → IsAnswer (kept_does kept s) (said went answer) s s
+stops_nowhere kept went answer s k w a =
+    kept_as kept Nowhere (said went answer) s s k
+    (subst (λ w. IsAnswer (kept_does Nowhere s) (said w answer) s s) (sym w) (subst (λ a. IsAnswer (kept_does Nowhere s) a s s) (sym a) (refl, refl)))
+
+pub ready_as : (i form : Instruction) (pc : ℕ) (kept : Kept) → i ≡ form → ((s : State) → s.pc ≡ pc → does (view_of form) s ≡ kept_does kept s) → (s : State) → s.pc ≡ pc → does (view_of i) s ≡ kept_does kept s
+ready_as i form pc kept e h = subst (λ i. (s : State) → s.pc ≡ pc → does (view_of i) s ≡ kept_does kept s) (sym e) h

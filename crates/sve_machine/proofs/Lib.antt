@@ -1,3 +1,4 @@
+pub mod Errors
 pub mod StartRegisters
 pub mod VectorStateLaws
 pub mod KeptWords

@@ -1,5 +1,5 @@
 -- What a load leaves, of the right shape, and what the rows of loads and stores say of it.
-use Rattle.std.proofs.Common.{[], ◌∷◌, get_or, ◌≡◌, ℕ, Bool, List, Option, Some, None, Result, Ok, refl, sym, ap, ◌∙◌, subst}
+use Rattle.std.proofs.Common.{[], ◌∷◌, get_or, ◌≡◌, ℕ, ◌+◌, ◌^◌, ◌%◌, Bool, false, List, Option, Some, None, Result, Ok, Err, refl, sym, ap, ◌∙◌, subst}
 use Rattle.std.specs.Prelude.{slice_set}
 use Rattle.guest_types.specs.declared.memory.AccessFault.{AccessFault}
 use Rattle.guest_types.specs.declared.row.LoadMode.{LoadMode}
@@ -13,11 +13,16 @@ use Rattle.machine_model.specs.States.{IsVector, IsPredicate}
 use Rattle.machine_model.proofs.StateSteps.{vector_made, fills, cleared_is}
 use Rattle.lane_memory.specs.Loads.{LoadLeft, left_by_plain, left_by_early, left_by_first, left_by, load_of}
 use Rattle.lane_memory.specs.Gathers.{gather_address, gather_of}
-use Rattle.a64_machine.specs.Cores.{VectorState, state_of}
+use Rattle.a64_machine.specs.Cores.{VectorState, state_of, said}
 use Rattle.guest_types.specs.declared.register.ZReg.{ZReg}
 use Rattle.guest_types.specs.declared.predicate.PReg.{PReg}
 use Rattle.std.proofs.Math.ListN.{get_or-map}
-use Rattle.machine_model.specs.Machine.{x_at, x_or_sp}
+use Rattle.std.proofs.lemmas.List.{set-get_or}
+use Rattle.machine_model.specs.declared.outcome.Step.{Step as StepAnswer}
+use Rattle.machine_model.specs.declared.outcome.Step.TheVariants as answers
+use Rattle.machine_model.specs.declared.outcome.StopKind.TheVariants.{Read}
+use Rattle.machine_model.specs.Answers.{IsAnswer}
+use Rattle.machine_model.specs.Machine.{Went, x_at, x_or_sp}
 use Rattle.machine_model.specs.VectorEffects.{do_vector}
 use Rattle.machine_model.specs.VectorEffects as effects
 use Rattle.a64_machine.specs.declared.core_state.Core.{Core}
@@ -94,6 +99,20 @@ load_done mode dtype base index memory z p ffr vl stops g n ffr2 stops2 out e =
     ∙ ap (λ o. put_load o n r) e
     ∙ ap Ok (sym (z_set z p ffr2 vl stops2 n out))
 
+pub load_refused : (mode : LoadMode) (dtype base index : ℕ) (memory : Memory) (z : List ZReg) (p : List PReg) (ffr : PReg) (vl : ℕ) (stops : StopList) (g n : ℕ) (fault : AccessFault) → load_of mode dtype base index vl memory stops (get_or p g (record { bits = [] })).bits ffr.bits ≡ Err fault → let r = vector_state_of z p ffr vl stops in put_load (load_of mode dtype base index r.vl memory r.stops (p_of r g) r.ffr) n r ≡ Err fault
+load_refused mode dtype base index memory z p ffr vl stops g n fault e =
+    let r = vector_state_of z p ffr vl stops in
+    ap (λ m. put_load (load_of mode dtype base index vl memory stops m ffr.bits) n r) (get_or-map p_bits p g (record { bits = [] }))
+    ∙ ap (λ o. put_load o n r) e
+
+-- a load that is refused leaves the registers as they were
+pub load_kept : (z : List ZReg) (p : List PReg) (ffr : PReg) (vl : ℕ) (stops : StopList) (ffr2 : PReg) (stops2 : StopList) (n : ℕ) (out : ZReg) → (out ≡ get_or z n (record { bytes = [] })) × (ffr2 ≡ ffr) × (stops2 ≡ stops) → vector_state_of (slice_set z n out) p ffr2 vl stops2 ≡ vector_state_of z p ffr vl stops
+load_kept z p ffr vl stops ffr2 stops2 n out same =
+    ap (λ o. vector_state_of (slice_set z n o) p ffr2 vl stops2) same.0
+    ∙ ap (λ zs. vector_state_of zs p ffr2 vl stops2) (set-get_or z n (record { bytes = [] }))
+    ∙ ap (λ f. vector_state_of z p f vl stops2) same.1
+    ∙ ap (vector_state_of z p ffr vl) same.2
+
 -- ---- what the rows say
 
 plain_is : (o : Option AccessFault) (z : List ℕ) (r : VectorState) (d : ℕ) (core : Core) (memory : Memory) → effects.after_load (or_fault o (record { z = z; ffr = r.ffr })) d (state_of core memory r) ≡ after_load (put_load (left_by_plain r.stops (or_fault o (record { z = z; ffr = r.ffr }))) d r) core memory
@@ -144,3 +163,15 @@ gather_row gather_ops.Ld1d zt rn pg zm r core memory = gathered_is zt rn pg zm 1
 gather_row gather_ops.Ld1sb zt rn pg zm r core memory = gathered_is zt rn pg zm 12 r core memory
 gather_row gather_ops.Ld1sh zt rn pg zm r core memory = gathered_is zt rn pg zm 8 r core memory
 gather_row gather_ops.Ld1sw zt rn pg zm r core memory = gathered_is zt rn pg zm 4 r core memory
+
+-- ---- what a load answers
+
+pub load_went : (load : Result VectorState AccessFault) (core core2 : Core) (memory : Memory) (left : VectorState) → load ≡ Ok left → core2 ≡ record core { pc = (core.pc + 4) % 2 ^ 64 } → after_load load core memory ≡ Went (state_of core2 memory left)
+load_went load core core2 memory left e next = ap (λ o. after_load o core memory) e ∙ ap (λ core. Went (state_of core memory left)) (sym next)
+
+pub load_stopped : (load : Result VectorState AccessFault) (fault : AccessFault) (went : Bool) (answer : StepAnswer) (core : Core) (memory : Memory) (r left : VectorState) → load ≡ Err fault → left ≡ r → went ≡ false → answer ≡ answers.Stopped (record { kind = Read; pc = core.pc; at = fault.address }) → IsAnswer (after_load load core memory) (said went answer) (state_of core memory r) (state_of core memory left)
+load_stopped load fault went answer core memory r left e same w a =
+    subst (λ left. IsAnswer (after_load load core memory) (said went answer) (state_of core memory r) (state_of core memory left)) (sym same)
+    (subst (λ o. IsAnswer (after_load o core memory) (said went answer) (state_of core memory r) (state_of core memory r)) (sym e)
+    (subst (λ w. IsAnswer (after_load (Err fault) core memory) (said w answer) (state_of core memory r) (state_of core memory r)) (sym w)
+    (subst (λ a. IsAnswer (after_load (Err fault) core memory) a (state_of core memory r) (state_of core memory r)) (sym a) (refl, refl))))

@@ -1,10 +1,20 @@
 -- Memories and rests beside each other.
 use Rattle.std.proofs.Common.{◌≡◌, ℕ, zero, suc, ◌+◌, ◌-◌, ◌<◌, List, [], ◌∷◌, ◌++◌, length, take, drop, get_or, Option, Some, None, refl, sym, ap, ap₂, ◌∙◌, subst, arith}
 use Rattle.guest_types.specs.Memory.{Memory}
-use Rattle.machine_model.specs.Debugged.{Past}
+use Rattle.std.specs.Prelude.{All, ◌≤◌}
+use Rattle.std.specs.List.{slice_get}
+use Rattle.std.proofs.lemmas.Option.{get_or_from_slice_get, slice_get-get_or}
+use Rattle.std.proofs.lemmas.List.{length-drop, length-append}
+use Rattle.machine_model.specs.declared.outcome.Ending.{Ending}
+use Rattle.a64_machine.specs.Cores.{VectorState}
+use Rattle.a64_machine.specs.declared.core_state.Core.{Core}
+use Rattle.machine_model.specs.Debugged.{Past, View, now}
 use Rattle.guest_types.specs.Kept.{kept_more}
 use Rattle.sve_machine.specs.declared.snapshot.Snapshot.{Snapshot}
-use Rattle.sve_machine.specs.Pasts.{past_at, past_by, rests_of, AreBeside}
+use Rattle.sve_machine.specs.declared.kept.CacheEntry.{CacheEntry}
+use Rattle.sve_machine.specs.Keeping.{Keeps}
+use Rattle.sve_machine.specs.View.{view_of}
+use Rattle.sve_machine.specs.Pasts.{past_at, past_by, rests_of, AreBeside, IsWhole}
 
 pub past_by-none : (ms : List Memory) → past_by ms [] ≡ []
 past_by-none [] = refl
@@ -59,3 +69,53 @@ never-kept ms h past is none = sym (ap (length {A = _}) (ap (λ h. past_by ms (r
 
 pub beside : (ms : List Memory) (h : Option (List Snapshot)) (rs : List Snapshot) → h ≡ Some rs → AreBeside ms h → length ms ≡ length rs
 beside ms h rs some are = subst (AreBeside ms) some are
+
+pub some-kept : (ms : List Memory) (h : Option (List Snapshot)) (rs : List Snapshot) (past : List Past) → past_by ms (rests_of h) ≡ past → h ≡ Some rs → AreBeside ms h → 1 ≤ length past → 1 ≤ length ms
+some-kept ms h rs past is some are lt =
+    let same = beside ms h rs some are in
+    let seen = ap (length {A = _}) (seen-past ms h rs past is some) in
+    omega (arith, length-past_by ms rs same, seen, same, lt)
+
+pub now-seen : (core : Core) (memory memory2 : Memory) (rest : VectorState) (steps : ℕ) (over : Option Ending) (past past2 : List Past) (seen : View) → memory2 ≡ memory → view_of core memory rest steps over past ≡ seen → now (view_of core memory2 rest steps over past2) ≡ now seen
+now-seen core memory memory2 rest steps over past past2 seen e is = ap (λ m. now (view_of core m rest steps over past2)) e ∙ ap now is
+
+-- ---- the whole machine
+
+keeps-in : (m m2 : Memory) (entries : List CacheEntry) → m2 ≡ m → All (Keeps m) entries → All (Keeps m2) entries
+keeps-in m m2 entries e h = subst (λ m. All (Keeps m) entries) (sym e) h
+
+length-more : {X : Type 0} (x : X) (xs : List X) → length (kept_more x xs) ≡ length xs + 1 - (length xs + 1 - 8)
+length-more x xs = length-drop (length xs + 1 - 8) (xs ++ x ∷ []) ∙ ap (λ n. n - (length xs + 1 - 8)) (length-append xs (x ∷ []))
+
+pub whole-more : (m m2 : Memory) (ms ms2 : List Memory) (entries : List CacheEntry) (h : Option (List Snapshot)) (rs rs2 : List Snapshot) (r : Snapshot) → m2 ≡ m → ms2 ≡ kept_more m ms → rs2 ≡ kept_more r rs → h ≡ Some rs → IsWhole m ms entries h → IsWhole m2 ms2 entries (Some rs2)
+whole-more m m2 ms ms2 entries h rs rs2 r e es er some w = record {
+  kept = keeps-in m m2 entries e w.kept;
+  beside =
+      ap (length {A = _}) es ∙ length-more m ms
+      ∙ ap (λ n. n + 1 - (n + 1 - 8)) (beside ms h rs some w.beside)
+      ∙ sym (ap (length {A = _}) er ∙ length-more r rs);
+}
+
+pub whole-same : (m m2 : Memory) (ms ms2 : List Memory) (entries : List CacheEntry) (h : Option (List Snapshot)) → m2 ≡ m → ms2 ≡ ms → IsWhole m ms entries h → IsWhole m2 ms2 entries h
+whole-same m m2 ms ms2 entries h e es w = record { kept = keeps-in m m2 entries e w.kept; beside = subst (λ ms. AreBeside ms h) (sym es) w.beside }
+
+pub whole-begun : (m m2 : Memory) (ms2 : List Memory) (entries : List CacheEntry) (rs : List Snapshot) (r : Snapshot) → m2 ≡ m → ms2 ≡ m ∷ [] → rs ≡ r ∷ [] → All (Keeps m) entries → IsWhole m2 ms2 entries (Some rs)
+whole-begun m m2 ms2 entries rs r e es er kept = record {
+  kept = keeps-in m m2 entries e kept;
+  beside = ap (length {A = _}) es ∙ sym (ap (length {A = _}) er);
+}
+
+pub whole-left : (m m2 : Memory) (ms ms2 : List Memory) (entries entries2 : List CacheEntry) (h : Option (List Snapshot)) → All (Keeps m2) entries2 → ms2 ≡ ms → IsWhole m ms entries h → IsWhole m2 ms2 entries2 h
+whole-left m m2 ms ms2 entries entries2 h kept es w = record { kept = kept; beside = subst (λ ms. AreBeside ms h) (sym es) w.beside }
+
+-- ---- one of those that are kept
+
+pub got-at : (xs ys : List Snapshot) (n : ℕ) (r d : Snapshot) → xs ≡ ys → slice_get xs n ≡ Some r → get_or ys n d ≡ r
+got-at xs ys n r d e h = get_or_from_slice_get ys n r d (subst (λ l. slice_get l n ≡ Some r) e h)
+
+pub got-none : (xs ys : List Snapshot) (n : ℕ) → xs ≡ ys → n < length ys → slice_get xs n ≡ None → ⊥
+got-none xs [] n e lt h = omega (arith, lt)
+got-none xs (y ∷ ys) n e lt h =
+    let some = slice_get-get_or (y ∷ ys) n y lt in
+    let none = subst (λ l. slice_get l n ≡ None) e h in
+    cc

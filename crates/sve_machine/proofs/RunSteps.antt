@@ -1,5 +1,5 @@
 -- What some steps leave, one after another.
-use Rattle.std.proofs.Common.{◌≡◌, ℕ, ◌+◌, Bool, true, false, [], ◌∷◌, Some, refl, sym, ap, ◌∙◌, subst, arith}
+use Rattle.std.proofs.Common.{◌≡◌, ℕ, ◌+◌, ◌-◌, ◌<◌, Bool, true, false, [], ◌∷◌, Option, Some, None, refl, sym, ap, ◌∙◌, subst, arith}
 use Rattle.machine_model.specs.declared.outcome.Step.{Step as StepAnswer}
 use Rattle.machine_model.specs.declared.outcome.Step.TheVariants as answers
 use Rattle.machine_model.specs.declared.outcome.Stop.{Stop as StopAnswer}
@@ -10,6 +10,10 @@ use Rattle.machine_model.specs.Answers.{IsAnswer}
 use Rattle.machine_model.specs.Debugged.{View, CameTo, ending_by}
 use Rattle.machine_model.proofs.Runs.{leads_after, comes_to}
 use Rattle.machine_model.specs.Debugged.{RunLeaves, is_never}
+use Rattle.machine_model.specs.declared.outcome.Ending.{Ending}
+use Rattle.machine_model.specs.declared.outcome.Ending.TheVariants as endings
+use Rattle.std.specs.Option.{IfSome}
+use Rattle.debug_history.specs.Answered.{answer_of}
 use Rattle.machine_model.specs.Answers.{outcome_of}
 use Rattle.machine_model.proofs.Quiet.{step_quiet, steps_quiet}
 use Rattle.guest_types.specs.EarlyLoads.{StopList, Listed, Each, never}
@@ -82,3 +86,52 @@ said_on o went answer s t e h = subst (λ w. IsAnswer o (said w answer) s t) e h
 
 pub said_else : (o : Step) (went : Bool) (answer : StepAnswer) (s t : State) → went ≡ false → answer ≡ answers.Went → IsAnswer o (said went answer) s t → o ≡ Went t
 said_else o went answer s t e is h = subst (λ a. IsAnswer o a s t) is (subst (λ w. IsAnswer o (said w answer) s t) e h)
+
+-- the last of some steps, which came to this answer
+pub last_is : (a : StepAnswer) (steps done : ℕ) (start last after : State) (went : Bool) (answer : StepAnswer) → done < steps → after_steps done start ≡ Some last → went ≡ false → answer ≡ a → IsAnswer (step last) (said went answer) last after → Last a steps (done + 1) start after
+last_is a steps done start last after went answer lt h e is answered = record {
+  went = done;
+  within = lt;
+  counted = refl;
+  last = last;
+  state = h;
+  answered = subst (λ x. IsAnswer (step last) x last after) is (subst (λ w. IsAnswer (step last) (said w answer) last after) e answered);
+}
+
+pub went_on : (over : Option Ending) (went : Bool) (answer : StepAnswer) (s t : State) → went ≡ true → over ≡ None → IsAnswer (step s) (said went answer) s t → IsAnswer (step s) (answer_of over) s t
+went_on over went answer s t e none h =
+    subst (λ o. IsAnswer (step s) (answer_of o) s t) (sym none) (said_on (step s) went answer s t e h)
+
+answered : (answer : StepAnswer) → answer_of (ending_by answer) ≡ answer
+answered answers.Went = refl
+answered answers.Ended = refl
+answered (answers.Stopped stop) = refl
+
+pub came_to : (over : Option Ending) (went : Bool) (answer : StepAnswer) (s t : State) → went ≡ false → over ≡ ending_by answer → IsAnswer (step s) (said went answer) s t → IsAnswer (step s) (answer_of over) s t
+came_to over went answer s t e is h =
+    subst (λ a. IsAnswer (step s) a s t) (sym (ap answer_of is ∙ answered answer)) (subst (λ w. IsAnswer (step s) (said w answer) s t) e h)
+
+-- the steps of a machine are those that it counts
+pub leaves_seen : (answer : StepAnswer) (steps done : ℕ) (own seen : View) (after : State) → own ≡ seen → Leaves answer steps done own.state after → Leaves answer steps (own.steps + done - seen.steps) seen.state after
+leaves_seen answer steps done own seen after is h =
+    let e : done ≡ own.steps + done - own.steps = omega arith in
+    subst (λ (v : View). Leaves answer steps (own.steps + done - v.steps) v.state after) is (subst (λ n. Leaves answer steps n own.state after) e h)
+
+ended_by : (over : Option Ending) → ending_by (answer_of over) ≡ over
+ended_by None = refl
+ended_by (Some endings.Ended) = refl
+ended_by (Some (endings.Stopped stop)) = refl
+
+pub over_by : (over : Option Ending) (answer : StepAnswer) → answer ≡ answer_of over → over ≡ ending_by answer
+over_by over answer e = sym (ap ending_by e ∙ ended_by over)
+
+-- ---- a machine that came to its end, or did not
+
+pub some_over : (P : Ending → Type 0) (over : Option Ending) (ending : Ending) → over ≡ Some ending → P ending → IfSome over P
+some_over P over ending e p = subst (λ o. IfSome o P) (sym e) p
+
+pub none_over : (P : Ending → Type 0) (over : Option Ending) → over ≡ None → IfSome over P
+none_over P over e = subst (λ o. IfSome o P) (sym e) tt
+
+pub not_over : {P : Type 0} (over : Option Ending) (ending : Ending) → over ≡ Some ending → over ≡ None → P
+not_over over ending some none = absurd cc

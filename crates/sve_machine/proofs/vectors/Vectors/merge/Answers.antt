@@ -33,3 +33,21 @@ returns-then-is_all_true c =
     let all : (v : VectorState) → Type 0 = λ v. (e : ℕ) → e < lanes v.vl w → active w (p_of v c.args.pg) e ≡ true in
     let here : all (vector_state_of own.z own.p own.ffr own.vl own.stops) = λ e lt. ap (λ p. active w p e) (sym (p_is own.z own.p own.ffr own.vl own.stops c.args.pg)) ∙ c.is_all_true.ensures c.if-is_all_true.true e lt in
     c.binary.ensures ∙ merged_all r c.args.zdn c.args.op w (p_of r c.args.pg) (z_of r c.args.zdn) (z_of r c.args.zm) (subst all c.self.view_is here)
+
+pub bounds-self-inside-pg : goal.bounds-self-inside-pg
+bounds-self-inside-pg c = c.requires.pg
+
+pub binary-requires-clause-zd : goal.binary-requires-clause-zd
+binary-requires-clause-zd c = c.requires.zdn
+
+pub binary-requires-clause-zn : goal.binary-requires-clause-zn
+binary-requires-clause-zn c = c.requires.zdn
+
+pub binary-requires-clause-zm : goal.binary-requires-clause-zm
+binary-requires-clause-zm c = c.requires.zm
+
+pub merge_in-requires-clause-right : goal.merge_in-requires-clause-right
+merge_in-requires-clause-right c = c.requires.zm
+
+pub merge_in-requires-clause-out : goal.merge_in-requires-clause-out
+merge_in-requires-clause-out c = c.requires.zdn
