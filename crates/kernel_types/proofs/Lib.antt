@@ -5,3 +5,5 @@ pub mod KernelWalks
 pub mod Bounds
 pub mod FirstFault
 mod TypeLists
+mod KindWalks
+mod BlockWalks
