@@ -7,3 +7,4 @@ pub mod FirstFault
 mod TypeLists
 mod KindWalks
 mod BlockWalks
+mod PartWalks
