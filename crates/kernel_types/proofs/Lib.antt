@@ -8,3 +8,4 @@ mod TypeLists
 mod KindWalks
 mod BlockWalks
 mod PartWalks
+mod OperandWalks

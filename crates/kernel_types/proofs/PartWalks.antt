@@ -15,6 +15,7 @@ use Rattle.kernel_types.specs.declared.notes.Notes.{Notes}
 use Rattle.kernel_types.specs.Parts.{Adds, var_faults}
 use Rattle.kernel_types.proofs.LeastFault.{sooner-none, then_item, both_rules}
 use Rattle.kernel_types.proofs.KindWalks.{Walked}
+use Rattle.kernel_types.proofs.OperandWalks.{past_item}
 use Rattle.kernel_types.proofs.TypeLists.{no_types, then_types}
 
 -- what is known at once is known after any call
@@ -45,8 +46,10 @@ var_found s n item o p q again taken v at d f g j =
     ∙ then_item o p again (faults s n (Value (Some v.type)) v.init) (twice item s v.name) d again_is
     ∙ ap (λ (k : ℕ). sooner o (least (faults s n (Value (Some v.type)) v.init ++ twice k s v.name))) at
 
-pub past_item : (n m k size : ℕ) → m ≡ n + size → k ≡ m + 1 → k ≡ n + (size + 1)
-past_item n m k size e f = omega arith
+-- ---- a parameter
+
+pub param_found : (s : Scope) (n : ℕ) (o p again : Option Found) (taken : Bool) (x : List ℕ) → taken ≡ is_taken s x → again ≡ least (if taken then found_at n fault.Twice else []) → p ≡ sooner o again → p ≡ sooner o (least (twice n s x))
+param_found s n o p again taken x e f g = g ∙ ap (sooner o) (f ∙ ap (λ (y : Bool). least (if y then found_at n fault.Twice else [])) e)
 
 -- ---- the accumulators
 

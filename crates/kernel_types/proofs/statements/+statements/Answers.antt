@@ -9,6 +9,9 @@ use Rattle.kernel_types.proofs.ChoiceWalks.{one_found, one_types, two_scope, two
 use Rattle.kernel_types.proofs.KindWalks.{acted, acted_if, action_room}
 use Rattle.kernel_types.proofs.BlockWalks.{if_below, if_else_below, statement_below, statement_room, no_statement, block_end}
 use Rattle.kernel_types.proofs.TypeLists.{then_types}
+use Rattle.kernel_types.proofs.OperandWalks.{one_end, past_item, block_next}
+use Rattle.kernel_types.proofs.LeastFault.{sooner-none}
+use Rattle.kernel_tree.specs.Items.{term_size, block_size}
 use Rattle.kernel_types.proofs.statements.+statements.Goals as goal
 
 pub walk_block-loop-stmt-preserved : goal.walk_block-loop-stmt-preserved
@@ -166,3 +169,20 @@ walk_block-returns t c =
 
 pub walk_block-offset_bounds-block-stmt-index : goal.walk_block-offset_bounds-block-stmt-index
 walk_block-offset_bounds-block-stmt-index t c = omega arith
+
+-- ---- an `if` with one block, and a block whose names are visible no more
+
+pub walk_if-returns-clause-scope : goal.walk_if-returns-clause-scope
+walk_if-returns-clause-scope t c = c.walk_inner.ensures.scope
+
+pub walk_if-returns-clause-next : goal.walk_if-returns-clause-next
+walk_if-returns-clause-next t c = IfOk-weaker c.walk_inner.result _ _ (λ _ h. block_next c.args.notes.now.next (term_size (scope_of c.args.scope.now).index (term_of c.args.cond.now)) (block_size (scope_of c.args.scope.now).index (block_of c.args.block.now)) c.walk_marked.new.notes.next c.walk_inner.new.notes.next c.walk_marked.ensures.next h) c.walk_inner.ensures.next
+
+pub walk_inner-end-requires : goal.walk_inner-end-requires
+walk_inner-end-requires t c = one_end c.args.notes.now.next (block_size (scope_of c.args.scope.now).index (block_of c.args.block.now)) c.walk_block.new.notes.next c.requires c.in_ok-walk_block.ensures.next
+
+pub walk_inner-returns-clause-next : goal.walk_inner-returns-clause-next
+walk_inner-returns-clause-next t c = past_item c.args.notes.now.next c.walk_block.new.notes.next c.end.new.notes.next (block_size (scope_of c.args.scope.now).index (block_of c.args.block.now)) c.in_ok-walk_block.ensures.next c.end.ensures.next
+
+pub walk_inner-returns-clause-found : goal.walk_inner-returns-clause-found
+walk_inner-returns-clause-found t c = c.end.ensures.found ∙ sooner-none c.walk_block.new.notes.found ∙ c.in_ok-walk_block.ensures.found

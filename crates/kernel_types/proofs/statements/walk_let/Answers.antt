@@ -5,7 +5,8 @@ use Rattle.kernel_tree.specs.Plain.{name_of, term_of}
 use Rattle.kernel_tree.specs.Items.{term_size}
 use Rattle.kernel_tree.specs.Typing.{first, defined}
 use Rattle.kernel_scope.specs.Scopes.{scope_of}
-use Rattle.kernel_types.proofs.PartWalks.{on_any, let_found, past_item}
+use Rattle.kernel_types.proofs.PartWalks.{on_any, let_found}
+use Rattle.kernel_types.proofs.OperandWalks.{past_item}
 use Rattle.kernel_types.proofs.statements.walk_let.Goals as goal
 
 pub returns-clause-types : goal.returns-clause-types
