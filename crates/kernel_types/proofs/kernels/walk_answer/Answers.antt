@@ -5,8 +5,6 @@ use Rattle.kernel_scope.specs.Scopes.{scope_of}
 use Rattle.kernel_types.proofs.PartWalks.{no_answer, one_answer, value_fits, mark_room}
 use Rattle.kernel_types.proofs.kernels.walk_answer.Goals as goal
 
-
-
 pub walk_expr-requires : goal.walk_expr-requires
 walk_expr-requires c =
     value_fits (scope_of c.args.scope.now).index c.args.notes.now.next (returned_of c.in-Some.answer) (option_map returned_of c.args.answer.now) (ap (option_map returned_of) c.in-Some.is) c.requires.room

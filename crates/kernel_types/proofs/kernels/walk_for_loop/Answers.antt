@@ -1,12 +1,10 @@
-use Rattle.std.proofs.Common.{◌+◌, ◌<◌, ◌^◌, sym, ap, subst, ◌∙◌, Option}
+use Rattle.std.proofs.Common.{◌+◌, ◌<◌, ◌^◌, ap, subst, ◌∙◌, Option}
 use Rattle.std.specs.Prelude.{option_map}
 use Rattle.kernel_tree.specs.Plain.{PlainLoop, for_loop_of}
 use Rattle.kernel_tree.specs.Items as items
 use Rattle.kernel_scope.specs.Scopes.{scope_of}
 use Rattle.kernel_types.proofs.PartWalks.{no_loop, one_loop}
 use Rattle.kernel_types.proofs.kernels.walk_for_loop.Goals as goal
-
-
 
 pub walk_loop-requires : goal.walk_loop-requires
 walk_loop-requires c =

@@ -1,4 +1,4 @@
-use Rattle.std.proofs.Common.{◌+◌, ap, ◌∙◌, drop, refl, arith}
+use Rattle.std.proofs.Common.{◌+◌, ap, ◌∙◌, drop, refl}
 use Rattle.kernel_tree.specs.Plain.{accumulator_of, accumulators_of}
 use Rattle.kernel_scope.specs.Scopes.{scope_of}
 use Rattle.kernel_types.proofs.ListWalks.{next_item, vars_go_on}
