@@ -268,7 +268,7 @@ walk_read-end-requires t c = one_end c.args.notes.now.next (index_items (scope_o
 pub walk_read-returns-clause-next : goal.walk_read-returns-clause-next
 walk_read-returns-clause-next t c = past_item c.args.notes.now.next c.walk_index.new.notes.next c.end.new.notes.next (index_items (scope_of c.args.scope.now).index (term_of c.args.index.now)) c.walk_index.ensures.next c.end.ensures.next
 
--- ---- an expression by its kind
+-- ---- an expression by its kind; a literal and the count of a shift are passed on by their 128 bits, and read back from them
 
 pub walk_expr-walk_literal-requires : goal.walk_expr-walk_literal-requires
 walk_expr-walk_literal-requires t c =
