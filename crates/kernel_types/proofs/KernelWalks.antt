@@ -23,6 +23,9 @@ index s = s.index
 pub count_params : (ps xs : List Param) → xs ≡ ps → 0 + length xs ≡ length (parameters_of ps)
 count_params ps xs e = omega (arith, ap length e, length-map ps parameter_of)
 
+pub params_room : (k : Program) (ps xs : List Param) (n : ℕ) → n ≡ 0 → xs ≡ ps → parameters_of ps ≡ k.params → size_of k < 2 ^ 32 → n + length xs < 2 ^ 32
+params_room k ps xs n e f g h = omega (arith, count_params ps xs f, ap length g, e, h)
+
 pub vars_index : (k : Program) (s : Scope) → s ≡ var_scope k → s.index ≡ loop_index k
 vars_index k s e = rw e (scope_index k)
 

@@ -5,3 +5,7 @@ pub mod KernelWalks
 pub mod Bounds
 pub mod FirstFault
 mod TypeLists
+mod KindWalks
+mod BlockWalks
+mod PartWalks
+mod OperandWalks

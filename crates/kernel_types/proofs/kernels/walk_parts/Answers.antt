@@ -1,5 +1,5 @@
-use Rattle.std.proofs.Common.{◌≡◌, ℕ, ◌+◌, List, ◌++◌, Option, length, ap, ap₂, ◌∙◌}
-use Rattle.std.proofs.lemmas.Result.{IfOk-weaker}
+use Rattle.std.proofs.Common.{◌≡◌, ℕ, ◌+◌, List, ◌++◌, Option, length, ap, ap₂, ◌∙◌, refl}
+use Rattle.std.proofs.lemmas.Result.{IfOk-weaker, IfOk-from_err}
 use Rattle.kernel_tree.specs.declared.ops.Ty.{Ty}
 use Rattle.kernel_tree.specs.declared.fault.Found.{Found}
 use Rattle.kernel_tree.specs.Plain.{parameters_of, accumulators_of, program_of}
@@ -7,7 +7,7 @@ use Rattle.kernel_tree.specs.Items.{for_loop_size}
 use Rattle.kernel_tree.specs.Typing.{Scope, after_params, after_vars, after_for_loop, param_scope, var_scope, params_faults, sooner, least, params_types, vars_types, for_loop_types, answer_types, types_of}
 use Rattle.kernel_scope.specs.Scopes.{scope_of}
 use Rattle.kernel_types.specs.Parts.{Adds}
-use Rattle.kernel_types.proofs.KernelWalks.{count_params, vars_index, vars_outside, vars_room, for_loop_room, answer_room, vars_count, whole}
+use Rattle.kernel_types.proofs.KernelWalks.{count_params, vars_index, vars_outside, vars_room, for_loop_room, answer_room, vars_count, whole, params_room}
 use Rattle.kernel_types.proofs.TypeLists.{then_types}
 use Rattle.kernel_types.proofs.kernels.walk_parts.Goals as goal
 
@@ -96,3 +96,22 @@ returns-clause-types c =
     let answer : Adds c.walk_for_loop.new.notes c.walk_answer.new.notes (answer_types (after_for_loop (var_scope k) k.for_loop) k.answer) = rw s3 at c.walk_answer.ensures.types in
     let all : Adds c.args.notes.now c.walk_answer.new.notes (types_of k) = then_types params (then_types vars (then_types for_loop answer)) in
     IfOk-weaker c.kept.result _ _ (λ _ lost. all.items lost ∙ ap (λ (ts : List (Option Ty)). ts ++ types_of k) c.requires.types) c.kept.ensures
+
+pub walk_params-requires : goal.walk_params-requires
+walk_params-requires c =
+    params_room (program_of c.args.kernel.now) c.args.kernel.now.params.items c.deref.result.now c.args.notes.now.next c.requires.next c.deref.ensures.value refl c.requires.room
+
+pub returns-in_err-walk_params : goal.returns-in_err-walk_params
+returns-in_err-walk_params c =
+    let failed = c.from_residual.ensures.0 in
+    record { found = IfOk-from_err _ _ failed; types = IfOk-from_err _ (λ _. c.walk_params.new.notes.types.items ≡ types_of (program_of c.args.kernel.now)) failed }
+
+pub returns-in_err-walk_vars : goal.returns-in_err-walk_vars
+returns-in_err-walk_vars c =
+    let failed = c.from_residual-in_err-walk_vars.ensures.0 in
+    record { found = IfOk-from_err _ _ failed; types = IfOk-from_err _ (λ _. c.walk_vars.new.notes.types.items ≡ types_of (program_of c.args.kernel.now)) failed }
+
+pub returns-in_err-walk_for_loop : goal.returns-in_err-walk_for_loop
+returns-in_err-walk_for_loop c =
+    let failed = c.from_residual-in_err-walk_for_loop.ensures.0 in
+    record { found = IfOk-from_err _ _ failed; types = IfOk-from_err _ (λ _. c.walk_for_loop.new.notes.types.items ≡ types_of (program_of c.args.kernel.now)) failed }

@@ -1,15 +1,21 @@
-use Rattle.std.proofs.Common.{ℕ, ◌++◌, Option, ap, ◌∙◌, arith, rules}
-use Rattle.std.specs.Prelude.{ℤ}
+use Rattle.std.proofs.Common.{◌≡◌, ℕ, ◌+◌, ◌++◌, Option, Some, refl, sym, ap, ap₂, ◌∙◌, arith, rules}
+use Rattle.std.specs.Prelude.{ℤ, max}
 use Rattle.std.specs.Int.{w128}
 use Rattle.std.proofs.lemmas.Int.{to_z-of_z}
+use Rattle.kernel_tree.specs.declared.ast.Expr.{Expr}
 use Rattle.kernel_tree.specs.declared.ops.Ty.{Ty}
-use Rattle.kernel_tree.specs.Plain.{name_of, term_of}
+use Rattle.kernel_tree.specs.declared.ops.Ty.TheVariants as ty
+use Rattle.kernel_tree.specs.Plain.{Literal, Variable, Element, Unary, Operation, Shift, Conversion, Choice, Comparison, Both, Either, Not, name_of, term_of}
 use Rattle.kernel_tree.specs.Items as items
+use Rattle.kernel_tree.specs.Items.{term_size, index_items}
+use Rattle.kernel_tree.specs.Limits.{term_depth}
 use Rattle.kernel_tree.specs.Typing as typing
 use Rattle.kernel_scope.specs.Scopes.{scope_of}
 use Rattle.kernel_types.specs.Parts.{role_of}
 use Rattle.kernel_types.proofs.LeastFault.{part_and_item, sooner-none, then_item, two_then_item, three_then_item, both_rules}
 use Rattle.kernel_types.proofs.TypeLists.{then_types}
+use Rattle.kernel_types.proofs.KindWalks.{called, read_called, has_room, walked, computed_items, streamed, computed}
+use Rattle.kernel_types.proofs.OperandWalks.{one_below, left_below, right_below, middle_below, last_below, one_room, one_end, past_item, two_first, two_second, two_end, two_next, either_first, either_mark, either_second, either_end, either_next, three_first, three_second, three_third, three_end, three_next}
 use Rattle.kernel_types.proofs.terms.+terms.Goals as goal
 
 pub walk_read-returns-clause-found : goal.walk_read-returns-clause-found
@@ -155,109 +161,266 @@ pub walk_not-returns-clause-types : goal.walk_not-returns-clause-types
 walk_not-returns-clause-types t c = then_types c.walk_expr.ensures.types c.end.ensures.types
 
 pub walk_unary-walk_expr-requires : goal.walk_unary-walk_expr-requires
-walk_unary-walk_expr-requires t c = (search rules, omega arith)
+walk_unary-walk_expr-requires t c = (one_below t (term_depth (term_of c.args.arg.now)) c.decreases, one_room c.args.notes.now.next (term_size (scope_of c.args.scope.now).index (term_of c.args.arg.now)) c.requires)
 
 pub walk_unary-end-requires : goal.walk_unary-end-requires
-walk_unary-end-requires t c = omega arith
+walk_unary-end-requires t c = one_end c.args.notes.now.next (term_size (scope_of c.args.scope.now).index (term_of c.args.arg.now)) c.walk_expr.new.notes.next c.requires c.walk_expr.ensures.next
 
 pub walk_unary-returns-clause-next : goal.walk_unary-returns-clause-next
-walk_unary-returns-clause-next t c = omega arith
+walk_unary-returns-clause-next t c = past_item c.args.notes.now.next c.walk_expr.new.notes.next c.end.new.notes.next (term_size (scope_of c.args.scope.now).index (term_of c.args.arg.now)) c.walk_expr.ensures.next c.end.ensures.next
 
 pub walk_binary-walk_expr-requires : goal.walk_binary-walk_expr-requires
-walk_binary-walk_expr-requires t c = (search rules, omega arith)
+walk_binary-walk_expr-requires t c = (left_below t (term_depth (term_of c.args.left.now)) (term_depth (term_of c.args.right.now)) c.decreases, two_first c.args.notes.now.next (term_size (scope_of c.args.scope.now).index (term_of c.args.left.now)) (term_size (scope_of c.args.scope.now).index (term_of c.args.right.now)) c.requires)
 
 pub walk_binary-walk_expr-requires-2 : goal.walk_binary-walk_expr-requires-2
-walk_binary-walk_expr-requires-2 t c = (search rules, omega arith)
+walk_binary-walk_expr-requires-2 t c = (right_below t (term_depth (term_of c.args.left.now)) (term_depth (term_of c.args.right.now)) c.decreases, two_second c.args.notes.now.next (term_size (scope_of c.args.scope.now).index (term_of c.args.left.now)) (term_size (scope_of c.args.scope.now).index (term_of c.args.right.now)) c.requires c.walk_expr.new.notes.next c.walk_expr.ensures.next)
 
 pub walk_binary-end-requires : goal.walk_binary-end-requires
-walk_binary-end-requires t c = omega arith
+walk_binary-end-requires t c = two_end c.args.notes.now.next (term_size (scope_of c.args.scope.now).index (term_of c.args.left.now)) (term_size (scope_of c.args.scope.now).index (term_of c.args.right.now)) c.requires c.walk_expr.new.notes.next c.walk_expr-2.new.notes.next c.walk_expr.ensures.next c.walk_expr-2.ensures.next
 
 pub walk_binary-returns-clause-next : goal.walk_binary-returns-clause-next
-walk_binary-returns-clause-next t c = omega arith
+walk_binary-returns-clause-next t c = two_next c.args.notes.now.next (term_size (scope_of c.args.scope.now).index (term_of c.args.left.now)) (term_size (scope_of c.args.scope.now).index (term_of c.args.right.now)) c.walk_expr.new.notes.next c.walk_expr-2.new.notes.next c.end.new.notes.next c.walk_expr.ensures.next c.walk_expr-2.ensures.next c.end.ensures.next
 
 pub walk_shift-walk_expr-requires : goal.walk_shift-walk_expr-requires
-walk_shift-walk_expr-requires t c = (search rules, omega arith)
+walk_shift-walk_expr-requires t c = (one_below t (term_depth (term_of c.args.arg.now)) c.decreases, one_room c.args.notes.now.next (term_size (scope_of c.args.scope.now).index (term_of c.args.arg.now)) c.requires)
 
 pub walk_shift-end_shift-requires : goal.walk_shift-end_shift-requires
-walk_shift-end_shift-requires t c = omega arith
+walk_shift-end_shift-requires t c = one_end c.args.notes.now.next (term_size (scope_of c.args.scope.now).index (term_of c.args.arg.now)) c.walk_expr.new.notes.next c.requires c.walk_expr.ensures.next
 
 pub walk_shift-returns-clause-next : goal.walk_shift-returns-clause-next
-walk_shift-returns-clause-next t c = omega arith
+walk_shift-returns-clause-next t c = past_item c.args.notes.now.next c.walk_expr.new.notes.next c.end_shift.new.notes.next (term_size (scope_of c.args.scope.now).index (term_of c.args.arg.now)) c.walk_expr.ensures.next c.end_shift.ensures.next
 
 pub walk_cast-walk_expr-requires : goal.walk_cast-walk_expr-requires
-walk_cast-walk_expr-requires t c = (search rules, omega arith)
+walk_cast-walk_expr-requires t c = (one_below t (term_depth (term_of c.args.arg.now)) c.decreases, one_room c.args.notes.now.next (term_size (scope_of c.args.scope.now).index (term_of c.args.arg.now)) c.requires)
 
 pub walk_cast-end-requires : goal.walk_cast-end-requires
-walk_cast-end-requires t c = omega arith
+walk_cast-end-requires t c = one_end c.args.notes.now.next (term_size (scope_of c.args.scope.now).index (term_of c.args.arg.now)) c.walk_expr.new.notes.next c.requires c.walk_expr.ensures.next
 
 pub walk_cast-returns-clause-next : goal.walk_cast-returns-clause-next
-walk_cast-returns-clause-next t c = omega arith
+walk_cast-returns-clause-next t c = past_item c.args.notes.now.next c.walk_expr.new.notes.next c.end.new.notes.next (term_size (scope_of c.args.scope.now).index (term_of c.args.arg.now)) c.walk_expr.ensures.next c.end.ensures.next
 
 pub walk_select-walk_expr-requires : goal.walk_select-walk_expr-requires
-walk_select-walk_expr-requires t c = (search rules, omega arith)
+walk_select-walk_expr-requires t c = (middle_below t (term_depth (term_of c.args.cond.now)) (term_depth (term_of c.args.yes.now)) (term_depth (term_of c.args.no.now)) c.decreases, three_first c.args.notes.now.next (term_size (scope_of c.args.scope.now).index (term_of c.args.yes.now)) (term_size (scope_of c.args.scope.now).index (term_of c.args.no.now)) (term_size (scope_of c.args.scope.now).index (term_of c.args.cond.now)) c.requires)
 
 pub walk_select-walk_expr-requires-2 : goal.walk_select-walk_expr-requires-2
-walk_select-walk_expr-requires-2 t c = (search rules, omega arith)
+walk_select-walk_expr-requires-2 t c = (last_below t (term_depth (term_of c.args.cond.now)) (term_depth (term_of c.args.yes.now)) (term_depth (term_of c.args.no.now)) c.decreases, three_second c.args.notes.now.next (term_size (scope_of c.args.scope.now).index (term_of c.args.yes.now)) (term_size (scope_of c.args.scope.now).index (term_of c.args.no.now)) (term_size (scope_of c.args.scope.now).index (term_of c.args.cond.now)) c.requires c.walk_expr.new.notes.next c.walk_expr.ensures.next)
 
 pub walk_select-walk_expr-requires-3 : goal.walk_select-walk_expr-requires-3
-walk_select-walk_expr-requires-3 t c = (search rules, omega arith)
+walk_select-walk_expr-requires-3 t c = (left_below t (term_depth (term_of c.args.cond.now)) (max (term_depth (term_of c.args.yes.now)) (term_depth (term_of c.args.no.now))) c.decreases, three_third c.args.notes.now.next (term_size (scope_of c.args.scope.now).index (term_of c.args.yes.now)) (term_size (scope_of c.args.scope.now).index (term_of c.args.no.now)) (term_size (scope_of c.args.scope.now).index (term_of c.args.cond.now)) c.requires c.walk_expr.new.notes.next c.walk_expr-2.new.notes.next c.walk_expr.ensures.next c.walk_expr-2.ensures.next)
 
 pub walk_select-end-requires : goal.walk_select-end-requires
-walk_select-end-requires t c = omega arith
+walk_select-end-requires t c = three_end c.args.notes.now.next (term_size (scope_of c.args.scope.now).index (term_of c.args.yes.now)) (term_size (scope_of c.args.scope.now).index (term_of c.args.no.now)) (term_size (scope_of c.args.scope.now).index (term_of c.args.cond.now)) c.requires c.walk_expr.new.notes.next c.walk_expr-2.new.notes.next c.walk_expr-3.new.notes.next c.walk_expr.ensures.next c.walk_expr-2.ensures.next c.walk_expr-3.ensures.next
 
 pub walk_select-returns-clause-next : goal.walk_select-returns-clause-next
-walk_select-returns-clause-next t c = omega arith
+walk_select-returns-clause-next t c = three_next c.args.notes.now.next (term_size (scope_of c.args.scope.now).index (term_of c.args.yes.now)) (term_size (scope_of c.args.scope.now).index (term_of c.args.no.now)) (term_size (scope_of c.args.scope.now).index (term_of c.args.cond.now)) c.walk_expr.new.notes.next c.walk_expr-2.new.notes.next c.walk_expr-3.new.notes.next c.end.new.notes.next c.walk_expr.ensures.next c.walk_expr-2.ensures.next c.walk_expr-3.ensures.next c.end.ensures.next
 
 pub walk_compare-walk_expr-requires : goal.walk_compare-walk_expr-requires
-walk_compare-walk_expr-requires t c = (search rules, omega arith)
+walk_compare-walk_expr-requires t c = (left_below t (term_depth (term_of c.args.left.now)) (term_depth (term_of c.args.right.now)) c.decreases, two_first c.args.notes.now.next (term_size (scope_of c.args.scope.now).index (term_of c.args.left.now)) (term_size (scope_of c.args.scope.now).index (term_of c.args.right.now)) c.requires)
 
 pub walk_compare-walk_expr-requires-2 : goal.walk_compare-walk_expr-requires-2
-walk_compare-walk_expr-requires-2 t c = (search rules, omega arith)
+walk_compare-walk_expr-requires-2 t c = (right_below t (term_depth (term_of c.args.left.now)) (term_depth (term_of c.args.right.now)) c.decreases, two_second c.args.notes.now.next (term_size (scope_of c.args.scope.now).index (term_of c.args.left.now)) (term_size (scope_of c.args.scope.now).index (term_of c.args.right.now)) c.requires c.walk_expr.new.notes.next c.walk_expr.ensures.next)
 
 pub walk_compare-end-requires : goal.walk_compare-end-requires
-walk_compare-end-requires t c = omega arith
+walk_compare-end-requires t c = two_end c.args.notes.now.next (term_size (scope_of c.args.scope.now).index (term_of c.args.left.now)) (term_size (scope_of c.args.scope.now).index (term_of c.args.right.now)) c.requires c.walk_expr.new.notes.next c.walk_expr-2.new.notes.next c.walk_expr.ensures.next c.walk_expr-2.ensures.next
 
 pub walk_compare-returns-clause-next : goal.walk_compare-returns-clause-next
-walk_compare-returns-clause-next t c = omega arith
+walk_compare-returns-clause-next t c = two_next c.args.notes.now.next (term_size (scope_of c.args.scope.now).index (term_of c.args.left.now)) (term_size (scope_of c.args.scope.now).index (term_of c.args.right.now)) c.walk_expr.new.notes.next c.walk_expr-2.new.notes.next c.end.new.notes.next c.walk_expr.ensures.next c.walk_expr-2.ensures.next c.end.ensures.next
 
 pub walk_and-walk_expr-requires : goal.walk_and-walk_expr-requires
-walk_and-walk_expr-requires t c = (search rules, omega arith)
+walk_and-walk_expr-requires t c = (left_below t (term_depth (term_of c.args.left.now)) (term_depth (term_of c.args.right.now)) c.decreases, two_first c.args.notes.now.next (term_size (scope_of c.args.scope.now).index (term_of c.args.left.now)) (term_size (scope_of c.args.scope.now).index (term_of c.args.right.now)) c.requires)
 
 pub walk_and-walk_expr-requires-2 : goal.walk_and-walk_expr-requires-2
-walk_and-walk_expr-requires-2 t c = (search rules, omega arith)
+walk_and-walk_expr-requires-2 t c = (right_below t (term_depth (term_of c.args.left.now)) (term_depth (term_of c.args.right.now)) c.decreases, two_second c.args.notes.now.next (term_size (scope_of c.args.scope.now).index (term_of c.args.left.now)) (term_size (scope_of c.args.scope.now).index (term_of c.args.right.now)) c.requires c.walk_expr.new.notes.next c.walk_expr.ensures.next)
 
 pub walk_and-end-requires : goal.walk_and-end-requires
-walk_and-end-requires t c = omega arith
+walk_and-end-requires t c = two_end c.args.notes.now.next (term_size (scope_of c.args.scope.now).index (term_of c.args.left.now)) (term_size (scope_of c.args.scope.now).index (term_of c.args.right.now)) c.requires c.walk_expr.new.notes.next c.walk_expr-2.new.notes.next c.walk_expr.ensures.next c.walk_expr-2.ensures.next
 
 pub walk_and-returns-clause-next : goal.walk_and-returns-clause-next
-walk_and-returns-clause-next t c = omega arith
+walk_and-returns-clause-next t c = two_next c.args.notes.now.next (term_size (scope_of c.args.scope.now).index (term_of c.args.left.now)) (term_size (scope_of c.args.scope.now).index (term_of c.args.right.now)) c.walk_expr.new.notes.next c.walk_expr-2.new.notes.next c.end.new.notes.next c.walk_expr.ensures.next c.walk_expr-2.ensures.next c.end.ensures.next
 
 pub walk_or-walk_expr-requires : goal.walk_or-walk_expr-requires
-walk_or-walk_expr-requires t c = (search rules, omega arith)
+walk_or-walk_expr-requires t c = (left_below t (term_depth (term_of c.args.left.now)) (term_depth (term_of c.args.right.now)) c.decreases, either_first c.args.notes.now.next (term_size (scope_of c.args.scope.now).index (term_of c.args.left.now)) (term_size (scope_of c.args.scope.now).index (term_of c.args.right.now)) c.requires)
 
 pub walk_or-walk_expr-requires-2 : goal.walk_or-walk_expr-requires-2
-walk_or-walk_expr-requires-2 t c = (search rules, omega arith)
+walk_or-walk_expr-requires-2 t c = (right_below t (term_depth (term_of c.args.left.now)) (term_depth (term_of c.args.right.now)) c.decreases, either_second c.args.notes.now.next (term_size (scope_of c.args.scope.now).index (term_of c.args.left.now)) (term_size (scope_of c.args.scope.now).index (term_of c.args.right.now)) c.requires c.walk_expr.new.notes.next c.end.new.notes.next c.walk_expr.ensures.next c.end.ensures.next)
 
 pub walk_or-end-requires : goal.walk_or-end-requires
-walk_or-end-requires t c = omega arith
+walk_or-end-requires t c = either_mark c.args.notes.now.next (term_size (scope_of c.args.scope.now).index (term_of c.args.left.now)) (term_size (scope_of c.args.scope.now).index (term_of c.args.right.now)) c.requires c.walk_expr.new.notes.next c.walk_expr.ensures.next
 
 pub walk_or-end-requires-2 : goal.walk_or-end-requires-2
-walk_or-end-requires-2 t c = omega arith
+walk_or-end-requires-2 t c = either_end c.args.notes.now.next (term_size (scope_of c.args.scope.now).index (term_of c.args.left.now)) (term_size (scope_of c.args.scope.now).index (term_of c.args.right.now)) c.requires c.walk_expr.new.notes.next c.end.new.notes.next c.walk_expr-2.new.notes.next c.walk_expr.ensures.next c.end.ensures.next c.walk_expr-2.ensures.next
 
 pub walk_or-returns-clause-next : goal.walk_or-returns-clause-next
-walk_or-returns-clause-next t c = omega arith
+walk_or-returns-clause-next t c = either_next c.args.notes.now.next (term_size (scope_of c.args.scope.now).index (term_of c.args.left.now)) (term_size (scope_of c.args.scope.now).index (term_of c.args.right.now)) c.walk_expr.new.notes.next c.end.new.notes.next c.walk_expr-2.new.notes.next c.end-2.new.notes.next c.walk_expr.ensures.next c.end.ensures.next c.walk_expr-2.ensures.next c.end-2.ensures.next
 
 pub walk_not-walk_expr-requires : goal.walk_not-walk_expr-requires
-walk_not-walk_expr-requires t c = (search rules, omega arith)
+walk_not-walk_expr-requires t c = (one_below t (term_depth (term_of c.args.arg.now)) c.decreases, one_room c.args.notes.now.next (term_size (scope_of c.args.scope.now).index (term_of c.args.arg.now)) c.requires)
 
 pub walk_not-end-requires : goal.walk_not-end-requires
-walk_not-end-requires t c = omega arith
+walk_not-end-requires t c = one_end c.args.notes.now.next (term_size (scope_of c.args.scope.now).index (term_of c.args.arg.now)) c.walk_expr.new.notes.next c.requires c.walk_expr.ensures.next
 
 pub walk_not-returns-clause-next : goal.walk_not-returns-clause-next
-walk_not-returns-clause-next t c = omega arith
+walk_not-returns-clause-next t c = past_item c.args.notes.now.next c.walk_expr.new.notes.next c.end.new.notes.next (term_size (scope_of c.args.scope.now).index (term_of c.args.arg.now)) c.walk_expr.ensures.next c.end.ensures.next
 
 pub walk_read-end-requires : goal.walk_read-end-requires
-walk_read-end-requires t c = omega arith
+walk_read-end-requires t c = one_end c.args.notes.now.next (index_items (scope_of c.args.scope.now).index (term_of c.args.index.now)) c.walk_index.new.notes.next c.requires c.walk_index.ensures.next
 
 pub walk_read-returns-clause-next : goal.walk_read-returns-clause-next
-walk_read-returns-clause-next t c = omega arith
+walk_read-returns-clause-next t c = past_item c.args.notes.now.next c.walk_index.new.notes.next c.end.new.notes.next (index_items (scope_of c.args.scope.now).index (term_of c.args.index.now)) c.walk_index.ensures.next c.end.ensures.next
+
+-- ---- an expression by its kind; a literal and the count of a shift are passed on by their 128 bits, and read back from them
+
+pub walk_expr-walk_literal-requires : goal.walk_expr-walk_literal-requires
+walk_expr-walk_literal-requires t c =
+    let is : term_of c.args.expr.now ≡ Literal c.in-Lit.value = ap term_of c.in-Lit.is in
+    has_room (scope_of c.args.scope.now).index c.args.notes.now.next (term_of c.args.expr.now) (Literal c.in-Lit.value) c.requires is refl
+
+pub walk_expr-returns-in-Lit : goal.walk_expr-returns-in-Lit
+walk_expr-returns-in-Lit t c =
+    let is : term_of c.args.expr.now ≡ Literal c.in-Lit.value = ap term_of c.in-Lit.is in
+    let made = walked (scope_of c.args.scope.now) (role_of c.args.role) c.args.notes.now c.walk_literal.new.notes (Literal c.in-Lit.value) (term_of c.args.expr.now) is (record { next = c.walk_literal.ensures.next; found = c.walk_literal.ensures.found ∙ ap (λ (n : ℤ). typing.sooner c.args.notes.now.found (typing.least (typing.faults (scope_of c.args.scope.now) c.args.notes.now.next (role_of c.args.role) (Literal n)))) (to_z-of_z w128 c.in-Lit.value (search rules)); types = c.walk_literal.ensures.types }) in
+    record { next = made.next; found = made.found; types = made.types }
+
+pub walk_expr-walk_name-requires : goal.walk_expr-walk_name-requires
+walk_expr-walk_name-requires t c =
+    let is : term_of c.args.expr.now ≡ Variable (name_of c.in-Var.name) = ap term_of c.in-Var.is in
+    has_room (scope_of c.args.scope.now).index c.args.notes.now.next (term_of c.args.expr.now) (Variable (name_of c.in-Var.name)) c.requires is refl
+
+pub walk_expr-returns-in-Var : goal.walk_expr-returns-in-Var
+walk_expr-returns-in-Var t c =
+    let is : term_of c.args.expr.now ≡ Variable (name_of c.in-Var.name) = ap term_of c.in-Var.is in
+    let made = walked (scope_of c.args.scope.now) (role_of c.args.role) c.args.notes.now c.walk_name.new.notes (Variable (name_of c.in-Var.name)) (term_of c.args.expr.now) is (record { next = c.walk_name.ensures.next; found = c.walk_name.ensures.found; types = c.walk_name.ensures.types }) in
+    record { next = made.next; found = made.found; types = made.types }
+
+pub walk_expr-walk_read-requires : goal.walk_expr-walk_read-requires
+walk_expr-walk_read-requires t c =
+    let is : term_of c.args.expr.now ≡ Element (name_of c.in-Read.array) (term_of c.deref.result.now) = ap term_of c.in-Read.is ∙ ap (λ (e : Expr). Element (name_of c.in-Read.array) (term_of e)) (sym c.deref.ensures) in
+    read_called (scope_of c.args.scope.now).index t c.args.notes.now.next (term_of c.args.expr.now) c.decreases c.requires (Element (name_of c.in-Read.array) (term_of c.deref.result.now)) (term_depth (term_of c.deref.result.now)) (index_items (scope_of c.args.scope.now).index (term_of c.deref.result.now) + 1) is refl refl
+
+pub walk_expr-returns-in-Read : goal.walk_expr-returns-in-Read
+walk_expr-returns-in-Read t c =
+    let is : term_of c.args.expr.now ≡ Element (name_of c.in-Read.array) (term_of c.deref.result.now) = ap term_of c.in-Read.is ∙ ap (λ (e : Expr). Element (name_of c.in-Read.array) (term_of e)) (sym c.deref.ensures) in
+    let made = walked (scope_of c.args.scope.now) (role_of c.args.role) c.args.notes.now c.walk_read.new.notes (Element (name_of c.in-Read.array) (term_of c.deref.result.now)) (term_of c.args.expr.now) is (record { next = c.walk_read.ensures.next; found = c.walk_read.ensures.found; types = c.walk_read.ensures.types }) in
+    record { next = made.next; found = made.found; types = made.types }
+
+pub walk_expr-walk_unary-requires : goal.walk_expr-walk_unary-requires
+walk_expr-walk_unary-requires t c =
+    let is : term_of c.args.expr.now ≡ Unary c.in-Unary.op (term_of c.deref-in-Unary.result.now) = ap term_of c.in-Unary.is ∙ ap (λ (e : Expr). Unary c.in-Unary.op (term_of e)) (sym c.deref-in-Unary.ensures) in
+    called (scope_of c.args.scope.now).index t c.args.notes.now.next (term_of c.args.expr.now) c.decreases c.requires (Unary c.in-Unary.op (term_of c.deref-in-Unary.result.now)) (term_depth (term_of c.deref-in-Unary.result.now)) (term_size (scope_of c.args.scope.now).index (term_of c.deref-in-Unary.result.now) + 1) is refl refl
+
+pub walk_expr-returns-in-Unary : goal.walk_expr-returns-in-Unary
+walk_expr-returns-in-Unary t c =
+    let is : term_of c.args.expr.now ≡ Unary c.in-Unary.op (term_of c.deref-in-Unary.result.now) = ap term_of c.in-Unary.is ∙ ap (λ (e : Expr). Unary c.in-Unary.op (term_of e)) (sym c.deref-in-Unary.ensures) in
+    let made = walked (scope_of c.args.scope.now) (role_of c.args.role) c.args.notes.now c.walk_unary.new.notes (Unary c.in-Unary.op (term_of c.deref-in-Unary.result.now)) (term_of c.args.expr.now) is (record { next = c.walk_unary.ensures.next; found = c.walk_unary.ensures.found; types = c.walk_unary.ensures.types }) in
+    record { next = made.next; found = made.found; types = made.types }
+
+pub walk_expr-walk_binary-requires : goal.walk_expr-walk_binary-requires
+walk_expr-walk_binary-requires t c =
+    let is : term_of c.args.expr.now ≡ Operation c.in-Binary.op (term_of c.deref-in-Binary.result.now) (term_of c.deref-in-Binary-2.result.now) = ap term_of c.in-Binary.is ∙ ap₂ (λ (e f : Expr). Operation c.in-Binary.op (term_of e) (term_of f)) (sym c.deref-in-Binary.ensures) (sym c.deref-in-Binary-2.ensures) in
+    called (scope_of c.args.scope.now).index t c.args.notes.now.next (term_of c.args.expr.now) c.decreases c.requires (Operation c.in-Binary.op (term_of c.deref-in-Binary.result.now) (term_of c.deref-in-Binary-2.result.now)) (max (term_depth (term_of c.deref-in-Binary.result.now)) (term_depth (term_of c.deref-in-Binary-2.result.now))) (term_size (scope_of c.args.scope.now).index (term_of c.deref-in-Binary.result.now) + term_size (scope_of c.args.scope.now).index (term_of c.deref-in-Binary-2.result.now) + 1) is refl refl
+
+pub walk_expr-returns-in-Binary : goal.walk_expr-returns-in-Binary
+walk_expr-returns-in-Binary t c =
+    let is : term_of c.args.expr.now ≡ Operation c.in-Binary.op (term_of c.deref-in-Binary.result.now) (term_of c.deref-in-Binary-2.result.now) = ap term_of c.in-Binary.is ∙ ap₂ (λ (e f : Expr). Operation c.in-Binary.op (term_of e) (term_of f)) (sym c.deref-in-Binary.ensures) (sym c.deref-in-Binary-2.ensures) in
+    let made = walked (scope_of c.args.scope.now) (role_of c.args.role) c.args.notes.now c.walk_binary.new.notes (Operation c.in-Binary.op (term_of c.deref-in-Binary.result.now) (term_of c.deref-in-Binary-2.result.now)) (term_of c.args.expr.now) is (record { next = c.walk_binary.ensures.next; found = c.walk_binary.ensures.found; types = c.walk_binary.ensures.types }) in
+    record { next = made.next; found = made.found; types = made.types }
+
+pub walk_expr-walk_shift-requires : goal.walk_expr-walk_shift-requires
+walk_expr-walk_shift-requires t c =
+    let is : term_of c.args.expr.now ≡ Shift c.in-Shift.left_shift (term_of c.deref-in-Shift.result.now) c.in-Shift.count = ap term_of c.in-Shift.is ∙ ap (λ (e : Expr). Shift c.in-Shift.left_shift (term_of e) c.in-Shift.count) (sym c.deref-in-Shift.ensures) in
+    called (scope_of c.args.scope.now).index t c.args.notes.now.next (term_of c.args.expr.now) c.decreases c.requires (Shift c.in-Shift.left_shift (term_of c.deref-in-Shift.result.now) c.in-Shift.count) (term_depth (term_of c.deref-in-Shift.result.now)) (term_size (scope_of c.args.scope.now).index (term_of c.deref-in-Shift.result.now) + 1) is refl refl
+
+pub walk_expr-returns-in-Shift : goal.walk_expr-returns-in-Shift
+walk_expr-returns-in-Shift t c =
+    let is : term_of c.args.expr.now ≡ Shift c.in-Shift.left_shift (term_of c.deref-in-Shift.result.now) c.in-Shift.count = ap term_of c.in-Shift.is ∙ ap (λ (e : Expr). Shift c.in-Shift.left_shift (term_of e) c.in-Shift.count) (sym c.deref-in-Shift.ensures) in
+    let made = walked (scope_of c.args.scope.now) (role_of c.args.role) c.args.notes.now c.walk_shift.new.notes (Shift c.in-Shift.left_shift (term_of c.deref-in-Shift.result.now) c.in-Shift.count) (term_of c.args.expr.now) is (record { next = c.walk_shift.ensures.next; found = c.walk_shift.ensures.found ∙ ap (λ (n : ℤ). typing.sooner c.args.notes.now.found (typing.least (typing.faults (scope_of c.args.scope.now) c.args.notes.now.next (role_of c.args.role) (Shift c.in-Shift.left_shift (term_of c.deref-in-Shift.result.now) n)))) (to_z-of_z w128 c.in-Shift.count (search rules)); types = c.walk_shift.ensures.types }) in
+    record { next = made.next; found = made.found; types = made.types }
+
+pub walk_expr-walk_cast-requires : goal.walk_expr-walk_cast-requires
+walk_expr-walk_cast-requires t c =
+    let is : term_of c.args.expr.now ≡ Conversion (term_of c.deref-in-Cast.result.now) c.in-Cast.ty = ap term_of c.in-Cast.is ∙ ap (λ (e : Expr). Conversion (term_of e) c.in-Cast.ty) (sym c.deref-in-Cast.ensures) in
+    called (scope_of c.args.scope.now).index t c.args.notes.now.next (term_of c.args.expr.now) c.decreases c.requires (Conversion (term_of c.deref-in-Cast.result.now) c.in-Cast.ty) (term_depth (term_of c.deref-in-Cast.result.now)) (term_size (scope_of c.args.scope.now).index (term_of c.deref-in-Cast.result.now) + 1) is refl refl
+
+pub walk_expr-returns-in-Cast : goal.walk_expr-returns-in-Cast
+walk_expr-returns-in-Cast t c =
+    let is : term_of c.args.expr.now ≡ Conversion (term_of c.deref-in-Cast.result.now) c.in-Cast.ty = ap term_of c.in-Cast.is ∙ ap (λ (e : Expr). Conversion (term_of e) c.in-Cast.ty) (sym c.deref-in-Cast.ensures) in
+    let made = walked (scope_of c.args.scope.now) (role_of c.args.role) c.args.notes.now c.walk_cast.new.notes (Conversion (term_of c.deref-in-Cast.result.now) c.in-Cast.ty) (term_of c.args.expr.now) is (record { next = c.walk_cast.ensures.next; found = c.walk_cast.ensures.found; types = c.walk_cast.ensures.types }) in
+    record { next = made.next; found = made.found; types = made.types }
+
+pub walk_expr-walk_select-requires : goal.walk_expr-walk_select-requires
+walk_expr-walk_select-requires t c =
+    let is : term_of c.args.expr.now ≡ Choice (term_of c.deref-in-Select.result.now) (term_of c.deref-in-Select-2.result.now) (term_of c.deref-in-Select-3.result.now) = ap term_of c.in-Select.is ∙ ap₂ (λ (e f : Expr). Choice (term_of e) (term_of f) (term_of c.in-Select.no.value)) (sym c.deref-in-Select.ensures) (sym c.deref-in-Select-2.ensures) ∙ ap (λ (e : Expr). Choice (term_of c.deref-in-Select.result.now) (term_of c.deref-in-Select-2.result.now) (term_of e)) (sym c.deref-in-Select-3.ensures) in
+    called (scope_of c.args.scope.now).index t c.args.notes.now.next (term_of c.args.expr.now) c.decreases c.requires (Choice (term_of c.deref-in-Select.result.now) (term_of c.deref-in-Select-2.result.now) (term_of c.deref-in-Select-3.result.now)) (max (term_depth (term_of c.deref-in-Select.result.now)) (max (term_depth (term_of c.deref-in-Select-2.result.now)) (term_depth (term_of c.deref-in-Select-3.result.now)))) (term_size (scope_of c.args.scope.now).index (term_of c.deref-in-Select-2.result.now) + term_size (scope_of c.args.scope.now).index (term_of c.deref-in-Select-3.result.now) + term_size (scope_of c.args.scope.now).index (term_of c.deref-in-Select.result.now) + 1) is refl refl
+
+pub walk_expr-returns-in-Select : goal.walk_expr-returns-in-Select
+walk_expr-returns-in-Select t c =
+    let is : term_of c.args.expr.now ≡ Choice (term_of c.deref-in-Select.result.now) (term_of c.deref-in-Select-2.result.now) (term_of c.deref-in-Select-3.result.now) = ap term_of c.in-Select.is ∙ ap₂ (λ (e f : Expr). Choice (term_of e) (term_of f) (term_of c.in-Select.no.value)) (sym c.deref-in-Select.ensures) (sym c.deref-in-Select-2.ensures) ∙ ap (λ (e : Expr). Choice (term_of c.deref-in-Select.result.now) (term_of c.deref-in-Select-2.result.now) (term_of e)) (sym c.deref-in-Select-3.ensures) in
+    let made = walked (scope_of c.args.scope.now) (role_of c.args.role) c.args.notes.now c.walk_select.new.notes (Choice (term_of c.deref-in-Select.result.now) (term_of c.deref-in-Select-2.result.now) (term_of c.deref-in-Select-3.result.now)) (term_of c.args.expr.now) is (record { next = c.walk_select.ensures.next; found = c.walk_select.ensures.found; types = c.walk_select.ensures.types }) in
+    record { next = made.next; found = made.found; types = made.types }
+
+pub walk_expr-walk_compare-requires : goal.walk_expr-walk_compare-requires
+walk_expr-walk_compare-requires t c =
+    let is : term_of c.args.expr.now ≡ Comparison c.in-Compare.op (term_of c.deref-in-Compare.result.now) (term_of c.deref-in-Compare-2.result.now) = ap term_of c.in-Compare.is ∙ ap₂ (λ (e f : Expr). Comparison c.in-Compare.op (term_of e) (term_of f)) (sym c.deref-in-Compare.ensures) (sym c.deref-in-Compare-2.ensures) in
+    called (scope_of c.args.scope.now).index t c.args.notes.now.next (term_of c.args.expr.now) c.decreases c.requires (Comparison c.in-Compare.op (term_of c.deref-in-Compare.result.now) (term_of c.deref-in-Compare-2.result.now)) (max (term_depth (term_of c.deref-in-Compare.result.now)) (term_depth (term_of c.deref-in-Compare-2.result.now))) (term_size (scope_of c.args.scope.now).index (term_of c.deref-in-Compare.result.now) + term_size (scope_of c.args.scope.now).index (term_of c.deref-in-Compare-2.result.now) + 1) is refl refl
+
+pub walk_expr-returns-in-Compare : goal.walk_expr-returns-in-Compare
+walk_expr-returns-in-Compare t c =
+    let is : term_of c.args.expr.now ≡ Comparison c.in-Compare.op (term_of c.deref-in-Compare.result.now) (term_of c.deref-in-Compare-2.result.now) = ap term_of c.in-Compare.is ∙ ap₂ (λ (e f : Expr). Comparison c.in-Compare.op (term_of e) (term_of f)) (sym c.deref-in-Compare.ensures) (sym c.deref-in-Compare-2.ensures) in
+    let made = walked (scope_of c.args.scope.now) (role_of c.args.role) c.args.notes.now c.walk_compare.new.notes (Comparison c.in-Compare.op (term_of c.deref-in-Compare.result.now) (term_of c.deref-in-Compare-2.result.now)) (term_of c.args.expr.now) is (record { next = c.walk_compare.ensures.next; found = c.walk_compare.ensures.found; types = c.walk_compare.ensures.types }) in
+    record { next = made.next; found = made.found; types = made.types }
+
+pub walk_expr-walk_and-requires : goal.walk_expr-walk_and-requires
+walk_expr-walk_and-requires t c =
+    let is : term_of c.args.expr.now ≡ Both (term_of c.deref-in-And.result.now) (term_of c.deref-in-And-2.result.now) = ap term_of c.in-And.is ∙ ap₂ (λ (e f : Expr). Both (term_of e) (term_of f)) (sym c.deref-in-And.ensures) (sym c.deref-in-And-2.ensures) in
+    called (scope_of c.args.scope.now).index t c.args.notes.now.next (term_of c.args.expr.now) c.decreases c.requires (Both (term_of c.deref-in-And.result.now) (term_of c.deref-in-And-2.result.now)) (max (term_depth (term_of c.deref-in-And.result.now)) (term_depth (term_of c.deref-in-And-2.result.now))) (term_size (scope_of c.args.scope.now).index (term_of c.deref-in-And.result.now) + term_size (scope_of c.args.scope.now).index (term_of c.deref-in-And-2.result.now) + 1) is refl refl
+
+pub walk_expr-returns-in-And : goal.walk_expr-returns-in-And
+walk_expr-returns-in-And t c =
+    let is : term_of c.args.expr.now ≡ Both (term_of c.deref-in-And.result.now) (term_of c.deref-in-And-2.result.now) = ap term_of c.in-And.is ∙ ap₂ (λ (e f : Expr). Both (term_of e) (term_of f)) (sym c.deref-in-And.ensures) (sym c.deref-in-And-2.ensures) in
+    let made = walked (scope_of c.args.scope.now) (role_of c.args.role) c.args.notes.now c.walk_and.new.notes (Both (term_of c.deref-in-And.result.now) (term_of c.deref-in-And-2.result.now)) (term_of c.args.expr.now) is (record { next = c.walk_and.ensures.next; found = c.walk_and.ensures.found; types = c.walk_and.ensures.types }) in
+    record { next = made.next; found = made.found; types = made.types }
+
+pub walk_expr-walk_or-requires : goal.walk_expr-walk_or-requires
+walk_expr-walk_or-requires t c =
+    let is : term_of c.args.expr.now ≡ Either (term_of c.deref-in-Or.result.now) (term_of c.deref-in-Or-2.result.now) = ap term_of c.in-Or.is ∙ ap₂ (λ (e f : Expr). Either (term_of e) (term_of f)) (sym c.deref-in-Or.ensures) (sym c.deref-in-Or-2.ensures) in
+    called (scope_of c.args.scope.now).index t c.args.notes.now.next (term_of c.args.expr.now) c.decreases c.requires (Either (term_of c.deref-in-Or.result.now) (term_of c.deref-in-Or-2.result.now)) (max (term_depth (term_of c.deref-in-Or.result.now)) (term_depth (term_of c.deref-in-Or-2.result.now))) (term_size (scope_of c.args.scope.now).index (term_of c.deref-in-Or.result.now) + 1 + term_size (scope_of c.args.scope.now).index (term_of c.deref-in-Or-2.result.now) + 1) is refl refl
+
+pub walk_expr-returns-in-Or : goal.walk_expr-returns-in-Or
+walk_expr-returns-in-Or t c =
+    let is : term_of c.args.expr.now ≡ Either (term_of c.deref-in-Or.result.now) (term_of c.deref-in-Or-2.result.now) = ap term_of c.in-Or.is ∙ ap₂ (λ (e f : Expr). Either (term_of e) (term_of f)) (sym c.deref-in-Or.ensures) (sym c.deref-in-Or-2.ensures) in
+    let made = walked (scope_of c.args.scope.now) (role_of c.args.role) c.args.notes.now c.walk_or.new.notes (Either (term_of c.deref-in-Or.result.now) (term_of c.deref-in-Or-2.result.now)) (term_of c.args.expr.now) is (record { next = c.walk_or.ensures.next; found = c.walk_or.ensures.found; types = c.walk_or.ensures.types }) in
+    record { next = made.next; found = made.found; types = made.types }
+
+pub walk_expr-walk_not-requires : goal.walk_expr-walk_not-requires
+walk_expr-walk_not-requires t c =
+    let is : term_of c.args.expr.now ≡ Not (term_of c.deref-in-Not.result.now) = ap term_of c.in-Not.is ∙ ap (λ (e : Expr). Not (term_of e)) (sym c.deref-in-Not.ensures) in
+    called (scope_of c.args.scope.now).index t c.args.notes.now.next (term_of c.args.expr.now) c.decreases c.requires (Not (term_of c.deref-in-Not.result.now)) (term_depth (term_of c.deref-in-Not.result.now)) (term_size (scope_of c.args.scope.now).index (term_of c.deref-in-Not.result.now) + 1) is refl refl
+
+pub walk_expr-returns-in-Not : goal.walk_expr-returns-in-Not
+walk_expr-returns-in-Not t c =
+    let is : term_of c.args.expr.now ≡ Not (term_of c.deref-in-Not.result.now) = ap term_of c.in-Not.is ∙ ap (λ (e : Expr). Not (term_of e)) (sym c.deref-in-Not.ensures) in
+    let made = walked (scope_of c.args.scope.now) (role_of c.args.role) c.args.notes.now c.walk_not.new.notes (Not (term_of c.deref-in-Not.result.now)) (term_of c.args.expr.now) is (record { next = c.walk_not.ensures.next; found = c.walk_not.ensures.found; types = c.walk_not.ensures.types }) in
+    record { next = made.next; found = made.found; types = made.types }
+
+-- ---- an index, by its distance where it is a stream index
+
+pub walk_index-walk_expr-requires : goal.walk_index-walk_expr-requires
+walk_index-walk_expr-requires t c =
+    let size = computed_items (items.stream_offset (scope_of c.args.scope.now).index (term_of c.args.index.now)) (items.term_size (scope_of c.args.scope.now).index (term_of c.args.index.now)) c.stream_distance.result c.stream_distance.ensures c.in-None.is in
+    (omega arith, omega arith)
+
+pub walk_index-returns-in-Some : goal.walk_index-returns-in-Some
+walk_index-returns-in-Some t c =
+    let made = streamed (scope_of c.args.scope.now) c.args.notes.now (term_of c.args.index.now) (items.stream_offset (scope_of c.args.scope.now).index (term_of c.args.index.now)) c.stream_distance.result _ c.stream_distance.ensures c.in-Some.is in
+    record { next = made.next; found = made.found; types = made.types }
+
+pub walk_index-returns-in-None : goal.walk_index-returns-in-None
+walk_index-returns-in-None t c =
+    let s = scope_of c.args.scope.now in
+    let e = term_of c.args.index.now in
+    let ty = c.first-ty.ensures ∙ ap (λ (o : Option Ty). typing.first o (Some ty.U64)) c.own_type.ensures in
+    let made = computed s c.args.notes.now c.walk_expr.new.notes e (items.stream_offset s.index e) c.stream_distance.result c.first-ty.result c.stream_distance.ensures c.in-None.is ty (record { next = c.walk_expr.ensures.next; found = c.walk_expr.ensures.found; types = c.walk_expr.ensures.types }) in
+    record { next = made.next; found = made.found; types = made.types }
+
+pub walk_read-walk_index-requires : goal.walk_read-walk_index-requires
+walk_read-walk_index-requires t c = (omega arith, omega arith)
