@@ -21,3 +21,4 @@ pub mod Pieces
 pub mod HalfWords
 pub mod NameSteps
 pub mod ItemSteps
+mod Errors

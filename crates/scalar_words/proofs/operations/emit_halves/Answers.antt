@@ -1,10 +1,11 @@
-use Rattle.std.proofs.Common.{ℕ, ◌+◌, Bool, true, List, [], ◌∷◌, ◌++◌, drop, sym, ap, ap₂, ◌∙◌, arith}
+use Rattle.std.proofs.Common.{ℕ, ◌+◌, Bool, true, List, [], ◌∷◌, ◌++◌, drop, refl, sym, ap, ap₂, ◌∙◌, arith}
 use Rattle.std.specs.Prelude.{if◌then◌else◌}
 use Rattle.std.proofs.lemmas.Result.{IfOk-weaker}
 use Rattle.label_fix.specs.Draft.{Drafted}
 use Rattle.label_fix.specs.DraftRun.{DraftEntry}
 use Rattle.scalar_words.specs.Words.{start_code}
 use Rattle.scalar_words.proofs.HalfWords.{more_code, halves_are, put_half, pass_half, after_halves, half_below}
+use Rattle.scalar_words.proofs.Errors.{on_error}
 use Rattle.scalar_words.proofs.operations.emit_halves.Goals.{then-half-filler+in_ok-put, else-half-filler}
 use Rattle.scalar_words.proofs.operations.emit_halves.Goals as goal
 
@@ -66,3 +67,18 @@ returns-else-begun c =
           ∙ l.invariant.code rest
           ∙ ap (λ (es : List DraftEntry). c.args.draft.now.entries ++ es) (halves_are o c.args.d.number c.args.h0 c.args.h1 c.args.h2 c.args.h3 rest);
     }) c.put-else-begun.ensures
+
+pub loop-half-init : goal.loop-half-init
+loop-half-init c = record { place = refl; labels = refl; code = λ rest. refl }
+
+pub returns-in_err-put : goal.returns-in_err-put
+returns-in_err-put c = on_error _ _ c.from_residual.ensures.0
+
+pub put-requires : goal.put-requires
+put-requires c = record { plain = c.half_word.ensures.plain }
+
+pub put-requires-else-begun : goal.put-requires-else-begun
+put-requires-else-begun c = record { plain = c.half_word-else-begun.ensures.plain }
+
+pub half_word-requires-else-begun : goal.half_word-requires-else-begun
+half_word-requires-else-begun c = record { half = c.requires.h0; place = omega arith }

@@ -3,6 +3,7 @@ use Rattle.word_rows.specs.declared.Bits.{Bits}
 use Rattle.scalar_words.specs.View.{register_number}
 use Rattle.scalar_words.specs.KernelRegisters.{register_in, item_regs}
 use Rattle.scalar_words.proofs.ItemSteps.{more_untils, no_value, one_value_more, no_register, more_registers, all_registers, all_untils}
+use Rattle.scalar_words.proofs.Errors.{on_error}
 use Rattle.scalar_words.proofs.places.place_items.Goals.{in-None+in_ok-push-in-None, in-Some+in_ok-push-in-Some}
 use Rattle.scalar_words.proofs.places.place_items.Goals as goal
 
@@ -47,3 +48,21 @@ returns-clause-regs c = all_registers (register_in c.args.regs.now) c.args.items
 
 pub returns-clause-untils : goal.returns-clause-untils
 returns-clause-untils c = all_untils c.args.items.now c.loop-item.item-index _ _ c.loop-item-test.false c.loop-item.invariant.untils
+
+pub loop-item-init : goal.loop-item-init
+loop-item-init c = record { within = c.requires.within; room = omega arith; regs = refl; untils = refl }
+
+pub returns-in_err-push : goal.returns-in_err-push
+returns-in_err-push c =
+    let failed = c.from_residual.ensures.0 in
+    record { regs = on_error _ _ failed; untils = on_error _ _ failed }
+
+pub returns-in_err-push-in-None : goal.returns-in_err-push-in-None
+returns-in_err-push-in-None c =
+    let failed = c.from_residual-in_err-push-in-None.ensures.0 in
+    record { regs = on_error _ _ failed; untils = on_error _ _ failed }
+
+pub returns-in_err-push-in-Some : goal.returns-in_err-push-in-Some
+returns-in_err-push-in-Some c =
+    let failed = c.from_residual-in_err-push-in-Some.ensures.0 in
+    record { regs = on_error _ _ failed; untils = on_error _ _ failed }
