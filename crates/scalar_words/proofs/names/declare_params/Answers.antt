@@ -1,8 +1,8 @@
-use Rattle.std.proofs.Common.{arith, refl, ap, ◌∙◌}
+use Rattle.std.proofs.Common.{arith, ◌+◌, refl, ap, ◌∙◌}
 use Rattle.kernel_tree.specs.Plain.{name_of}
 use Rattle.kernel_tree.specs.Typing.{Scope, declared}
 use Rattle.kernel_scope.specs.Scopes.{scope_of}
-use Rattle.scalar_words.proofs.NameSteps.{param_scope, param_more, params_all, params_homes}
+use Rattle.scalar_words.proofs.NameSteps.{param_scope, param_more, params_all, params_homes, param_low}
 use Rattle.scalar_words.proofs.Errors.{on_error}
 use Rattle.scalar_words.proofs.names.declare_params.Goals as goal
 
@@ -15,7 +15,7 @@ loop-param-preserved c =
     let scope = held.scope ∙ ap (λ b. declared (scope_of l.scope) (name_of p.name) b) c.binding.ensures in
     let at = c.param-item.is in
     record {
-      place = omega (arith, l.invariant.place);
+      place = ap (λ n. n + 1) l.invariant.place;
       scope = param_scope ps l.param-index p c.loop-param-test.true at _ _ _ scope l.invariant.scope;
       index = ap (λ (s : Scope). s.index) scope ∙ l.invariant.index;
       homes = param_more ps l.param-index p c.loop-param-test.true at l.place _ _ _ held.homes l.invariant.homes;
@@ -30,7 +30,7 @@ returns-in_err-declare_held c =
     record { scope = on_error _ _ failed; index = on_error _ _ failed; homes = on_error _ _ failed }
 
 pub invariant_of-register : goal.invariant_of-register
-invariant_of-register c = record { in_range = omega (arith, c.loop-param.invariant.place, c.loop-param-test.true, c.requires) }
+invariant_of-register c = record { in_range = param_low c.args.params.now c.loop-param.param-index c.loop-param.place c.loop-param.invariant.place c.loop-param-test.true c.requires }
 
 pub overflow_add-place : goal.overflow_add-place
 overflow_add-place c = omega (arith, c.loop-param.invariant.place, c.loop-param-test.true, c.requires)
