@@ -1,6 +1,5 @@
-use Rattle.std.proofs.Common.{Bool, List, ◌++◌, ◌%◌, ◌/◌, ap, ◌∙◌, arith}
+use Rattle.std.proofs.Common.{Bool, ◌++◌, ◌%◌, ◌/◌, ap, ◌∙◌, arith}
 use Rattle.std.proofs.lemmas.Result.{on_ok_weaker}
-use Rattle.label_fix.specs.DraftRun.{DraftEntry}
 use Rattle.scalar_words.specs.Words.{halves_code}
 use Rattle.scalar_words.proofs.operations.emit_const.Goals as goal
 

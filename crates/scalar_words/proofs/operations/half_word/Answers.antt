@@ -1,11 +1,8 @@
-use Rattle.std.proofs.Common.{Bool, List, [], ◌∷◌, sym, ap, ap₂, ◌∙◌, arith}
-use Rattle.std.specs.Prelude.{if◌then◌else◌}
-use Rattle.a64_code.specs.Table.{movk}
-use Rattle.label_fix.specs.DraftRun.{DraftEntry, Put, ins}
+use Rattle.std.proofs.Common.{Bool, ◌∷◌, sym, ap, ap₂, ◌∙◌, arith}
+use Rattle.label_fix.specs.DraftRun.{Put}
 use Rattle.label_fix.specs.Finished.{is_plain}
 use Rattle.machine_model.specs.InstructionTable.{Listed}
 use Rattle.scalar_words.proofs.HalfWords.{half_code}
-use Rattle.scalar_words.specs.Words.{start_code}
 use Rattle.scalar_words.proofs.operations.half_word.Goals as goal
 
 pub wide-requires : goal.wide-requires
