@@ -50,5 +50,6 @@ params_homes ps i n l whole h w = sym (ap (λ xs. l ++ param_homes n (parameters
 pub home_pushed : (hs new : List Home) (h : Home) (x : List ℕ) → new ≡ hs ++ h ∷ [] → lent_text h.name ≡ x → homes_of new ≡ homes_of hs ++ record { name = x; register = h.register.number; last_use = h.last_use } ∷ []
 home_pushed hs new h x e f = ap homes_of e ∙ map-append home_of hs (h ∷ []) ∙ ap (λ y. homes_of hs ++ record { name = y; register = h.register.number; last_use = h.last_use } ∷ []) f
 
+-- the register of a parameter
 pub param_low : (ps : List Param) (i n : ℕ) → n ≡ i → i < length ps → length ps ≤ 8 → n < 2 ^ 5
 param_low ps i n e lt few = omega (arith, e, lt, few)

@@ -13,7 +13,7 @@ use Rattle.scalar_words.specs.Words.{word_code, extending, is_narrow, settle_wor
 use Rattle.scalar_words.specs.Operands.{operation_word}
 use Rattle.kernel_tree.specs.declared.ops.BinaryOp.TheVariants as binary
 
--- an entry that is a branch of its own
+-- whether the instruction of an entry is plain; a branch and a place have none
 abbrev pub is_plain_entry : DraftEntry → Bool
 is_plain_entry (Put i) = is_plain i
 is_plain_entry (Branch k l) = true
