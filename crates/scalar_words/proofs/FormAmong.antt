@@ -1,5 +1,5 @@
 -- What stands in the registers of names, as the code finds it.
-use Rattle.std.proofs.Common.{◌≡◌, ℕ, suc, ◌<◌, ◌≤◌, List, [], ◌∷◌, length, drop, get_or, drop-cons, Some, None, Bool, true, false, refl, sym, ap, ◌∙◌}
+use Rattle.std.proofs.Common.{◌≡◌, ℕ, suc, ◌+◌, ◌<◌, ◌≤◌, List, [], ◌∷◌, length, drop, get_or, add-one, drop-cons, Some, None, Bool, true, false, refl, sym, ap, ◌∙◌}
 use Rattle.std.proofs.lemmas.List.{drop_all}
 use Rattle.std.specs.Prelude.{option_map}
 use Rattle.scalar_words.specs.declared.loose.Loose.{Loose}
@@ -23,3 +23,10 @@ found ls i d x lt e w =
 
 pub not_found : (ls : List Loose) (i : ℕ) (x : List ℕ) → length ls ≤ i → form_among (drop i ls) x ≡ form_among ls x → None ≡ loose_in (looses_of ls) x
 not_found ls i x le w = ap (option_map form_of) (sym (ap (λ l. form_among l x) (drop_all i ls le)) ∙ w) ∙ form_among_is ls x
+
+-- and where it goes on
+pub passed : (ls : List Loose) (i : ℕ) (d : Loose) (x : List ℕ) → i < length ls → called x (get_or ls i d) ≡ false → form_among (drop i ls) x ≡ form_among ls x → form_among (drop (i + 1) ls) x ≡ form_among ls x
+passed ls i d x lt e w =
+    let here : drop i ls ≡ get_or ls i d ∷ drop (i + 1) ls = drop-cons ls i d lt ∙ ap (λ n. get_or ls i d ∷ drop n ls) (sym (add-one i)) in
+    let k : form_among (get_or ls i d ∷ drop (i + 1) ls) x ≡ form_among (drop (i + 1) ls) x = rw e refl in
+    sym (ap (λ l. form_among l x) here ∙ k) ∙ w

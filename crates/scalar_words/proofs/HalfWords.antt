@@ -67,3 +67,7 @@ half_below n h0 h1 h2 h3 (suc zero) a b c d = b
 half_below n h0 h1 h2 h3 (suc (suc zero)) a b c d = c
 half_below n h0 h1 h2 h3 (suc (suc (suc zero))) a b c d = d
 half_below n h0 h1 h2 h3 (suc (suc (suc (suc i)))) a b c d = omega (arith, a)
+
+-- the first of four halves
+pub begins : 0 < 4
+begins = omega arith

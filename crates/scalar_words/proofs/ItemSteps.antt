@@ -41,3 +41,16 @@ all_registers R is i j l whole h w = sym (ap (λ xs. l ++ item_regs R j xs) (dro
 
 pub all_untils : (is : List Item) (i : ℕ) (l whole : List ℕ) → length is ≤ i → l ++ map item_last_use (drop i is) ≡ whole → l ≡ whole
 all_untils is i l whole h w = sym (ap (λ xs. l ++ map item_last_use xs) (drop_all i is h) ∙ append-nil l) ∙ w
+
+-- the next interval is not ahead of the first one by more than so many items
+pub room_before : (j first i : ℕ) → j ≡ first → i ≡ 0 → j ≤ first + i
+room_before j first i e f = omega (arith, e, f)
+
+pub room_kept : (j j2 first i : ℕ) → j2 ≡ j → j ≤ first + i → j2 ≤ first + (i + 1)
+room_kept j j2 first i e h = omega (arith, e, h)
+
+pub room_more : (j j2 first i : ℕ) → j2 ≡ j + 1 → j ≤ first + i → j2 ≤ first + (i + 1)
+room_more j j2 first i e h = omega (arith, e, h)
+
+pub below_all : (j n m : ℕ) → (j + 1) + n ≤ m → j < m
+below_all j n m h = omega (arith, h)

@@ -21,3 +21,5 @@ pub mod Pieces
 pub mod HalfWords
 pub mod NameSteps
 pub mod ItemSteps
+mod OperatorWords
+mod Errors

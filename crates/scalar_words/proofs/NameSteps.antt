@@ -1,12 +1,14 @@
 -- One more name of a kernel in its scope and among the homes.
-use Rattle.std.proofs.Common.{◌≡◌, ℕ, ◌+◌, ◌<◌, ◌≤◌, List, [], ◌∷◌, ◌++◌, ◌∙◌, length, drop, get_or, sym, ap, append_assoc, append-nil}
-use Rattle.std.proofs.lemmas.List.{drop_all}
+use Rattle.std.proofs.Common.{◌≡◌, ℕ, ◌+◌, ◌^◌, ◌<◌, ◌≤◌, List, [], ◌∷◌, ◌++◌, ◌∙◌, length, drop, get_or, sym, ap, arith, append_assoc, append-nil}
+use Rattle.std.proofs.lemmas.List.{drop_all, map-append}
 use Rattle.kernel_tree.specs.declared.ast.Param.{Param}
 use Rattle.kernel_tree.specs.declared.ast.Var.{Var}
 use Rattle.kernel_tree.specs.Plain.{parameter_of, parameters_of, accumulator_of, accumulators_of}
 use Rattle.kernel_tree.specs.Typing.{Scope, after_params, after_vars}
-use Rattle.kernel_scope.specs.Scopes.{after_param, after_var}
+use Rattle.kernel_scope.specs.Scopes.{lent_text, after_param, after_var}
 use Rattle.loop_form.proofs.LoopLists.{next-entry}
+use Rattle.scalar_words.specs.declared.home.Home.{Home}
+use Rattle.scalar_words.specs.View.{home_of, homes_of}
 use Rattle.scalar_words.specs.Layout.{Homes}
 use Rattle.scalar_words.specs.KernelRegisters.{param_home, param_homes, var_home, var_homes}
 
@@ -36,3 +38,18 @@ after_all vs i s whole h w = sym (ap (λ l. after_vars s (accumulators_of l)) (d
 
 pub all_homes : (R : ℕ → ℕ) (vs : List Var) (i : ℕ) (l whole : Homes) → length vs ≤ i → l ++ var_homes R i (accumulators_of (drop i vs)) ≡ whole → l ≡ whole
 all_homes R vs i l whole h w = sym (ap (λ xs. l ++ var_homes R i (accumulators_of xs)) (drop_all i vs h) ∙ append-nil l) ∙ w
+
+-- after the last parameter
+pub params_all : (ps : List Param) (i : ℕ) (s whole : Scope) → length ps ≤ i → after_params s (parameters_of (drop i ps)) ≡ whole → s ≡ whole
+params_all ps i s whole h w = sym (ap (λ l. after_params s (parameters_of l)) (drop_all i ps h)) ∙ w
+
+pub params_homes : (ps : List Param) (i n : ℕ) (l whole : Homes) → length ps ≤ i → l ++ param_homes n (parameters_of (drop i ps)) ≡ whole → l ≡ whole
+params_homes ps i n l whole h w = sym (ap (λ xs. l ++ param_homes n (parameters_of xs)) (drop_all i ps h) ∙ append-nil l) ∙ w
+
+-- a name that is pushed to the homes
+pub home_pushed : (hs new : List Home) (h : Home) (x : List ℕ) → new ≡ hs ++ h ∷ [] → lent_text h.name ≡ x → homes_of new ≡ homes_of hs ++ record { name = x; register = h.register.number; last_use = h.last_use } ∷ []
+home_pushed hs new h x e f = ap homes_of e ∙ map-append home_of hs (h ∷ []) ∙ ap (λ y. homes_of hs ++ record { name = y; register = h.register.number; last_use = h.last_use } ∷ []) f
+
+-- the register of a parameter
+pub param_low : (ps : List Param) (i n : ℕ) → n ≡ i → i < length ps → length ps ≤ 8 → n < 2 ^ 5
+param_low ps i n e lt few = omega (arith, e, lt, few)

@@ -20,3 +20,7 @@ found hs i h x lt at e w = sym (register_among_is hs x ∙ ap number_or_31 (sym 
 
 pub not_found : (hs : List Home) (i : ℕ) (x : List ℕ) → length hs ≤ i → register_among (drop i hs) x ≡ register_among hs x → 31 ≡ plain.register_at (homes_of hs) x
 not_found hs i x le w = sym (register_among_is hs x ∙ ap number_or_31 (sym w ∙ ap (λ l. register_among l x) (drop_all i hs le)))
+
+-- and where it goes on
+pub passed : (hs : List Home) (i : ℕ) (h : Home) (x : List ℕ) → i < length hs → h ≡ get_or hs i h → named x h ≡ false → register_among (drop i hs) x ≡ register_among hs x → register_among (drop (i + 1) hs) x ≡ register_among hs x
+passed hs i h x lt at e w = sym (ap (λ l. register_among l x) (next-entry hs i h lt at) ∙ (let k : register_among (h ∷ drop (i + 1) hs) x ≡ register_among (drop (i + 1) hs) x = rw e refl in k)) ∙ w

@@ -21,3 +21,7 @@ found cs i c z lt at e w = ap (option_map register_number) (sym (ap (λ l. regis
 
 pub not_found : (cs : List Constant) (i : ℕ) (z : Key) → length cs ≤ i → register_holding (drop i cs) z ≡ register_holding cs z → None ≡ constant_in (constants_of cs) z
 not_found cs i z le w = ap (option_map register_number) (sym (ap (λ l. register_holding l z) (drop_all i cs le)) ∙ w) ∙ register_holding_is cs z
+
+-- and where it goes on
+pub passed : (cs : List Constant) (i : ℕ) (c : Constant) (z : Key) → i < length cs → c ≡ get_or cs i c → keyed z c ≡ false → register_holding (drop i cs) z ≡ register_holding cs z → register_holding (drop (i + 1) cs) z ≡ register_holding cs z
+passed cs i c z lt at e w = sym (ap (λ l. register_holding l z) (next-entry cs i c lt at) ∙ (let k : register_holding (c ∷ drop (i + 1) cs) z ≡ register_holding (drop (i + 1) cs) z = rw e refl in k)) ∙ w

@@ -1,5 +1,5 @@
-use Rattle.std.proofs.Common.{sym, ◌∙◌}
-use Rattle.scalar_words.proofs.RegisterAmong.{found, not_found}
+use Rattle.std.proofs.Common.{refl, sym, ◌∙◌}
+use Rattle.scalar_words.proofs.RegisterAmong.{found, passed, not_found}
 use Rattle.scalar_words.proofs.home.register_named.Goals as goal
 
 pub returns-then-eq : goal.returns-then-eq
@@ -7,3 +7,9 @@ returns-then-eq c = found c.args.homes.now c.loop-home.home-index c.home-item.re
 
 pub returns : goal.returns
 returns c = not_found c.args.homes.now c.loop-home.home-index c.args.text.now c.loop-home-test.false c.loop-home.invariant
+
+pub loop-home-init : goal.loop-home-init
+loop-home-init c = refl
+
+pub loop-home-preserved : goal.loop-home-preserved
+loop-home-preserved c = passed c.args.homes.now c.loop-home.home-index c.home-item.result c.args.text.now c.loop-home-test.true c.home-item.is (sym c.eq.ensures ∙ c.if-eq.false) c.loop-home.invariant

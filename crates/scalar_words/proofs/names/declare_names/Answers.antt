@@ -8,6 +8,7 @@ use Rattle.kernel_tree.proofs.Scopes.{scope_index}
 use Rattle.scalar_words.specs.KernelRegisters.{register_in, param_homes, var_homes}
 use Rattle.scalar_words.specs.View.{homes_of}
 use Rattle.scalar_words.proofs.Layouts.{count_params, count_vars}
+use Rattle.scalar_words.proofs.Errors.{on_error}
 use Rattle.scalar_words.proofs.names.declare_names.Goals as goal
 
 pub returns : goal.returns
@@ -34,3 +35,8 @@ declare_vars-requires c =
     let here = ap (λ (vs : List Var). length vs) c.deref-2.ensures.value in
     let count = count_vars c.args.kernel.now.vars.items in
     record { assigned = c.requires.assigned; within = omega (arith, here, count, c.requires.vars) }
+
+pub returns-in_err-declare_params : goal.returns-in_err-declare_params
+returns-in_err-declare_params c =
+    let failed = c.from_residual.ensures.0 in
+    record { scope = on_error _ _ failed; index = on_error _ _ failed; homes = on_error _ _ failed }

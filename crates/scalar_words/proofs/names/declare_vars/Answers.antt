@@ -1,6 +1,7 @@
 use Rattle.std.proofs.Common.{arith, refl}
 use Rattle.scalar_words.specs.KernelRegisters.{register_in}
 use Rattle.scalar_words.proofs.NameSteps.{var_scope, var_more, after_all, all_homes}
+use Rattle.scalar_words.proofs.Errors.{on_error}
 use Rattle.scalar_words.proofs.names.declare_vars.Goals as goal
 
 pub loop-place-preserved : goal.loop-place-preserved
@@ -28,3 +29,8 @@ returns c =
 
 pub loop-place-init : goal.loop-place-init
 loop-place-init c = record { scope = refl; homes = refl }
+
+pub returns-in_err-declare_var : goal.returns-in_err-declare_var
+returns-in_err-declare_var c =
+    let failed = c.from_residual.ensures.0 in
+    record { scope = on_error _ _ failed; homes = on_error _ _ failed }

@@ -1,17 +1,18 @@
-use Rattle.std.proofs.Common.{ℕ, ◌+◌, Bool, true, List, [], ◌∷◌, ◌++◌, drop, sym, ap, ap₂, ◌∙◌, arith}
+use Rattle.std.proofs.Common.{ℕ, ◌+◌, ◌<◌, Bool, true, List, [], ◌∷◌, ◌++◌, drop, refl, sym, ap, ap₂, ◌∙◌, subst}
 use Rattle.std.specs.Prelude.{if◌then◌else◌}
 use Rattle.std.proofs.lemmas.Result.{IfOk-weaker}
 use Rattle.label_fix.specs.Draft.{Drafted}
 use Rattle.label_fix.specs.DraftRun.{DraftEntry}
 use Rattle.scalar_words.specs.Words.{start_code}
-use Rattle.scalar_words.proofs.HalfWords.{more_code, halves_are, put_half, pass_half, after_halves, half_below}
+use Rattle.scalar_words.proofs.HalfWords.{more_code, halves_are, put_half, pass_half, after_halves, half_below, begins}
+use Rattle.scalar_words.proofs.Errors.{on_error}
 use Rattle.scalar_words.proofs.operations.emit_halves.Goals.{then-half-filler+in_ok-put, else-half-filler}
 use Rattle.scalar_words.proofs.operations.emit_halves.Goals as goal
 
 pub half_word-requires : goal.half_word-requires
 half_word-requires c = record {
   half = half_below 65536 c.args.h0 c.args.h1 c.args.h2 c.args.h3 c.loop-half.half-index c.requires.h0 c.requires.h1 c.requires.h2 c.requires.h3;
-  place = omega (arith, c.loop-half.invariant.place, c.loop-half-test.true);
+  place = subst (λ n. n < 4) (sym c.loop-half.invariant.place) c.loop-half-test.true;
 }
 
 pub loop-half-preserved : goal.loop-half-preserved
@@ -24,7 +25,7 @@ loop-half-preserved c =
     let i = l.half-index in
     elim c.if-half-filler.branch [
       | then-half-filler+in_ok-put w ↦ record {
-        place = omega (arith, l.invariant.place);
+        place = ap (λ n. n + 1) l.invariant.place;
         labels = ap (λ (t : Drafted). t.labels) w.draft-is ∙ w.in_ok-put.ensures.labels ∙ l.invariant.labels;
         code = λ rest. ap₂ (λ (t : Drafted) b. t.entries ++ more_code o b d h0 (l.place + 1) (drop (i + 1) hs) rest) w.draft-is w.begun-is
             ∙ w.in_ok-put.ensures.code (more_code o true d h0 (l.place + 1) (drop (i + 1) hs) rest)
@@ -32,7 +33,7 @@ loop-half-preserved c =
             ∙ l.invariant.code rest;
       }
       | else-half-filler w ↦ record {
-        place = omega (arith, l.invariant.place);
+        place = ap (λ n. n + 1) l.invariant.place;
         labels = ap (λ (t : Drafted). t.labels) w.draft-is ∙ l.invariant.labels;
         code = λ rest. ap₂ (λ (t : Drafted) b. t.entries ++ more_code o b d h0 (l.place + 1) (drop (i + 1) hs) rest) w.draft-is w.begun-is
             ∙ ap (λ (es : List DraftEntry). l.draft.entries ++ es) (pass_half o l.begun d h0 l.place hs i rest c.loop-half-test.true (w.if-half-filler.false ∙ c.filler-filler.ensures))
@@ -66,3 +67,18 @@ returns-else-begun c =
           ∙ l.invariant.code rest
           ∙ ap (λ (es : List DraftEntry). c.args.draft.now.entries ++ es) (halves_are o c.args.d.number c.args.h0 c.args.h1 c.args.h2 c.args.h3 rest);
     }) c.put-else-begun.ensures
+
+pub loop-half-init : goal.loop-half-init
+loop-half-init c = record { place = refl; labels = refl; code = λ rest. refl }
+
+pub returns-in_err-put : goal.returns-in_err-put
+returns-in_err-put c = on_error _ _ c.from_residual.ensures.0
+
+pub put-requires : goal.put-requires
+put-requires c = record { plain = c.half_word.ensures.plain }
+
+pub put-requires-else-begun : goal.put-requires-else-begun
+put-requires-else-begun c = record { plain = c.half_word-else-begun.ensures.plain }
+
+pub half_word-requires-else-begun : goal.half_word-requires-else-begun
+half_word-requires-else-begun c = record { half = c.requires.h0; place = begins }

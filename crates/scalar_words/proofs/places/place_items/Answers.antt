@@ -1,8 +1,9 @@
-use Rattle.std.proofs.Common.{◌+◌, ◌++◌, map, drop, ap₂, ◌∙◌, arith, Vec, Global, refl}
+use Rattle.std.proofs.Common.{◌+◌, ◌++◌, ◌≤◌, length, map, drop, sym, subst, ap₂, ◌∙◌, Vec, Global, refl}
 use Rattle.word_rows.specs.declared.Bits.{Bits}
 use Rattle.scalar_words.specs.View.{register_number}
-use Rattle.scalar_words.specs.KernelRegisters.{register_in, item_regs}
-use Rattle.scalar_words.proofs.ItemSteps.{more_untils, no_value, one_value_more, no_register, more_registers, all_registers, all_untils}
+use Rattle.scalar_words.specs.KernelRegisters.{register_in, count_values, item_regs}
+use Rattle.scalar_words.proofs.ItemSteps.{more_untils, no_value, one_value_more, no_register, more_registers, all_registers, all_untils, room_before, room_kept, room_more, below_all}
+use Rattle.scalar_words.proofs.Errors.{on_error}
 use Rattle.scalar_words.proofs.places.place_items.Goals.{in-None+in_ok-push-in-None, in-Some+in_ok-push-in-Some}
 use Rattle.scalar_words.proofs.places.place_items.Goals as goal
 
@@ -11,7 +12,7 @@ counted_register-requires c =
     let l = c.loop-item in
     let R = register_in c.args.regs.now in
     let more = one_value_more R c.args.items.now l.item-index _ c.loop-item-test.true l.interval _ _ c.in-Some.is l.invariant.within in
-    record { assigned = c.requires.assigned; within = omega (arith, more) }
+    record { assigned = c.requires.assigned; within = below_all l.interval _ _ more }
 
 pub loop-item-preserved : goal.loop-item-preserved
 loop-item-preserved c =
@@ -26,8 +27,8 @@ loop-item-preserved c =
           let e = w.interval-is in
           let same = no_value R is i _ lt l.interval _ w.in-None.is inv.within in
           record {
-            within = omega (arith, e, same);
-            room = omega (arith, e, inv.room);
+            within = subst (λ n. n + count_values (drop (i + 1) is) ≤ length c.args.regs.now.registers) (sym e) same;
+            room = room_kept l.interval _ c.args.first i e inv.room;
             regs = ap₂ (λ (v : Vec (Bits 5) Global) n. map register_number v.items ++ item_regs R n (drop (i + 1) is)) w.found-is e ∙ no_register R is i _ lt l.interval _ _ _ _ w.in_ok-push-in-None.ensures.items refl w.in-None.is inv.regs;
             untils = more_untils R is i _ lt _ _ _ _ c.in_ok-push.ensures.items c.unwrap_or.ensures inv.untils;
           }
@@ -35,8 +36,8 @@ loop-item-preserved c =
           let e = w.interval-is in
           let more = one_value_more R is i _ lt l.interval _ _ w.in-Some.is inv.within in
           record {
-            within = omega (arith, e, more);
-            room = omega (arith, e, inv.room);
+            within = subst (λ n. n + count_values (drop (i + 1) is) ≤ length c.args.regs.now.registers) (sym e) more;
+            room = room_more l.interval _ c.args.first i e inv.room;
             regs = ap₂ (λ (v : Vec (Bits 5) Global) n. map register_number v.items ++ item_regs R n (drop (i + 1) is)) w.found-is e ∙ more_registers R is i _ lt l.interval _ _ _ _ _ w.in_ok-push-in-Some.ensures.items w.counted_register.ensures w.in-Some.is inv.regs;
             untils = more_untils R is i _ lt _ _ _ _ c.in_ok-push.ensures.items c.unwrap_or.ensures inv.untils;
           }
@@ -47,3 +48,21 @@ returns-clause-regs c = all_registers (register_in c.args.regs.now) c.args.items
 
 pub returns-clause-untils : goal.returns-clause-untils
 returns-clause-untils c = all_untils c.args.items.now c.loop-item.item-index _ _ c.loop-item-test.false c.loop-item.invariant.untils
+
+pub loop-item-init : goal.loop-item-init
+loop-item-init c = record { within = c.requires.within; room = room_before c.args.first c.args.first 0 refl refl; regs = refl; untils = refl }
+
+pub returns-in_err-push : goal.returns-in_err-push
+returns-in_err-push c =
+    let failed = c.from_residual.ensures.0 in
+    record { regs = on_error _ _ failed; untils = on_error _ _ failed }
+
+pub returns-in_err-push-in-None : goal.returns-in_err-push-in-None
+returns-in_err-push-in-None c =
+    let failed = c.from_residual-in_err-push-in-None.ensures.0 in
+    record { regs = on_error _ _ failed; untils = on_error _ _ failed }
+
+pub returns-in_err-push-in-Some : goal.returns-in_err-push-in-Some
+returns-in_err-push-in-Some c =
+    let failed = c.from_residual-in_err-push-in-Some.ensures.0 in
+    record { regs = on_error _ _ failed; untils = on_error _ _ failed }
