@@ -1,5 +1,8 @@
 pub mod Initial
 pub mod ArrayWalk
+mod Errors
+mod WalkParts
+mod TermWalks
 pub mod FitsKernel
 pub mod SetupRuns
 pub mod LooseBlocks
