@@ -3,6 +3,7 @@ pub mod ArrayWalk
 mod Errors
 mod WalkParts
 mod TermWalks
+mod LooseSteps
 pub mod FitsKernel
 pub mod SetupRuns
 pub mod LooseBlocks

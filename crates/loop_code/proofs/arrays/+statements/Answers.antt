@@ -1,16 +1,15 @@
-use Rattle.std.proofs.Common.{◌+◌, List, Bor, drop, refl, sym, ap, ◌∙◌, arith}
+use Rattle.std.proofs.Common.{◌+◌, List, drop, refl, sym, ap, ◌∙◌, arith}
 use Rattle.std.proofs.lemmas.Result.{on_ok_weaker}
-use Rattle.kernel_tree.specs.declared.ast.Expr.{Expr}
 use Rattle.kernel_tree.specs.Plain.{Action, Block, name_of, term_of, action_of, block_of}
 use Rattle.kernel_tree.specs.Parts.{part_action}
+use Rattle.kernel_tree.specs.Limits.{block_depth}
 use Rattle.kernel_scope.specs.Scopes.{scope_of}
 use Rattle.scalar_words.specs.View.{looses_of}
-use Rattle.loop_code.specs.Loosening.{with_array, term_arrays, action_arrays, block_arrays}
+use Rattle.loop_code.specs.Loosening.{with_array, action_arrays, block_arrays}
 use Rattle.loop_code.proofs.Errors.{on_error}
 use Rattle.loop_code.proofs.StatementWalks.{next_statement, arrays_one, arrays_two, arrays_on}
 use Rattle.loop_code.proofs.WalkParts.{no_statement, statement_below, less_deep, if_below, first_below, second_below}
 use Rattle.loop_code.proofs.arrays.+statements.Goals as goal
-use Rattle.loop_code.proofs.arrays.+statements.Goals.{add_stmt-in-Let, add_stmt-in-Let-2, add_stmt-in-Let-3}
 
 -- ---- a statement by its kind
 
@@ -54,13 +53,6 @@ add_stmt-returns-in_ok-add_term-in-Store t c =
         ∙ ap (with_array (scope_of c.args.scope.now) (name_of c.in-Store.array.now)) c.in_ok-add_term-in-Store.ensures
         ∙ ap (λ (a : Action). action_arrays (scope_of c.args.scope.now) a (looses_of c.args.loose.now.items)) (ap part_action (sym c.in-Store.is) ∙ c.parts.ensures)) c.add_array.ensures
 
-pub add_stmt-returns-in-Let : goal.add_stmt-returns-in-Let
-add_stmt-returns-in-Let t c = elim c.in-Let-1.branch [
-  | add_stmt-in-Let w ↦ on_ok_weaker c.add_term-in-Let.result (λ p. p ∙ ap (λ (e : Bor Expr). term_arrays (scope_of c.args.scope.now) (term_of e.now) (looses_of c.args.loose.now.items)) w.value-is ∙ ap (λ (a : Action). action_arrays (scope_of c.args.scope.now) a (looses_of c.args.loose.now.items)) w.in-Let.ensures) c.add_term-in-Let.ensures
-  | add_stmt-in-Let-2 w ↦ on_ok_weaker c.add_term-in-Let.result (λ p. p ∙ ap (λ (e : Bor Expr). term_arrays (scope_of c.args.scope.now) (term_of e.now) (looses_of c.args.loose.now.items)) w.value-is ∙ ap (λ (a : Action). action_arrays (scope_of c.args.scope.now) a (looses_of c.args.loose.now.items)) w.in-Let.ensures) c.add_term-in-Let.ensures
-  | add_stmt-in-Let-3 w ↦ on_ok_weaker c.add_term-in-Let.result (λ p. p ∙ ap (λ (e : Bor Expr). term_arrays (scope_of c.args.scope.now) (term_of e.now) (looses_of c.args.loose.now.items)) w.value-is ∙ ap (λ (a : Action). action_arrays (scope_of c.args.scope.now) a (looses_of c.args.loose.now.items)) w.in-Let.ensures) c.add_term-in-Let.ensures
-]
-
 -- ---- the statements of a block, one after another
 
 pub add_block-loop-stmt-init : goal.add_block-loop-stmt-init
@@ -77,7 +69,7 @@ add_block-loop-stmt-preserved t c =
     let l = c.loop-stmt in
     let e = next_statement c.args.block.now l.stmt-index c.stmt-item.result c.loop-stmt-test.true c.stmt-item.is in
     record {
-      depth = less_deep (block_of (drop l.stmt-index c.args.block.now)) (block_of (drop (l.stmt-index + 1) c.args.block.now)) (action_of c.stmt-item.result) _ e l.invariant.depth;
+      depth = less_deep (block_of (drop l.stmt-index c.args.block.now)) (block_of (drop (l.stmt-index + 1) c.args.block.now)) (action_of c.stmt-item.result) (block_depth (block_of c.args.block.now)) e l.invariant.depth;
       loose = arrays_on (scope_of c.args.scope.now) (action_of c.stmt-item.result) (block_of (drop (l.stmt-index + 1) c.args.block.now)) (block_of (drop l.stmt-index c.args.block.now)) (looses_of l.loose.items) (looses_of c.add_stmt.new.loose.items) e c.in_ok-add_stmt.ensures ∙ l.invariant.loose;
     }
 

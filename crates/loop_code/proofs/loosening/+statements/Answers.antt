@@ -124,7 +124,7 @@ covers_block-loop-stmt-preserved t c =
       | covers_block-else-covered w ↦ w.covered-is ∙ w.if-covered.false ∙ ap (λ b. b && c.in_ok-here.here) (sym w.if-covered.false)
     ] in
     record {
-      depth = less_deep (block_of (drop l.stmt-index c.args.block.now)) (block_of (drop (l.stmt-index + 1) c.args.block.now)) (action_of c.stmt-item.result) _ e l.invariant.depth;
+      depth = less_deep (block_of (drop l.stmt-index c.args.block.now)) (block_of (drop (l.stmt-index + 1) c.args.block.now)) (action_of c.stmt-item.result) (block_depth (block_of c.args.block.now)) e l.invariant.depth;
       scope = ap (λ (s : Scope). after_block s (block_of (drop (l.stmt-index + 1) c.args.block.now))) c.in_ok-here.ensures.scope ∙ ap (after_block (scope_of l.scope)) (sym e) ∙ l.invariant.scope;
       covers = covers_on (looses_of c.args.loose.now) (scope_of l.scope) (scope_of c.covers_stmt.new.scope) (action_of c.stmt-item.result) (block_of (drop (l.stmt-index + 1) c.args.block.now)) (block_of (drop l.stmt-index c.args.block.now)) l.covered c.in_ok-here.here c.if-covered.covered e c.in_ok-here.ensures.scope c.in_ok-here.ensures.covers both ∙ l.invariant.covers;
     }

@@ -1,7 +1,8 @@
 use Rattle.std.proofs.Common.{◌+◌, List, drop, refl, sym, ap, ◌∙◌, arith}
 use Rattle.std.proofs.lemmas.Result.{on_ok_weaker}
-use Rattle.kernel_tree.specs.Plain.{Action, Block, action_of, block_of}
+use Rattle.kernel_tree.specs.Plain.{Action, Block, term_of, action_of, block_of}
 use Rattle.kernel_tree.specs.Parts.{part_action}
+use Rattle.kernel_tree.specs.Limits.{block_depth}
 use Rattle.kernel_scope.specs.Scopes.{scope_of, in_body}
 use Rattle.scalar_words.specs.View.{looses_of}
 use Rattle.loop_code.specs.Loosening.{loosen_action, loosen_block}
@@ -14,7 +15,7 @@ use Rattle.loop_code.proofs.loosening.+walk.Goals as goal
 
 pub loosen_stmt-loosen_block-requires : goal.loosen_stmt-loosen_block-requires
 loosen_stmt-loosen_block-requires t c =
-    (if_below t (action_of c.args.stmt.now) _ (block_of c.in-If.block.now) c.decreases (sym c.parts.ensures ∙ ap part_action c.in-If.is), tt)
+    (if_below t (action_of c.args.stmt.now) (term_of c.in-If.cond.now) (block_of c.in-If.block.now) c.decreases (sym c.parts.ensures ∙ ap part_action c.in-If.is), tt)
 
 pub loosen_stmt-returns-in-If : goal.loosen_stmt-returns-in-If
 loosen_stmt-returns-in-If t c = record {
@@ -24,11 +25,11 @@ loosen_stmt-returns-in-If t c = record {
 
 pub loosen_stmt-loosen_block-requires-in-IfElse : goal.loosen_stmt-loosen_block-requires-in-IfElse
 loosen_stmt-loosen_block-requires-in-IfElse t c =
-    (first_below t (action_of c.args.stmt.now) _ (block_of c.in-IfElse.block.now) (block_of c.in-IfElse.other.now) c.decreases (sym c.parts.ensures ∙ ap part_action c.in-IfElse.is), tt)
+    (first_below t (action_of c.args.stmt.now) (term_of c.in-IfElse.cond.now) (block_of c.in-IfElse.block.now) (block_of c.in-IfElse.other.now) c.decreases (sym c.parts.ensures ∙ ap part_action c.in-IfElse.is), tt)
 
 pub loosen_stmt-loosen_block-requires-in-IfElse-2 : goal.loosen_stmt-loosen_block-requires-in-IfElse-2
 loosen_stmt-loosen_block-requires-in-IfElse-2 t c =
-    (second_below t (action_of c.args.stmt.now) _ (block_of c.in-IfElse.block.now) (block_of c.in-IfElse.other.now) c.decreases (sym c.parts.ensures ∙ ap part_action c.in-IfElse.is), tt)
+    (second_below t (action_of c.args.stmt.now) (term_of c.in-IfElse.cond.now) (block_of c.in-IfElse.block.now) (block_of c.in-IfElse.other.now) c.decreases (sym c.parts.ensures ∙ ap part_action c.in-IfElse.is), tt)
 
 pub loosen_stmt-returns-in_err-loosen_block-in-IfElse : goal.loosen_stmt-returns-in_err-loosen_block-in-IfElse
 loosen_stmt-returns-in_err-loosen_block-in-IfElse t c =
@@ -39,7 +40,7 @@ pub loosen_stmt-returns-in_ok-loosen_block-in-IfElse : goal.loosen_stmt-returns-
 loosen_stmt-returns-in_ok-loosen_block-in-IfElse t c = record {
   scope = on_ok_weaker c.loosen_block-in-IfElse-2.result (λ p. p ∙ c.in_ok-loosen_block-in-IfElse.ensures.scope) c.loosen_block-in-IfElse-2.ensures.scope;
   loose =
-      on_ok_weaker c.loosen_block-in-IfElse-2.result (λ p. loosen_two (scope_of c.args.scope.now) (scope_of c.loosen_block-in-IfElse.new.scope) (block_of c.args.body.now) (action_of c.args.stmt.now) _ (block_of c.in-IfElse.block.now) (block_of c.in-IfElse.other.now) (looses_of c.args.loose.now.items) (looses_of c.loosen_block-in-IfElse.new.loose.items) (looses_of c.loosen_block-in-IfElse-2.new.loose.items)
+      on_ok_weaker c.loosen_block-in-IfElse-2.result (λ p. loosen_two (scope_of c.args.scope.now) (scope_of c.loosen_block-in-IfElse.new.scope) (block_of c.args.body.now) (action_of c.args.stmt.now) (term_of c.in-IfElse.cond.now) (block_of c.in-IfElse.block.now) (block_of c.in-IfElse.other.now) (looses_of c.args.loose.now.items) (looses_of c.loosen_block-in-IfElse.new.loose.items) (looses_of c.loosen_block-in-IfElse-2.new.loose.items)
       (sym c.parts.ensures ∙ ap part_action c.in-IfElse.is) c.in_ok-loosen_block-in-IfElse.ensures.scope c.in_ok-loosen_block-in-IfElse.ensures.loose p) c.loosen_block-in-IfElse-2.ensures.loose;
 }
 
@@ -73,7 +74,7 @@ loosen_block-loop-stmt-preserved t c =
     let l = c.loop-stmt in
     let e = next_statement c.args.block.now l.stmt-index c.stmt-item.result c.loop-stmt-test.true c.stmt-item.is in
     record {
-      depth = less_deep (block_of (drop l.stmt-index c.args.block.now)) (block_of (drop (l.stmt-index + 1) c.args.block.now)) (action_of c.stmt-item.result) _ e l.invariant.depth;
+      depth = less_deep (block_of (drop l.stmt-index c.args.block.now)) (block_of (drop (l.stmt-index + 1) c.args.block.now)) (action_of c.stmt-item.result) (block_depth (block_of c.args.block.now)) e l.invariant.depth;
       scope = c.in_ok-loosen_stmt.ensures.scope ∙ l.invariant.scope;
       loose = loosen_on (scope_of l.scope) (scope_of c.loosen_stmt.new.scope) (block_of c.args.body.now) (action_of c.stmt-item.result) (block_of (drop (l.stmt-index + 1) c.args.block.now)) (block_of (drop l.stmt-index c.args.block.now)) (looses_of l.loose.items) (looses_of c.loosen_stmt.new.loose.items) c.in_ok-loosen_stmt.ensures.scope e c.in_ok-loosen_stmt.ensures.loose ∙ l.invariant.loose;
     }

@@ -1,18 +1,17 @@
-use Rattle.std.proofs.Common.{◌+◌, List, Bor, drop, refl, sym, ap, ◌∙◌, arith}
+use Rattle.std.proofs.Common.{◌+◌, List, drop, refl, sym, ap, ◌∙◌, arith}
 use Rattle.std.proofs.lemmas.Result.{on_ok_weaker}
-use Rattle.kernel_tree.specs.declared.ast.Expr.{Expr}
 use Rattle.kernel_tree.specs.Plain.{Action, Block, name_of, term_of, action_of, block_of}
 use Rattle.kernel_tree.specs.Items.{stream_offset}
 use Rattle.kernel_tree.specs.Parts.{part_action}
+use Rattle.kernel_tree.specs.Limits.{block_depth}
 use Rattle.kernel_scope.specs.Scopes.{scope_of}
 use Rattle.scalar_words.specs.View.{constants_of, homes_of}
-use Rattle.value_code.specs.HeldNumbers.{hold_term, hold_element}
+use Rattle.value_code.specs.HeldNumbers.{hold_element}
 use Rattle.loop_code.specs.LoopNumbers.{hold_action, hold_block}
 use Rattle.loop_code.proofs.Errors.{on_error}
 use Rattle.loop_code.proofs.StatementWalks.{next_statement, hold_one, hold_two, hold_on}
 use Rattle.loop_code.proofs.WalkParts.{no_statement, statement_below, less_deep, if_below, first_below, second_below}
 use Rattle.loop_code.proofs.numbers.+statements.Goals as goal
-use Rattle.loop_code.proofs.numbers.+statements.Goals.{hold_stmt-in-Let, hold_stmt-in-Let-2}
 
 -- ---- a statement by its kind
 
@@ -60,12 +59,6 @@ pub hold_stmt-returns-in-Update : goal.hold_stmt-returns-in-Update
 hold_stmt-returns-in-Update t c =
     on_ok_weaker c.hold_update.result (λ p. p ∙ ap (λ (a : Action). hold_action c.args.params (homes_of c.args.homes.now) (scope_of c.args.scope.now) a (constants_of c.args.constants.now.items)) (ap part_action (sym c.in-Update.is) ∙ c.parts.ensures)) c.hold_update.ensures
 
-pub hold_stmt-returns-in-Let : goal.hold_stmt-returns-in-Let
-hold_stmt-returns-in-Let t c = elim c.in-Let-1.branch [
-  | hold_stmt-in-Let w ↦ on_ok_weaker c.hold_term-in-Let.result (λ p. p ∙ ap (λ (e : Bor Expr). hold_term c.args.params (homes_of c.args.homes.now) (scope_of c.args.scope.now) (term_of e.now) (constants_of c.args.constants.now.items)) w.value-is ∙ ap (λ (a : Action). hold_action c.args.params (homes_of c.args.homes.now) (scope_of c.args.scope.now) a (constants_of c.args.constants.now.items)) w.in-Let.ensures) c.hold_term-in-Let.ensures
-  | hold_stmt-in-Let-2 w ↦ on_ok_weaker c.hold_term-in-Let.result (λ p. p ∙ ap (λ (e : Bor Expr). hold_term c.args.params (homes_of c.args.homes.now) (scope_of c.args.scope.now) (term_of e.now) (constants_of c.args.constants.now.items)) w.value-is ∙ ap (λ (a : Action). hold_action c.args.params (homes_of c.args.homes.now) (scope_of c.args.scope.now) a (constants_of c.args.constants.now.items)) w.in-Let.ensures) c.hold_term-in-Let.ensures
-]
-
 -- ---- the statements of a block, one after another
 
 pub hold_block-loop-stmt-init : goal.hold_block-loop-stmt-init
@@ -82,7 +75,7 @@ hold_block-loop-stmt-preserved t c =
     let l = c.loop-stmt in
     let e = next_statement c.args.block.now l.stmt-index c.stmt-item.result c.loop-stmt-test.true c.stmt-item.is in
     record {
-      depth = less_deep (block_of (drop l.stmt-index c.args.block.now)) (block_of (drop (l.stmt-index + 1) c.args.block.now)) (action_of c.stmt-item.result) _ e l.invariant.depth;
+      depth = less_deep (block_of (drop l.stmt-index c.args.block.now)) (block_of (drop (l.stmt-index + 1) c.args.block.now)) (action_of c.stmt-item.result) (block_depth (block_of c.args.block.now)) e l.invariant.depth;
       constants = hold_on c.args.params (homes_of c.args.homes.now) (scope_of c.args.scope.now) (action_of c.stmt-item.result) (block_of (drop (l.stmt-index + 1) c.args.block.now)) (block_of (drop l.stmt-index c.args.block.now)) (constants_of l.constants.items) (constants_of c.hold_stmt.new.constants.items) e c.in_ok-hold_stmt.ensures ∙ l.invariant.constants;
     }
 
