@@ -89,3 +89,17 @@ covers_on ls s t a more x before here now e f g h =
     ∙ ap (λ (u : Scope). (before && covers_action ls s a) && covers_block ls u more) f
     ∙ and_assoc before (covers_action ls s a) (covers_block ls (after_action s a) more)
     ∙ ap (λ (b : Block). before && covers_block ls s b) (sym e)
+
+-- ---- what is known of a statement is known by its parts
+
+pub after_as : (s t : Scope) (a b : Action) → a ≡ b → t ≡ after_action s b → t ≡ after_action s a
+after_as s t a b e f = f ∙ ap (after_action s) (sym e)
+
+pub covers_as : (ls : List Loose) (s : Scope) (a b : Action) (v : Bool) → a ≡ b → v ≡ covers_action ls s b → v ≡ covers_action ls s a
+covers_as ls s a b v e f = f ∙ ap (covers_action ls s) (sym e)
+
+pub loosen_as : (s : Scope) (all : Block) (a b : Action) (ls ms : List Loose) → a ≡ b → ms ≡ loosen_action s all b ls → ms ≡ loosen_action s all a ls
+loosen_as s all a b ls ms e f = f ∙ ap (λ (x : Action). loosen_action s all x ls) (sym e)
+
+pub same_depth : (n : ℕ) → n ≤ n
+same_depth n = omega arith

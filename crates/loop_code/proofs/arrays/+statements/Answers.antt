@@ -1,4 +1,4 @@
-use Rattle.std.proofs.Common.{◌+◌, List, drop, refl, sym, ap, ◌∙◌, arith}
+use Rattle.std.proofs.Common.{◌+◌, List, drop, refl, sym, ap, ◌∙◌}
 use Rattle.std.proofs.lemmas.Result.{on_ok_weaker}
 use Rattle.kernel_tree.specs.Plain.{Action, Block, name_of, term_of, action_of, block_of}
 use Rattle.kernel_tree.specs.Parts.{part_action}
@@ -8,7 +8,7 @@ use Rattle.scalar_words.specs.View.{looses_of}
 use Rattle.loop_code.specs.Loosening.{with_array, action_arrays, block_arrays}
 use Rattle.loop_code.proofs.Errors.{on_error}
 use Rattle.loop_code.proofs.StatementWalks.{next_statement, arrays_one, arrays_two, arrays_on}
-use Rattle.loop_code.proofs.WalkParts.{no_statement, statement_below, less_deep, if_below, first_below, second_below}
+use Rattle.loop_code.proofs.WalkParts.{no_statement, statement_below, less_deep, same_depth, if_below, first_below, second_below}
 use Rattle.loop_code.proofs.arrays.+statements.Goals as goal
 
 -- ---- a statement by its kind
@@ -56,7 +56,7 @@ add_stmt-returns-in_ok-add_term-in-Store t c =
 -- ---- the statements of a block, one after another
 
 pub add_block-loop-stmt-init : goal.add_block-loop-stmt-init
-add_block-loop-stmt-init t c = record { depth = omega arith; loose = refl }
+add_block-loop-stmt-init t c = record { depth = same_depth (block_depth (block_of c.args.block.now)); loose = refl }
 
 pub add_block-add_stmt-requires : goal.add_block-add_stmt-requires
 add_block-add_stmt-requires t c =
@@ -80,9 +80,3 @@ pub add_block-returns : goal.add_block-returns
 add_block-returns t c =
     let l = c.loop-stmt in
     ap (λ (b : Block). block_arrays (scope_of c.args.scope.now) b (looses_of l.loose.items)) (sym (no_statement c.args.block.now l.stmt-index c.loop-stmt-test.false)) ∙ l.invariant.loose
-
-pub add_block-loop-stmt-smaller : goal.add_block-loop-stmt-smaller
-add_block-loop-stmt-smaller t c = omega arith
-
-pub add_block-offset_bounds-block-stmt-index : goal.add_block-offset_bounds-block-stmt-index
-add_block-offset_bounds-block-stmt-index t c = omega arith

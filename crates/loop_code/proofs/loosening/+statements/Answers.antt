@@ -1,17 +1,17 @@
-use Rattle.std.proofs.Common.{◌≡◌, ◌+◌, List, drop, refl, sym, ap, ◌∙◌, arith}
+use Rattle.std.proofs.Common.{◌≡◌, ◌+◌, List, drop, refl, sym, ap, ◌∙◌}
 use Rattle.std.proofs.lemmas.Result.{on_ok_weaker, IfOk-weaker, IfOk-from_err}
 use Rattle.std.specs.Prelude.{◌&&◌}
-use Rattle.kernel_tree.specs.Plain.{Action, Block, term_of, action_of, block_of}
+use Rattle.kernel_tree.specs.Plain.{Block, Define, Put, Update, Choose, Leave, Nothing, name_of, term_of, action_of, block_of}
 use Rattle.kernel_tree.specs.Parts.{part_action}
 use Rattle.kernel_tree.specs.Limits.{block_depth}
 use Rattle.kernel_tree.specs.Typing.{Scope, left, after_action, after_block}
 use Rattle.kernel_scope.specs.Scopes.{scope_of, kept}
 use Rattle.kernel_scope.proofs.Growth.{kept-block}
 use Rattle.scalar_words.specs.View.{looses_of}
-use Rattle.loop_code.specs.Loosening.{covers_action, covers_block}
+use Rattle.loop_code.specs.Loosening.{covers_block}
 use Rattle.loop_code.proofs.Errors.{on_error}
 use Rattle.loop_code.proofs.StatementWalks.{next_statement, covers_one, covers_two}
-use Rattle.loop_code.proofs.WalkParts.{no_statement, less_deep, inner_statement_below, inner_if_below, inner_first_below, inner_second_below, inner_below, and_true, covers_on}
+use Rattle.loop_code.proofs.WalkParts.{no_statement, less_deep, same_depth, inner_statement_below, inner_if_below, inner_first_below, inner_second_below, inner_below, and_true, covers_on, after_as, covers_as}
 use Rattle.loop_code.proofs.loosening.+statements.Goals as goal
 use Rattle.loop_code.proofs.loosening.+statements.Goals.{covers_block-then-covered, covers_block-else-covered}
 
@@ -23,7 +23,7 @@ covers_stmt-covers_inner-requires t c =
 
 pub covers_stmt-returns-in-If : goal.covers_stmt-returns-in-If
 covers_stmt-returns-in-If t c = record {
-  scope = on_ok_weaker c.covers_inner.result (λ p. p ∙ ap (after_action (scope_of c.args.scope.now)) (ap part_action (sym c.in-If.is) ∙ c.parts.ensures)) c.covers_inner.ensures.scope;
+  scope = on_ok_weaker c.covers_inner.result (after_as (scope_of c.args.scope.now) (scope_of c.covers_inner.new.scope) (action_of c.args.stmt.now) (Choose (term_of c.in-If.cond.now) (block_of c.in-If.block.now) Nothing) (sym c.parts.ensures ∙ ap part_action c.in-If.is)) c.covers_inner.ensures.scope;
   covers =
       IfOk-weaker c.covers_inner.result _ _ (λ v h. covers_one (looses_of c.args.loose.now) (scope_of c.args.scope.now) (action_of c.args.stmt.now) (term_of c.in-If.cond.now) (block_of c.in-If.block.now) c.covers_truth-truth.result v
       (sym c.parts.ensures ∙ ap part_action c.in-If.is) c.covers_truth-truth.ensures h) c.covers_inner.ensures.covers;
@@ -55,34 +55,34 @@ covers_stmt-returns-in_ok-first-in-IfElse t c = record {
 
 pub covers_stmt-returns-in-Let : goal.covers_stmt-returns-in-Let
 covers_stmt-returns-in-Let t c =
-    let is = ap part_action (sym c.in-Let.is) ∙ c.parts.ensures in
+    let is = sym c.parts.ensures ∙ ap part_action c.in-Let.is in
     record {
-      scope = on_ok_weaker c.covers_let.result (λ p. p ∙ ap (after_action (scope_of c.args.scope.now)) is) c.covers_let.ensures.scope;
-      covers = IfOk-weaker c.covers_let.result _ _ (λ v h. h ∙ ap (covers_action (looses_of c.args.loose.now) (scope_of c.args.scope.now)) is) c.covers_let.ensures.covers;
+      scope = on_ok_weaker c.covers_let.result (after_as (scope_of c.args.scope.now) (scope_of c.covers_let.new.scope) (action_of c.args.stmt.now) (Define (name_of c.in-Let.name.now) c.in-Let.ty (term_of c.in-Let.value.now)) is) c.covers_let.ensures.scope;
+      covers = IfOk-weaker c.covers_let.result _ _ (λ v h. covers_as (looses_of c.args.loose.now) (scope_of c.args.scope.now) (action_of c.args.stmt.now) (Define (name_of c.in-Let.name.now) c.in-Let.ty (term_of c.in-Let.value.now)) v is h) c.covers_let.ensures.covers;
     }
 
 pub covers_stmt-returns-in-Store : goal.covers_stmt-returns-in-Store
 covers_stmt-returns-in-Store t c =
-    let is = ap part_action (sym c.in-Store.is) ∙ c.parts.ensures in
+    let is = sym c.parts.ensures ∙ ap part_action c.in-Store.is in
     record {
-      scope = ap (after_action (scope_of c.args.scope.now)) is;
-      covers = c.covers_store.ensures ∙ ap (covers_action (looses_of c.args.loose.now) (scope_of c.args.scope.now)) is;
+      scope = after_as (scope_of c.args.scope.now) (scope_of c.args.scope.now) (action_of c.args.stmt.now) (Put (name_of c.in-Store.array.now) (term_of c.in-Store.index.now) (term_of c.in-Store.value.now)) is refl;
+      covers = covers_as (looses_of c.args.loose.now) (scope_of c.args.scope.now) (action_of c.args.stmt.now) (Put (name_of c.in-Store.array.now) (term_of c.in-Store.index.now) (term_of c.in-Store.value.now)) c.covers_store.result is c.covers_store.ensures;
     }
 
 pub covers_stmt-returns-in-Update : goal.covers_stmt-returns-in-Update
 covers_stmt-returns-in-Update t c =
-    let is = ap part_action (sym c.in-Update.is) ∙ c.parts.ensures in
+    let is = sym c.parts.ensures ∙ ap part_action c.in-Update.is in
     record {
-      scope = ap (after_action (scope_of c.args.scope.now)) is;
-      covers = c.covers_update.ensures ∙ ap (covers_action (looses_of c.args.loose.now) (scope_of c.args.scope.now)) is;
+      scope = after_as (scope_of c.args.scope.now) (scope_of c.args.scope.now) (action_of c.args.stmt.now) (Update (name_of c.in-Update.name.now) c.in-Update.op (term_of c.in-Update.value.now)) is refl;
+      covers = covers_as (looses_of c.args.loose.now) (scope_of c.args.scope.now) (action_of c.args.stmt.now) (Update (name_of c.in-Update.name.now) c.in-Update.op (term_of c.in-Update.value.now)) c.covers_update.result is c.covers_update.ensures;
     }
 
 pub covers_stmt-returns-in-Break : goal.covers_stmt-returns-in-Break
 covers_stmt-returns-in-Break t c =
-    let is = ap part_action (sym c.in-Break.is) ∙ c.parts.ensures in
+    let is = sym c.parts.ensures ∙ ap part_action c.in-Break.is in
     record {
-      scope = ap (after_action (scope_of c.args.scope.now)) is;
-      covers = c.covers_truth.ensures ∙ ap (covers_action (looses_of c.args.loose.now) (scope_of c.args.scope.now)) is;
+      scope = after_as (scope_of c.args.scope.now) (scope_of c.args.scope.now) (action_of c.args.stmt.now) (Leave (term_of c.in-Break.cond.now)) is refl;
+      covers = covers_as (looses_of c.args.loose.now) (scope_of c.args.scope.now) (action_of c.args.stmt.now) (Leave (term_of c.in-Break.cond.now)) c.covers_truth.result is c.covers_truth.ensures;
     }
 
 -- ---- a block whose names are visible no more
@@ -107,7 +107,7 @@ covers_inner-returns t c =
 -- ---- the statements of a block, one after another
 
 pub covers_block-loop-stmt-init : goal.covers_block-loop-stmt-init
-covers_block-loop-stmt-init t c = record { depth = omega arith; scope = refl; covers = refl }
+covers_block-loop-stmt-init t c = record { depth = same_depth (block_depth (block_of c.args.block.now)); scope = refl; covers = refl }
 
 pub covers_block-covers_stmt-requires : goal.covers_block-covers_stmt-requires
 covers_block-covers_stmt-requires t c =
@@ -142,9 +142,3 @@ covers_block-returns t c =
       scope = ap (after_block (scope_of l.scope)) end ∙ l.invariant.scope;
       covers = and_true l.covered ∙ ap (λ (b : Block). l.covered && covers_block (looses_of c.args.loose.now) (scope_of l.scope) b) end ∙ l.invariant.covers;
     }
-
-pub covers_block-loop-stmt-smaller : goal.covers_block-loop-stmt-smaller
-covers_block-loop-stmt-smaller t c = omega arith
-
-pub covers_block-offset_bounds-block-stmt-index : goal.covers_block-offset_bounds-block-stmt-index
-covers_block-offset_bounds-block-stmt-index t c = omega arith

@@ -1,6 +1,6 @@
-use Rattle.std.proofs.Common.{◌+◌, List, drop, refl, sym, ap, ◌∙◌, arith}
+use Rattle.std.proofs.Common.{◌+◌, List, drop, refl, sym, ap, ◌∙◌}
 use Rattle.std.proofs.lemmas.Result.{on_ok_weaker}
-use Rattle.kernel_tree.specs.Plain.{Action, Block, term_of, action_of, block_of}
+use Rattle.kernel_tree.specs.Plain.{Action, Block, Choose, Update, Nothing, name_of, term_of, action_of, block_of}
 use Rattle.kernel_tree.specs.Parts.{part_action}
 use Rattle.kernel_tree.specs.Limits.{block_depth}
 use Rattle.kernel_scope.specs.Scopes.{scope_of, in_body}
@@ -8,7 +8,7 @@ use Rattle.scalar_words.specs.View.{looses_of}
 use Rattle.loop_code.specs.Loosening.{loosen_action, loosen_block}
 use Rattle.loop_code.proofs.Errors.{on_error}
 use Rattle.loop_code.proofs.StatementWalks.{next_statement, loosen_two, loosen_on}
-use Rattle.loop_code.proofs.WalkParts.{no_statement, statement_below, less_deep, if_below, first_below, second_below, loosen_other}
+use Rattle.loop_code.proofs.WalkParts.{no_statement, statement_below, less_deep, same_depth, if_below, first_below, second_below, loosen_other, loosen_as}
 use Rattle.loop_code.proofs.loosening.+walk.Goals as goal
 
 -- ---- a statement by its kind
@@ -20,7 +20,7 @@ loosen_stmt-loosen_block-requires t c =
 pub loosen_stmt-returns-in-If : goal.loosen_stmt-returns-in-If
 loosen_stmt-returns-in-If t c = record {
   scope = c.loosen_block.ensures.scope;
-  loose = on_ok_weaker c.loosen_block.result (λ p. p ∙ ap (λ (a : Action). loosen_action (in_body (scope_of c.args.scope.now)) (block_of c.args.body.now) a (looses_of c.args.loose.now.items)) (ap part_action (sym c.in-If.is) ∙ c.parts.ensures)) c.loosen_block.ensures.loose;
+  loose = on_ok_weaker c.loosen_block.result (loosen_as (in_body (scope_of c.args.scope.now)) (block_of c.args.body.now) (action_of c.args.stmt.now) (Choose (term_of c.in-If.cond.now) (block_of c.in-If.block.now) Nothing) (looses_of c.args.loose.now.items) (looses_of c.loosen_block.new.loose.items) (sym c.parts.ensures ∙ ap part_action c.in-If.is)) c.loosen_block.ensures.loose;
 }
 
 pub loosen_stmt-loosen_block-requires-in-IfElse : goal.loosen_stmt-loosen_block-requires-in-IfElse
@@ -47,7 +47,7 @@ loosen_stmt-returns-in_ok-loosen_block-in-IfElse t c = record {
 pub loosen_stmt-returns-in-Update : goal.loosen_stmt-returns-in-Update
 loosen_stmt-returns-in-Update t c = record {
   scope = c.loosen_update.ensures.scope;
-  loose = on_ok_weaker c.loosen_update.result (λ p. p ∙ ap (λ (a : Action). loosen_action (in_body (scope_of c.args.scope.now)) (block_of c.args.body.now) a (looses_of c.args.loose.now.items)) (ap part_action (sym c.in-Update.is) ∙ c.parts.ensures)) c.loosen_update.ensures.loose;
+  loose = on_ok_weaker c.loosen_update.result (loosen_as (in_body (scope_of c.args.scope.now)) (block_of c.args.body.now) (action_of c.args.stmt.now) (Update (name_of c.in-Update.name.now) c.in-Update.op (term_of c.in-Update.value.now)) (looses_of c.args.loose.now.items) (looses_of c.loosen_update.new.loose.items) (sym c.parts.ensures ∙ ap part_action c.in-Update.is)) c.loosen_update.ensures.loose;
 }
 
 pub loosen_stmt-returns-in_default : goal.loosen_stmt-returns-in_default
@@ -61,7 +61,7 @@ loosen_stmt-returns-in_default t c = record {
 -- ---- the statements of a block, one after another
 
 pub loosen_block-loop-stmt-init : goal.loosen_block-loop-stmt-init
-loosen_block-loop-stmt-init t c = record { depth = omega arith; scope = refl; loose = refl }
+loosen_block-loop-stmt-init t c = record { depth = same_depth (block_depth (block_of c.args.block.now)); scope = refl; loose = refl }
 
 pub loosen_block-loosen_stmt-requires : goal.loosen_block-loosen_stmt-requires
 loosen_block-loosen_stmt-requires t c =
@@ -91,9 +91,3 @@ loosen_block-returns t c =
       scope = l.invariant.scope;
       loose = ap (λ (b : Block). loosen_block (in_body (scope_of l.scope)) (block_of c.args.body.now) b (looses_of l.loose.items)) (sym (no_statement c.args.block.now l.stmt-index c.loop-stmt-test.false)) ∙ l.invariant.loose;
     }
-
-pub loosen_block-loop-stmt-smaller : goal.loosen_block-loop-stmt-smaller
-loosen_block-loop-stmt-smaller t c = omega arith
-
-pub loosen_block-offset_bounds-block-stmt-index : goal.loosen_block-offset_bounds-block-stmt-index
-loosen_block-offset_bounds-block-stmt-index t c = omega arith

@@ -1,4 +1,4 @@
-use Rattle.std.proofs.Common.{◌+◌, List, drop, refl, sym, ap, ◌∙◌, arith}
+use Rattle.std.proofs.Common.{◌+◌, List, drop, refl, sym, ap, ◌∙◌}
 use Rattle.std.proofs.lemmas.Result.{on_ok_weaker}
 use Rattle.kernel_tree.specs.Plain.{Action, Block, name_of, term_of, action_of, block_of}
 use Rattle.kernel_tree.specs.Items.{stream_offset}
@@ -10,7 +10,7 @@ use Rattle.value_code.specs.HeldNumbers.{hold_element}
 use Rattle.loop_code.specs.LoopNumbers.{hold_action, hold_block}
 use Rattle.loop_code.proofs.Errors.{on_error}
 use Rattle.loop_code.proofs.StatementWalks.{next_statement, hold_one, hold_two, hold_on}
-use Rattle.loop_code.proofs.WalkParts.{no_statement, statement_below, less_deep, if_below, first_below, second_below}
+use Rattle.loop_code.proofs.WalkParts.{no_statement, statement_below, less_deep, same_depth, if_below, first_below, second_below}
 use Rattle.loop_code.proofs.numbers.+statements.Goals as goal
 
 -- ---- a statement by its kind
@@ -59,10 +59,28 @@ pub hold_stmt-returns-in-Update : goal.hold_stmt-returns-in-Update
 hold_stmt-returns-in-Update t c =
     on_ok_weaker c.hold_update.result (λ p. p ∙ ap (λ (a : Action). hold_action c.args.params (homes_of c.args.homes.now) (scope_of c.args.scope.now) a (constants_of c.args.constants.now.items)) (ap part_action (sym c.in-Update.is) ∙ c.parts.ensures)) c.hold_update.ensures
 
+pub hold_stmt-hold_term-requires : goal.hold_stmt-hold_term-requires
+hold_stmt-hold_term-requires t c = c.requires
+
+pub hold_stmt-hold_term-requires-in-IfElse : goal.hold_stmt-hold_term-requires-in-IfElse
+hold_stmt-hold_term-requires-in-IfElse t c = c.requires
+
+pub hold_stmt-hold_term-requires-in-Store : goal.hold_stmt-hold_term-requires-in-Store
+hold_stmt-hold_term-requires-in-Store t c = c.requires
+
+pub hold_stmt-hold_element-requires : goal.hold_stmt-hold_element-requires
+hold_stmt-hold_element-requires t c = c.requires
+
+pub hold_stmt-hold_update-requires : goal.hold_stmt-hold_update-requires
+hold_stmt-hold_update-requires t c = c.requires
+
+pub hold_stmt-hold_term-requires-in-Let : goal.hold_stmt-hold_term-requires-in-Let
+hold_stmt-hold_term-requires-in-Let t c = c.requires
+
 -- ---- the statements of a block, one after another
 
 pub hold_block-loop-stmt-init : goal.hold_block-loop-stmt-init
-hold_block-loop-stmt-init t c = record { depth = omega arith; constants = refl }
+hold_block-loop-stmt-init t c = record { depth = same_depth (block_depth (block_of c.args.block.now)); constants = refl }
 
 pub hold_block-hold_stmt-requires : goal.hold_block-hold_stmt-requires
 hold_block-hold_stmt-requires t c =
@@ -86,9 +104,3 @@ pub hold_block-returns : goal.hold_block-returns
 hold_block-returns t c =
     let l = c.loop-stmt in
     ap (λ (b : Block). hold_block c.args.params (homes_of c.args.homes.now) (scope_of c.args.scope.now) b (constants_of l.constants.items)) (sym (no_statement c.args.block.now l.stmt-index c.loop-stmt-test.false)) ∙ l.invariant.constants
-
-pub hold_block-loop-stmt-smaller : goal.hold_block-loop-stmt-smaller
-hold_block-loop-stmt-smaller t c = omega arith
-
-pub hold_block-offset_bounds-block-stmt-index : goal.hold_block-offset_bounds-block-stmt-index
-hold_block-offset_bounds-block-stmt-index t c = omega arith
