@@ -1,6 +1,5 @@
 -- Which names are held loosely, step by step.
-use Rattle.std.proofs.Common.{◌≡◌, Bool, true, false, ℕ, ◌≤◌, List, [], ◌∷◌, ◌++◌, Option, Some, None, length, drop, refl, sym, ap, ap₂, ◌∙◌, append-nil}
-use Rattle.std.proofs.lemmas.List.{drop_all}
+use Rattle.std.proofs.Common.{◌≡◌, Bool, true, false, ℕ, List, [], ◌∷◌, ◌++◌, Option, Some, None, refl, sym, ap, ap₂, ◌∙◌}
 use Rattle.std.specs.Prelude.{◌&&◌, if◌then◌else◌, MatchOption, option_and_then}
 use Rattle.kernel_tree.specs.declared.fault.Binding.{Binding}
 use Rattle.kernel_tree.specs.declared.ops.Ty.{Ty}
@@ -19,7 +18,7 @@ use Rattle.value_code.specs.declared.extent.Extent.{Extent}
 use Rattle.value_code.specs.Extents.{binary_extent}
 use Rattle.value_code.specs.Covers.{held_extent, is_enough, is_whole, covers}
 use Rattle.loop_code.specs.Statements.{update_extent}
-use Rattle.loop_code.specs.Loosening.{narrow_at, gained, loosened, covers_action, after_loop}
+use Rattle.loop_code.specs.Loosening.{narrow_at, gained, loosened, covers_action}
 use Rattle.loop_code.proofs.Emission.{update_type}
 
 -- ---- the accumulator of an update that would have to extend it
@@ -69,7 +68,3 @@ looses_more (k ∷ ls) l = ap (λ m. loose_of k ∷ m) (looses_more ls l)
 
 pub pushed : (old new : List LooseName) (l : LooseName) (m : Loose) → new ≡ old ++ l ∷ [] → loose_of l ≡ m → looses_of new ≡ looses_of old ++ m ∷ []
 pushed old new l m e f = ap looses_of e ∙ looses_more old l ∙ ap (λ y. looses_of old ++ y ∷ []) f
-
--- where no name is left
-pub all_kept : (kept : List Loose) (ls : List LooseName) (i : ℕ) → length ls ≤ i → kept ≡ kept ++ after_loop (looses_of (drop i ls))
-all_kept kept ls i h = sym (ap (λ (xs : List LooseName). kept ++ after_loop (looses_of xs)) (drop_all i ls h) ∙ append-nil kept)

@@ -10,7 +10,7 @@ use Rattle.kernel_tree.specs.declared.part.Part.{Part}
 use Rattle.kernel_tree.specs.declared.part.Part.TheVariants as part
 use Rattle.kernel_tree.specs.Parts.{part_action}
 use Rattle.kernel_tree.specs.Plain.{Term, Action, Choose, Block, Done, Then, Nothing, Else, block_of}
-use Rattle.kernel_tree.specs.Limits.{term_depth, action_depth, block_depth}
+use Rattle.kernel_tree.specs.Limits.{action_depth, block_depth}
 use Rattle.kernel_tree.specs.Typing.{Scope, after_action}
 use Rattle.scalar_words.specs.Layout.{Loose}
 use Rattle.loop_code.specs.Loosening.{loosen_action, covers_action, covers_block}

@@ -1,4 +1,4 @@
-use Rattle.std.proofs.Common.{◌+◌, List, drop, refl, sym, ap, ◌∙◌}
+use Rattle.std.proofs.Common.{◌+◌, drop, refl, sym, ap, ◌∙◌}
 use Rattle.std.proofs.lemmas.Result.{on_ok_weaker}
 use Rattle.kernel_tree.specs.Plain.{Action, Block, name_of, term_of, action_of, block_of}
 use Rattle.kernel_tree.specs.Parts.{part_action}
@@ -50,8 +50,8 @@ add_stmt-returns-in_err-add_term-in-Store t c = on_error _ _ c.from_residual-in_
 pub add_stmt-returns-in_ok-add_term-in-Store : goal.add_stmt-returns-in_ok-add_term-in-Store
 add_stmt-returns-in_ok-add_term-in-Store t c =
     on_ok_weaker c.add_array.result (λ p. p
-        ∙ ap (with_array (scope_of c.args.scope.now) (name_of c.in-Store.array.now)) c.in_ok-add_term-in-Store.ensures
-        ∙ ap (λ (a : Action). action_arrays (scope_of c.args.scope.now) a (looses_of c.args.loose.now.items)) (ap part_action (sym c.in-Store.is) ∙ c.parts.ensures)) c.add_array.ensures
+    ∙ ap (with_array (scope_of c.args.scope.now) (name_of c.in-Store.array.now)) c.in_ok-add_term-in-Store.ensures
+    ∙ ap (λ (a : Action). action_arrays (scope_of c.args.scope.now) a (looses_of c.args.loose.now.items)) (ap part_action (sym c.in-Store.is) ∙ c.parts.ensures)) c.add_array.ensures
 
 -- ---- the statements of a block, one after another
 

@@ -1,4 +1,4 @@
-use Rattle.std.proofs.Common.{◌≡◌, ◌+◌, List, drop, refl, sym, ap, ◌∙◌}
+use Rattle.std.proofs.Common.{◌≡◌, ◌+◌, drop, refl, sym, ap, ◌∙◌}
 use Rattle.std.proofs.lemmas.Result.{on_ok_weaker, IfOk-weaker, IfOk-from_err}
 use Rattle.std.specs.Prelude.{◌&&◌}
 use Rattle.kernel_tree.specs.Plain.{Block, Define, Put, Update, Choose, Leave, Nothing, name_of, term_of, action_of, block_of}
@@ -46,8 +46,8 @@ pub covers_stmt-returns-in_ok-first-in-IfElse : goal.covers_stmt-returns-in_ok-f
 covers_stmt-returns-in_ok-first-in-IfElse t c = record {
   scope =
       on_ok_weaker c.covers_inner-in-IfElse-2.result (λ p. p
-          ∙ ap (λ (r : Scope). left r (after_block r (block_of c.in-IfElse.other.now))) c.in_ok-first-in-IfElse.ensures.scope
-          ∙ ap (after_action (scope_of c.args.scope.now)) (ap part_action (sym c.in-IfElse.is) ∙ c.parts.ensures)) c.covers_inner-in-IfElse-2.ensures.scope;
+      ∙ ap (λ (r : Scope). left r (after_block r (block_of c.in-IfElse.other.now))) c.in_ok-first-in-IfElse.ensures.scope
+      ∙ ap (after_action (scope_of c.args.scope.now)) (ap part_action (sym c.in-IfElse.is) ∙ c.parts.ensures)) c.covers_inner-in-IfElse-2.ensures.scope;
   covers =
       IfOk-weaker c.covers_inner-in-IfElse-2.result _ _ (λ v h. covers_two (looses_of c.args.loose.now) (scope_of c.args.scope.now) (scope_of c.covers_inner-in-IfElse.new.scope) (action_of c.args.stmt.now) (term_of c.in-IfElse.cond.now) (block_of c.in-IfElse.block.now) (block_of c.in-IfElse.other.now) c.covers_truth-truth-in-IfElse.result c.in_ok-first-in-IfElse.first v
       (sym c.parts.ensures ∙ ap part_action c.in-IfElse.is) c.covers_truth-truth-in-IfElse.ensures c.in_ok-first-in-IfElse.ensures.scope c.in_ok-first-in-IfElse.ensures.covers h) c.covers_inner-in-IfElse-2.ensures.covers;

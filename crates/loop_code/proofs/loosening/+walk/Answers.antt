@@ -1,4 +1,4 @@
-use Rattle.std.proofs.Common.{◌+◌, List, drop, refl, sym, ap, ◌∙◌}
+use Rattle.std.proofs.Common.{◌+◌, drop, refl, sym, ap, ◌∙◌}
 use Rattle.std.proofs.lemmas.Result.{on_ok_weaker}
 use Rattle.kernel_tree.specs.Plain.{Action, Block, Choose, Update, Nothing, name_of, term_of, action_of, block_of}
 use Rattle.kernel_tree.specs.Parts.{part_action}

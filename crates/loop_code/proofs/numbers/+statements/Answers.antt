@@ -1,4 +1,4 @@
-use Rattle.std.proofs.Common.{◌+◌, List, drop, refl, sym, ap, ◌∙◌}
+use Rattle.std.proofs.Common.{◌+◌, drop, refl, sym, ap, ◌∙◌}
 use Rattle.std.proofs.lemmas.Result.{on_ok_weaker}
 use Rattle.kernel_tree.specs.Plain.{Action, Block, name_of, term_of, action_of, block_of}
 use Rattle.kernel_tree.specs.Items.{stream_offset}
@@ -52,8 +52,8 @@ hold_stmt-returns-in_err-hold_term-in-Store t c = on_error _ _ c.from_residual-i
 pub hold_stmt-returns-in_ok-hold_term-in-Store : goal.hold_stmt-returns-in_ok-hold_term-in-Store
 hold_stmt-returns-in_ok-hold_term-in-Store t c =
     on_ok_weaker c.hold_element.result (λ p. p
-        ∙ ap (hold_element c.args.params (homes_of c.args.homes.now) (scope_of c.args.scope.now) (name_of c.in-Store.array.now) (stream_offset (scope_of c.args.scope.now).index (term_of c.in-Store.index.now))) c.in_ok-hold_term-in-Store.ensures
-        ∙ ap (λ (a : Action). hold_action c.args.params (homes_of c.args.homes.now) (scope_of c.args.scope.now) a (constants_of c.args.constants.now.items)) (ap part_action (sym c.in-Store.is) ∙ c.parts.ensures)) c.hold_element.ensures
+    ∙ ap (hold_element c.args.params (homes_of c.args.homes.now) (scope_of c.args.scope.now) (name_of c.in-Store.array.now) (stream_offset (scope_of c.args.scope.now).index (term_of c.in-Store.index.now))) c.in_ok-hold_term-in-Store.ensures
+    ∙ ap (λ (a : Action). hold_action c.args.params (homes_of c.args.homes.now) (scope_of c.args.scope.now) a (constants_of c.args.constants.now.items)) (ap part_action (sym c.in-Store.is) ∙ c.parts.ensures)) c.hold_element.ensures
 
 pub hold_stmt-returns-in-Update : goal.hold_stmt-returns-in-Update
 hold_stmt-returns-in-Update t c =
