@@ -1,5 +1,9 @@
 pub mod Initial
 pub mod ArrayWalk
+mod Errors
+mod WalkParts
+mod TermWalks
+mod LooseSteps
 pub mod FitsKernel
 pub mod SetupRuns
 pub mod LooseBlocks

@@ -5,6 +5,7 @@ use Rattle.kernel_tree.specs.Typing.{Scope}
 use Rattle.kernel_tree.proofs.Scopes.{scope_outside}
 use Rattle.kernel_scope.specs.Scopes.{scope_of, closed}
 use Rattle.loop_code.proofs.Emission.{undeclared}
+use Rattle.loop_code.proofs.Errors.{on_error}
 use Rattle.loop_code.proofs.loosening.loosen_names.Goals as goal
 
 pub returns-clause-scope : goal.returns-clause-scope
@@ -15,3 +16,23 @@ returns-clause-scope c =
     c.close.ensures
     ∙ ap (closed n m) (c.in_ok-loosen_block.ensures.scope ∙ c.in_ok-keep_moved.ensures.scope ∙ c.in_ok-moved_names.ensures.scope ∙ c.in_ok-declare.ensures)
     ∙ undeclared s (name_of c.args.for_loop.now.index) binding.Index n m c.visible_count-visible.ensures c.declared_count-taken.ensures (ap (λ (t : Scope). t.inside) c.requires.scope ∙ scope_outside (program_of c.args.kernel.now))
+
+pub returns-in_err-declare : goal.returns-in_err-declare
+returns-in_err-declare c =
+    let failed = c.from_residual.ensures.0 in
+    record { scope = on_error _ _ failed; places = on_error _ _ failed }
+
+pub returns-in_err-moved_names : goal.returns-in_err-moved_names
+returns-in_err-moved_names c =
+    let failed = c.from_residual-in_err-moved_names.ensures.0 in
+    record { scope = on_error _ _ failed; places = on_error _ _ failed }
+
+pub returns-in_err-keep_moved : goal.returns-in_err-keep_moved
+returns-in_err-keep_moved c =
+    let failed = c.from_residual-in_err-keep_moved.ensures.0 in
+    record { scope = on_error _ _ failed; places = on_error _ _ failed }
+
+pub returns-in_err-loosen_block : goal.returns-in_err-loosen_block
+returns-in_err-loosen_block c =
+    let failed = c.from_residual-in_err-loosen_block.ensures.0 in
+    record { scope = on_error _ _ failed; places = on_error _ _ failed }
