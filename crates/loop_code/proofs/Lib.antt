@@ -1,6 +1,5 @@
 pub mod Initial
 pub mod ArrayWalk
-mod Errors
 mod WalkParts
 mod TermWalks
 mod LooseSteps

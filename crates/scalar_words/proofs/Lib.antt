@@ -22,4 +22,4 @@ pub mod HalfWords
 pub mod NameSteps
 pub mod ItemSteps
 mod OperatorWords
-mod Errors
+pub mod Errors
