@@ -21,6 +21,8 @@ pub mod CoversNone
 pub mod FitsOf
 pub mod ValueCounts
 pub mod ValuesPlaced
+mod TermWalks
+mod CoversTerms
 pub mod IndexCode
 mod Examples
 pub mod TermCode
