@@ -22,6 +22,8 @@ pub mod FitsOf
 pub mod ValueCounts
 pub mod ValuesPlaced
 mod TermWalks
+mod ByteCounts
+mod HeldKeys
 mod CoversTerms
 pub mod IndexCode
 mod Examples
