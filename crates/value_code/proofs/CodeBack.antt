@@ -1,11 +1,11 @@
 -- The labels after the code of an expression lead where they did.
 use Rattle.std.proofs.Common.{◌≡◌, ℕ, ◌+◌, Bool, true, false, List, ◌∷◌, Option, Some, None}
-use Rattle.std.specs.Prelude.{ℤ, option_and_then, not, ◌&&◌, unwrap_or, if◌then◌else◌}
+use Rattle.std.specs.Prelude.{ℤ, option_and_then, not, ◌&&◌}
 use Rattle.kernel_tree.specs.declared.ops.Ty.{Ty}
 use Rattle.kernel_tree.specs.declared.ops.BinaryOp.{BinaryOp}
 use Rattle.kernel_tree.specs.declared.ops.UnaryOp.{UnaryOp}
 use Rattle.kernel_tree.specs.Plain.{Term, Literal, Variable, Element, Unary, Operation, Shift, Conversion, Choice, Comparison, Both, Either, Not}
-use Rattle.kernel_tree.specs.Items.{term_size, index_items, stream_offset}
+use Rattle.kernel_tree.specs.Items.{term_size, stream_offset}
 use Rattle.kernel_tree.specs.Wrap.{is_signed}
 use Rattle.kernel_tree.specs.Typing.{Scope, lookup, own, element_type, index_type, side_type}
 use Rattle.kernel_meaning.specs.Operators.{word, wrapped}
@@ -17,7 +17,7 @@ use Rattle.scalar_words.proofs.LayoutStates.{Assigned}
 use Rattle.scalar_words.proofs.Constants.{word_back, const_back}
 use Rattle.value_code.specs.ValueRegisters.{home}
 use Rattle.value_code.specs.ItemWords.{Side, Number, Register, Product, Moved, load_code, operator_code, unary_code, abs_code, shift_code, index_word, convert_word, compare_word, zero_test, tested_code, pick_code, placed_code}
-use Rattle.value_code.specs.Code.{labels, number_register, placed_index, other_home, number_code, place_of, signed_side, compared_number, added_number, is_fused, side_code, is_led, taken_side, parts_code, right_code, flag_condition, choice_code, loose_code, value_code, flags_code, jump_code}
+use Rattle.value_code.specs.Code.{number_code, place_of, signed_side, compared_number, added_number, is_fused, side_code, is_led, taken_side, parts_code, right_code, flag_condition, choice_code, loose_code, value_code, flags_code, jump_code}
 use Rattle.value_code.specs.declared.extent.Extent.{Extent}
 use Rattle.value_code.specs.Extents.{Whole, within_type, converted_extent}
 use Rattle.value_code.specs.Leaving.{unary_asks, binary_asks, shift_asks, unary_settles, binary_settles, shift_settles}
@@ -94,43 +94,20 @@ module _ (D : Laid) (L : Layout) (fit : Assigned L) where
   shift_back leaves None left n d a rest h = h
   shift_back leaves (Some t) left n d a rest h = word_back D (settle_word leaves t d) rest h
 
-  -- code that leads back to what follows it, and pieces of it one after the other
-  abbrev Back : (List DraftEntry → List DraftEntry) → Type 0
-  Back code = (rest : List DraftEntry) → Resolves D (code rest) → Resolves D rest
-
-  element_back : (place : Option ℕ) (o : Option ℤ) (inner : List DraftEntry → List DraftEntry) (t : Option Ty) (d p r : ℕ) (rest : List DraftEntry) → Back inner → Resolves D (right_code place (number_code o inner) (load_code t d p r rest)) → Resolves D rest
-  element_back place o inner t d p r rest f h = load_back t d p r rest (right_back place (number_code o inner) (load_code t d p r rest) (number_back o inner (load_code t d p r rest) (f (load_code t d p r rest))) h)
-
-  two_back : (number : Option ℕ) (fused led : Bool) (wx px wy py : List DraftEntry → List DraftEntry) (last rest : List DraftEntry) → Back wx → Back px → Back wy → Back py → (Resolves D last → Resolves D rest) → Resolves D (side_code None led wx px (side_code number fused wy py last)) → Resolves D rest
-  two_back number fused led wx px wy py last rest fx gx fy gy f h =
-      f (side_back number fused wy py last (fy last) (gy last) (side_back None led wx px (side_code number fused wy py last) (fx (side_code number fused wy py last)) (gx (side_code number fused wy py last)) h))
-
-  chosen_back : (o : Option ℕ) (wx wy flags jump : List DraftEntry → List DraftEntry) (d p q n : ℕ) (rest : List DraftEntry) → Back wx → Back wy → Back flags → Back jump → Resolves D (wx (wy (choice_code o flags jump d p q n rest))) → Resolves D rest
-  chosen_back o wx wy flags jump d p q n rest fx fy f g h =
-      choice_back o flags jump d p q n rest f g (fy (choice_code o flags jump d p q n rest) (fx (wy (choice_code o flags jump d p q n rest)) h))
-
-  compared_back : (number : Option ℕ) (wx wy : List DraftEntry → List DraftEntry) (last rest : List DraftEntry) → Back wx → Back wy → (Resolves D last → Resolves D rest) → Resolves D (wx (right_code number wy last)) → Resolves D rest
-  compared_back number wx wy last rest fx fy f h = f (right_back number wy last (fy last) (fx (right_code number wy last) h))
-
-  joined_back : (wanted : Bool) (n : ℕ) (wx wy : List DraftEntry → List DraftEntry) (rest : List DraftEntry) → Back wx → Back wy → Resolves D (wx (wy (placed_code wanted n rest))) → Resolves D rest
-  joined_back wanted n wx wy rest fx fy h = placed_back wanted n rest (fy (placed_code wanted n rest) (fx (wy (placed_code wanted n rest)) h))
-
   mutual
     pub loose_back : (e : Term) (hs : Homes) (s : Scope) (w : Extent) (want : Option Ty) (b n : ℕ) (rest : List DraftEntry) → Resolves D (loose_code L hs s w want b n e rest) → Resolves D rest
     loose_back (Literal z) hs s w want b n rest h = right_back (constant_at L (OfNumber z)) _ rest (const_back D (reg_of L b) (word (wrapped want z)) rest) h
     loose_back (Variable x) hs s w want b n rest h = h
-    loose_back (Element a i) hs s w want b n rest h = element_back (place_of L (register_at hs a) (option_and_then element_type (lookup s a)) (stream_offset s.index i)) (stream_offset s.index i) (loose_code L hs s Whole (index_type s i) b n i) (option_and_then element_type (lookup s a)) (reg_of L (b + index_items s.index i)) (unwrap_or (place_of L (register_at hs a) (option_and_then element_type (lookup s a)) (stream_offset s.index i)) (register_at hs a)) (placed_index (place_of L (register_at hs a) (option_and_then element_type (lookup s a)) (stream_offset s.index i)) (number_register (stream_offset s.index i) (home L hs s.index b i))) rest (loose_back i hs s Whole (index_type s i) b n) h
+    loose_back (Element a i) hs s w want b n rest h = load_back _ _ _ _ rest (right_back (place_of L (register_at hs a) (option_and_then element_type (lookup s a)) (stream_offset s.index i)) _ _ (number_back (stream_offset s.index i) _ _ (loose_back i hs s Whole (index_type s i) b n _)) h)
     loose_back (Unary op e) hs s w want b n rest h = unary_back (unary_settles s want op e w) want op _ _ rest (loose_back e hs s (unary_asks s want op e w) want b n _ h)
     loose_back (Operation op x y) hs s w want b n rest h =
         let k = binary_asks s want op x y w in
-        two_back (added_number op want y) (not (is_led L hs s op k want b x y) && is_fused s op k want y) (is_led L hs s op k want b x y) (loose_code L hs s k want b n x) (parts_code L hs s k want b n x) (loose_code L hs s k want (b + term_size s.index x) (n + labels s.index x) y) (parts_code L hs s k want (b + term_size s.index x) (n + labels s.index x) y)
-        (at_type want (λ t. operator_code (taken_side L hs s op k want b x y) (binary_settles s want op x y w) op t (reg_of L (b + term_size s.index x + term_size s.index y)) (other_home L hs s op k want b x y) rest) rest) rest
-        (loose_back x hs s k want b n) (parts_back x hs s k want b n) (loose_back y hs s k want (b + term_size s.index x) (n + labels s.index x)) (parts_back y hs s k want (b + term_size s.index x) (n + labels s.index x))
-        (operator_back (taken_side L hs s op k want b x y) (binary_settles s want op x y w) want op (reg_of L (b + term_size s.index x + term_size s.index y)) (other_home L hs s op k want b x y) rest) h
+        operator_back (taken_side L hs s op k want b x y) (binary_settles s want op x y w) want op _ _ rest
+        (side_back (added_number op want y) (not (is_led L hs s op k want b x y) && is_fused s op k want y) _ _ _ (loose_back y hs s k want _ _ _) (parts_back y hs s k want _ _ _)
+        (side_back None (is_led L hs s op k want b x y) _ _ _ (loose_back x hs s k want b n _) (parts_back x hs s k want b n _) h))
     loose_back (Shift left e z) hs s w want b n rest h = shift_back (shift_settles s want left e z w) want left z _ _ rest (loose_back e hs s (shift_asks s want left e z w) want b n _ h)
     loose_back (Conversion e t) hs s w want b n rest h = cast_back (within_type w t) (own s e) t _ _ rest (loose_back e hs s (converted_extent w (own s e) t) (own s e) b n _ h)
-    loose_back (Choice c x y) hs s w want b n rest h = chosen_back (flag_condition s c) (loose_code L hs s w want b n x) (loose_code L hs s w want (b + term_size s.index x) (n + labels s.index x) y) (flags_code L hs s (b + term_size s.index x + term_size s.index y) (n + labels s.index x + labels s.index y + 2) c) (jump_code L hs s false (n + labels s.index x + labels s.index y) (b + term_size s.index x + term_size s.index y) (n + labels s.index x + labels s.index y + 2) c) (reg_of L (b + term_size s.index x + term_size s.index y + term_size s.index c)) (home L hs s.index b x) (home L hs s.index (b + term_size s.index x) y) (n + labels s.index x + labels s.index y) rest
-        (loose_back x hs s w want b n) (loose_back y hs s w want (b + term_size s.index x) (n + labels s.index x)) (flags_back c hs s (b + term_size s.index x + term_size s.index y) (n + labels s.index x + labels s.index y + 2)) (jump_back c hs s false (n + labels s.index x + labels s.index y) (b + term_size s.index x + term_size s.index y) (n + labels s.index x + labels s.index y + 2)) h
+    loose_back (Choice c x y) hs s w want b n rest h = choice_back (flag_condition s c) _ _ _ _ _ _ rest (λ r. flags_back c hs s _ _ r) (λ r. jump_back c hs s false _ _ _ r) (loose_back y hs s w want _ _ _ (loose_back x hs s w want b n _ h))
     loose_back (Comparison op x y) hs s w want b n rest h = h
     loose_back (Both x y) hs s w want b n rest h = h
     loose_back (Either x y) hs s w want b n rest h = h
@@ -151,7 +128,7 @@ module _ (D : Laid) (L : Layout) (fit : Assigned L) where
     parts_back (Not e) hs s w want b n rest h = h
 
     flags_back : (e : Term) (hs : Homes) (s : Scope) (b n : ℕ) (rest : List DraftEntry) → Resolves D (flags_code L hs s b n e rest) → Resolves D rest
-    flags_back (Comparison op x y) hs s b n rest h = compared_back (compared_number (side_type s x y) y) (loose_code L hs s Whole (side_type s x y) b n x) (loose_code L hs s Whole (side_type s x y) (b + term_size s.index x) (n + labels s.index x) y) (Put (compare_word (compared_number (side_type s x y) y) (home L hs s.index b x) (home L hs s.index (b + term_size s.index x) y)) ∷ rest) rest (loose_back x hs s Whole (side_type s x y) b n) (loose_back y hs s Whole (side_type s x y) (b + term_size s.index x) (n + labels s.index x)) (λ k. k) h
+    flags_back (Comparison op x y) hs s b n rest h = right_back (compared_number (side_type s x y) y) _ (Put (compare_word (compared_number (side_type s x y) y) (home L hs s.index b x) (home L hs s.index (b + term_size s.index x) y)) ∷ rest) (loose_back y hs s Whole (side_type s x y) _ _ _) (loose_back x hs s Whole (side_type s x y) b n _ h)
     flags_back (Literal z) hs s b n rest h = h
     flags_back (Variable x) hs s b n rest h = h
     flags_back (Element a i) hs s b n rest h = h
@@ -166,10 +143,10 @@ module _ (D : Laid) (L : Layout) (fit : Assigned L) where
 
     pub jump_back : (e : Term) (hs : Homes) (s : Scope) (sense : Bool) (to b n : ℕ) (rest : List DraftEntry) → Resolves D (jump_code L hs s sense to b n e rest) → Resolves D rest
     jump_back (Comparison op x y) hs s sense to b n rest h =
-        compared_back (compared_number (side_type s x y) y) (loose_code L hs s Whole (side_type s x y) b n x) (loose_code L hs s Whole (side_type s x y) (b + term_size s.index x) (n + labels s.index x) y) (tested_code (zero_test op (compared_number (side_type s x y) y)) sense (compared_number (side_type s x y) y) (home L hs s.index b x) (home L hs s.index (b + term_size s.index x) y) (condition op (signed_side (side_type s x y))) to rest) rest
-        (loose_back x hs s Whole (side_type s x y) b n) (loose_back y hs s Whole (side_type s x y) (b + term_size s.index x) (n + labels s.index x)) (tested_back (zero_test op (compared_number (side_type s x y) y)) sense (compared_number (side_type s x y) y) (home L hs s.index b x) (home L hs s.index (b + term_size s.index x) y) (condition op (signed_side (side_type s x y))) to rest) h
-    jump_back (Both x y) hs s sense to b n rest h = joined_back sense n (jump_code L hs s false (if sense then n else to) b (n + 1) x) (jump_code L hs s sense to (b + term_size s.index x) (n + 1 + labels s.index x) y) rest (jump_back x hs s false (if sense then n else to) b (n + 1)) (jump_back y hs s sense to (b + term_size s.index x) (n + 1 + labels s.index x)) h
-    jump_back (Either x y) hs s sense to b n rest h = joined_back (not sense) n (jump_code L hs s true (if sense then to else n) b (n + 1) x) (jump_code L hs s sense to (b + term_size s.index x + 1) (n + 1 + labels s.index x) y) rest (jump_back x hs s true (if sense then to else n) b (n + 1)) (jump_back y hs s sense to (b + term_size s.index x + 1) (n + 1 + labels s.index x)) h
+        tested_back (zero_test op (compared_number (side_type s x y) y)) sense (compared_number (side_type s x y) y) _ _ (condition op (signed_side (side_type s x y))) to rest
+        (right_back (compared_number (side_type s x y) y) _ _ (loose_back y hs s Whole (side_type s x y) _ _ _) (loose_back x hs s Whole (side_type s x y) b n _ h))
+    jump_back (Both x y) hs s sense to b n rest h = placed_back sense n rest (jump_back y hs s sense to _ _ _ (jump_back x hs s false _ b _ _ h))
+    jump_back (Either x y) hs s sense to b n rest h = placed_back (not sense) n rest (jump_back y hs s sense to _ _ _ (jump_back x hs s true _ b _ _ h))
     jump_back (Not e) hs s sense to b n rest h = jump_back e hs s (not sense) to b n rest h
     jump_back (Literal z) hs s sense to b n rest h = h
     jump_back (Variable x) hs s sense to b n rest h = h

@@ -18,8 +18,8 @@ use Rattle.label_fix.proofs.LabelsOnce.{Unplaced, Once}
 use Rattle.scalar_words.specs.Layout.{OfNumber, Layout, Homes, reg_of, constant_at, register_at}
 use Rattle.value_code.specs.ValueRegisters.{home}
 use Rattle.scalar_words.specs.Words.{condition, copy_word, settle_word, word_code, at_type}
-use Rattle.value_code.specs.ItemWords.{Side, Number, Register, Product, Moved, compare_word, zero_test, tested_code, pick_code, placed_code, operator_code, convert_word, index_word, load_code, unary_code, abs_code, shift_code}
-use Rattle.value_code.specs.Code.{inner_labels, labels, number_code, place_of, signed_side, compared_number, added_number, is_fused, is_led, taken_side, other_home, side_code, parts_code, right_code, flag_condition, choice_code, loose_code, flags_code, jump_code}
+use Rattle.value_code.specs.ItemWords.{Side, Number, Register, Product, Moved, zero_test, tested_code, pick_code, placed_code, operator_code, convert_word, index_word, load_code, unary_code, abs_code, shift_code}
+use Rattle.value_code.specs.Code.{inner_labels, labels, number_code, place_of, signed_side, compared_number, added_number, is_fused, is_led, taken_side, side_code, parts_code, right_code, flag_condition, choice_code, loose_code, flags_code, jump_code}
 use Rattle.scalar_words.proofs.Pieces.{word_put, operation_put, const_put, unplaced_put, once_put}
 use Rattle.kernel_tree.specs.declared.ops.UnaryOp.TheVariants as unary
 
@@ -197,32 +197,6 @@ choice_once None flags jump d p q n m rest f g j h =
       word_put Once once_put (copy_word d q) (Place (n + 1) ∷ rest) (f (n + 1) (omega arith) (omega arith), h),
     ))
 
--- pieces one after the other
-two_once : (number : Option ℕ) (fused led : Bool) (wx px wy py : List DraftEntry → List DraftEntry) (last rest : List DraftEntry) (n p q : ℕ) → Fresh n (n + (p + q)) rest → ((l : ℕ) → Unplaced l rest → Unplaced l last) → Once last
-    → ((l : ℕ) (r : List DraftEntry) → (n + p ≤ l → n + p + q ≤ l) → Unplaced l r → Unplaced l (wy r)) → ((l : ℕ) (r : List DraftEntry) → (n + p ≤ l → n + p + q ≤ l) → Unplaced l r → Unplaced l (py r))
-    → ((r : List DraftEntry) → Fresh (n + p) (n + p + q) r → Once r → Once (wy r)) → ((r : List DraftEntry) → Fresh (n + p) (n + p + q) r → Once r → Once (py r))
-    → ((r : List DraftEntry) → Fresh n (n + p) r → Once r → Once (wx r)) → ((r : List DraftEntry) → Fresh n (n + p) r → Once r → Once (px r)) → Once (side_code None led wx px (side_code number fused wy py last))
-two_once number fused led wx px wy py last rest n p q f down once u v oy oz ox ow =
-    let after : Fresh (n + p) (n + p + q) last = λ l lo hi. down l (f l (omega (arith, lo)) (omega (arith, hi))) in
-    led_once led wx px (side_code number fused wy py last) n (n + p)
-    (λ l lo hi. let k = down l (f l lo (omega (arith, hi))) in side_unplaced l number fused wy py last (u l last (λ m. absurd (omega (arith, m, hi))) k) (v l last (λ m. absurd (omega (arith, m, hi))) k) k)
-    (side_once number fused wy py last (oy last after once) (oz last after once) once) (ox (side_code number fused wy py last)) (ow (side_code number fused wy py last))
-
-compared_once : (number : Option ℕ) (wx wy : List DraftEntry → List DraftEntry) (last rest : List DraftEntry) (n p q : ℕ) → Fresh n (n + (p + q)) rest → ((l : ℕ) → Unplaced l rest → Unplaced l last) → Once last
-    → ((l : ℕ) (r : List DraftEntry) → (n + p ≤ l → n + p + q ≤ l) → Unplaced l r → Unplaced l (wy r)) → ((r : List DraftEntry) → Fresh (n + p) (n + p + q) r → Once r → Once (wy r)) → ((r : List DraftEntry) → Fresh n (n + p) r → Once r → Once (wx r)) → Once (wx (right_code number wy last))
-compared_once number wx wy last rest n p q f down once u oy ox =
-    ox (right_code number wy last) (λ l lo hi. let k = down l (f l lo (omega (arith, hi))) in right_unplaced l number wy last (u l last (λ m. absurd (omega (arith, m, hi))) k) k)
-    (right_once number wy last (oy last (λ l lo hi. down l (f l (omega (arith, lo)) (omega (arith, hi)))) once) once)
-
-chosen_once : (o : Option ℕ) (wx wy flags jump : List DraftEntry → List DraftEntry) (d p q n i j m : ℕ) (rest : List DraftEntry) → Fresh n (n + (i + j + (2 + m))) rest → Once rest
-    → ((l : ℕ) (r : List DraftEntry) → (n + i ≤ l → n + i + j ≤ l) → Unplaced l r → Unplaced l (wy r)) → ((l : ℕ) → (n + i + j ≤ l → n + i + j + (2 + m) ≤ l) → Unplaced l rest → Unplaced l (choice_code o flags jump d p q (n + i + j) rest))
-    → ((r : List DraftEntry) → Fresh n (n + i) r → Once r → Once (wx r)) → ((r : List DraftEntry) → Fresh (n + i) (n + i + j) r → Once r → Once (wy r))
-    → ((r : List DraftEntry) → Fresh (n + i + j + 2) (n + i + j + 2 + m) r → Once r → Once (flags r)) → ((r : List DraftEntry) → Fresh (n + i + j + 2) (n + i + j + 2 + m) r → Once r → Once (jump r)) → Once (wx (wy (choice_code o flags jump d p q (n + i + j) rest)))
-chosen_once o wx wy flags jump d p q n i j m rest f h u v ox oy g k =
-    let one = choice_code o flags jump d p q (n + i + j) rest in
-    ox (wy one) (λ l lo hi. u l one (λ z. absurd (omega (arith, z, hi))) (v l (λ z. absurd (omega (arith, z, hi))) (f l lo (omega (arith, hi)))))
-    (oy one (λ l lo hi. v l (λ z. absurd (omega (arith, z, hi))) (f l (omega (arith, lo)) (omega (arith, hi)))) (choice_once o flags jump d p q (n + i + j) m rest (λ l lo hi. f l (omega (arith, lo)) (omega (arith, hi))) g k h))
-
 module _ (L : Layout) (hs : Homes) where
   mutual
     pub loose_once : (e : Term) (s : Scope) (w : Extent) (want : Option Ty) (b n : ℕ) (rest : List DraftEntry) → Fresh n (n + labels s.index e) rest → Once rest → Once (loose_code L hs s w want b n e rest)
@@ -233,21 +207,24 @@ module _ (L : Layout) (hs : Homes) where
         right_once (place_of L (register_at hs a) (option_and_then element_type (lookup s a)) (stream_offset s.index j)) _ _ (number_once (stream_offset s.index j) n (labels s.index j) _ _ (λ l lo hi. load_put (Unplaced l) (unplaced_put l) _ _ _ _ rest (f l lo hi)) (λ g. loose_once j s Whole (index_type s j) b n _ g loaded) loaded) loaded
     loose_once (Unary op x) s w want b n rest f h = loose_once x s (unary_asks s want op x w) want b n _ (λ l lo hi. unary_put (Unplaced l) (unplaced_put l) (unary_settles s want op x w) want op _ _ rest (f l lo hi)) (unary_put Once once_put (unary_settles s want op x w) want op _ _ rest h)
     loose_once (Operation op x y) s w want b n rest f h =
-        let k1 = binary_asks s want op x y w in
-        let side = taken_side L hs s op k1 want b x y in
+        let number = added_number op want y in
         let ends = binary_settles s want op x y w in
-        let d = reg_of L (b + term_size s.index x + term_size s.index y) in
-        let a = other_home L hs s op k1 want b x y in
-        two_once (added_number op want y) (not (is_led L hs s op k1 want b x y) && is_fused s op k1 want y) (is_led L hs s op k1 want b x y) (loose_code L hs s k1 want b n x) (parts_code L hs s k1 want b n x) (loose_code L hs s k1 want (b + term_size s.index x) (n + labels s.index x) y) (parts_code L hs s k1 want (b + term_size s.index x) (n + labels s.index x) y)
-        (at_type want (λ t. operator_code side ends op t d a rest) rest) rest n (labels s.index x) (labels s.index y) f
-        (λ l u. operator_put (Unplaced l) (unplaced_put l) side ends want op d a rest u) (operator_put Once once_put side ends want op d a rest h)
-        (λ l r g u. loose_unplaced L hs y s k1 want l (b + term_size s.index x) (n + labels s.index x) r g u) (λ l r g u. parts_unplaced L hs y s k1 want l (b + term_size s.index x) (n + labels s.index x) r g u) (λ r g o. loose_once y s k1 want (b + term_size s.index x) (n + labels s.index x) r g o) (λ r g o. parts_once y s k1 want (b + term_size s.index x) (n + labels s.index x) r g o) (λ r g o. loose_once x s k1 want b n r g o) (λ r g o. parts_once x s k1 want b n r g o)
+        let k1 = binary_asks s want op x y w in
+        let fused = not (is_led L hs s op k1 want b x y) && is_fused s op k1 want y in
+        let side = taken_side L hs s op k1 want b x y in
+        let once = operator_put Once once_put side ends want op _ _ rest h in
+        led_once (is_led L hs s op k1 want b x y) _ _ _ n (n + labels s.index x)
+        (λ l lo hi. let v = operator_put (Unplaced l) (unplaced_put l) side ends want op _ _ rest (f l lo (omega arith)) in side_unplaced l number fused _ _ _ (loose_unplaced L hs y s k1 want l _ _ _ (λ k. omega arith) v) (parts_unplaced L hs y s k1 want l _ _ _ (λ k. omega arith) v) v)
+        (side_once number fused _ _ _ (loose_once y s k1 want _ _ _ (λ l lo hi. operator_put (Unplaced l) (unplaced_put l) side ends want op _ _ rest (f l (omega arith) (omega arith))) once)
+        (parts_once y s k1 want _ _ _ (λ l lo hi. operator_put (Unplaced l) (unplaced_put l) side ends want op _ _ rest (f l (omega arith) (omega arith))) once) once)
+        (λ g o. loose_once x s k1 want b n _ g o) (λ g o. parts_once x s k1 want b n _ g o)
     loose_once (Shift left x z) s w want b n rest f h = loose_once x s (shift_asks s want left x z w) want b n _ (λ l lo hi. shift_put (Unplaced l) (unplaced_put l) (shift_settles s want left x z w) want left z _ _ rest (f l lo hi)) (shift_put Once once_put (shift_settles s want left x z w) want left z _ _ rest h)
     loose_once (Conversion x t) s w want b n rest f h = loose_once x s (converted_extent w (own s x) t) (own s x) b n _ (λ l lo hi. cast_put (Unplaced l) (unplaced_put l) (within_type w t) (own s x) t _ _ rest (f l lo hi)) (cast_put Once once_put (within_type w t) (own s x) t _ _ rest h)
     loose_once (Choice c x y) s w want b n rest f h =
-        chosen_once (flag_condition s c) (loose_code L hs s w want b n x) (loose_code L hs s w want (b + term_size s.index x) (n + labels s.index x) y) (flags_code L hs s (b + term_size s.index x + term_size s.index y) (n + labels s.index x + labels s.index y + 2) c) (jump_code L hs s false (n + labels s.index x + labels s.index y) (b + term_size s.index x + term_size s.index y) (n + labels s.index x + labels s.index y + 2) c) (reg_of L (b + term_size s.index x + term_size s.index y + term_size s.index c)) (home L hs s.index b x) (home L hs s.index (b + term_size s.index x) y) n (labels s.index x) (labels s.index y) (labels s.index c) rest f h
-        (λ l r g u. loose_unplaced L hs y s w want l (b + term_size s.index x) (n + labels s.index x) r g u) (λ l g u. one_of_unplaced L hs c s l (b + term_size s.index x + term_size s.index y) (n + labels s.index x + labels s.index y) (reg_of L (b + term_size s.index x + term_size s.index y + term_size s.index c)) (home L hs s.index b x) (home L hs s.index (b + term_size s.index x) y) rest g u)
-        (λ r g o. loose_once x s w want b n r g o) (λ r g o. loose_once y s w want (b + term_size s.index x) (n + labels s.index x) r g o) (λ r g o. flags_once c s (b + term_size s.index x + term_size s.index y) (n + labels s.index x + labels s.index y + 2) r g o) (λ r g o. jump_once c s false (n + labels s.index x + labels s.index y) (b + term_size s.index x + term_size s.index y) (n + labels s.index x + labels s.index y + 2) r g o)
+        let n3 = n + labels s.index x + labels s.index y in
+        loose_once x s w want b n _ (λ l lo hi. loose_unplaced L hs y s w want l _ _ _ (λ k. omega arith) (one_of_unplaced L hs c s l _ n3 _ _ _ rest (λ k. omega arith) (f l lo (omega arith))))
+        (loose_once y s w want _ _ _ (λ l lo hi. one_of_unplaced L hs c s l _ n3 _ _ _ rest (λ k. omega arith) (f l (omega arith) (omega arith)))
+        (choice_once (flag_condition s c) _ _ _ _ _ n3 (labels s.index c) rest (λ l lo hi. f l (omega arith) (omega arith)) (λ r g o. flags_once c s _ _ r g o) (λ r g o. jump_once c s false _ _ _ r g o) h))
     loose_once (Comparison op x y) s w want b n rest f h = h
     loose_once (Both x y) s w want b n rest f h = h
     loose_once (Either x y) s w want b n rest f h = h
@@ -271,7 +248,9 @@ module _ (L : Layout) (hs : Homes) where
 
     flags_once : (e : Term) (s : Scope) (b n : ℕ) (rest : List DraftEntry) → Fresh n (n + labels s.index e) rest → Once rest → Once (flags_code L hs s b n e rest)
     flags_once (Comparison op x y) s b n rest f h =
-        compared_once (compared_number (side_type s x y) y) (loose_code L hs s Whole (side_type s x y) b n x) (loose_code L hs s Whole (side_type s x y) (b + term_size s.index x) (n + labels s.index x) y) (Put (compare_word (compared_number (side_type s x y) y) (home L hs s.index b x) (home L hs s.index (b + term_size s.index x) y)) ∷ rest) rest n (labels s.index x) (labels s.index y) f (λ l u. u) h (λ l r g u. loose_unplaced L hs y s Whole (side_type s x y) l (b + term_size s.index x) (n + labels s.index x) r g u) (λ r g o. loose_once y s Whole (side_type s x y) (b + term_size s.index x) (n + labels s.index x) r g o) (λ r g o. loose_once x s Whole (side_type s x y) b n r g o)
+        let number = compared_number (side_type s x y) y in
+        loose_once x s Whole (side_type s x y) b n _ (λ l lo hi. let u = f l lo (omega arith) in right_unplaced l number _ _ (loose_unplaced L hs y s Whole (side_type s x y) l _ _ _ (λ k. omega arith) u) u)
+        (right_once number _ _ (loose_once y s Whole (side_type s x y) _ _ _ (λ l lo hi. f l (omega arith) (omega arith)) h) h)
     flags_once (Literal z) s b n rest f h = h
     flags_once (Variable x) s b n rest f h = h
     flags_once (Element a i) s b n rest f h = h
@@ -290,8 +269,9 @@ module _ (L : Layout) (hs : Homes) where
         let k = condition op (signed_side (side_type s x y)) in
         let p = home L hs s.index b x in
         let q = home L hs s.index (b + term_size s.index x) y in
-        compared_once number (loose_code L hs s Whole (side_type s x y) b n x) (loose_code L hs s Whole (side_type s x y) (b + term_size s.index x) (n + labels s.index x) y) (tested_code (zero_test op number) sense number p q k to rest) rest n (labels s.index x) (labels s.index y) f (λ l u. tested_unplaced l (zero_test op number) sense number p q k to rest u) (tested_once (zero_test op number) sense number p q k to rest h)
-        (λ l r g u. loose_unplaced L hs y s Whole (side_type s x y) l (b + term_size s.index x) (n + labels s.index x) r g u) (λ r g o. loose_once y s Whole (side_type s x y) (b + term_size s.index x) (n + labels s.index x) r g o) (λ r g o. loose_once x s Whole (side_type s x y) b n r g o)
+        let once = tested_once (zero_test op number) sense number p q k to rest h in
+        loose_once x s Whole (side_type s x y) b n _ (λ l lo hi. let u = tested_unplaced l (zero_test op number) sense number p q k to rest (f l lo (omega arith)) in right_unplaced l number _ _ (loose_unplaced L hs y s Whole (side_type s x y) l _ _ _ (λ k. omega arith) u) u)
+        (right_once number _ _ (loose_once y s Whole (side_type s x y) _ _ _ (λ l lo hi. tested_unplaced l (zero_test op number) sense number p q k to rest (f l (omega arith) (omega arith))) once) once)
     jump_once (Both x y) s sense to b n rest f h =
         jump_once x s false _ b (n + 1) _ (λ l lo hi. jump_unplaced L hs y s sense to l _ _ _ (λ k. omega arith) (placed_unplaced l sense n rest (λ e. absurd (omega arith)) (f l (omega arith) (omega arith))))
         (jump_once y s sense to _ _ _ (λ l lo hi. placed_unplaced l sense n rest (λ e. absurd (omega arith)) (f l (omega arith) (omega arith))) (placed_once sense n rest (f n (omega arith) (omega arith)) h))

@@ -1,4 +1,4 @@
-use Rattle.std.proofs.Common.{◌≡◌, ℕ, ◌+◌, ◌*◌, ◌<◌, Some, Option, sym, ap, ◌∙◌, refl, subst, rules}
+use Rattle.std.proofs.Common.{◌+◌, ◌*◌, ◌<◌, Some, Option, sym, ap, ◌∙◌, refl, subst, rules}
 use Rattle.std.specs.Prelude.{max, option_map, option_and_then}
 use mir.Syntax.{w128}
 use mir.Val.{SFits, of_z, to_z}
@@ -6,7 +6,7 @@ use Rattle.std.proofs.lemmas.Int.{to_z-of_z}
 use Rattle.kernel_tree.specs.declared.ast.Expr.{Expr}
 use Rattle.kernel_tree.specs.declared.ops.Ty.{Ty}
 use Rattle.kernel_tree.specs.declared.ops.Ty.TheVariants as ty
-use Rattle.kernel_tree.specs.Plain.{Literal, Variable, Element, Unary, Operation, Shift, Conversion, Choice, Comparison, Both, Either, Not, name_of, term_of}
+use Rattle.kernel_tree.specs.Plain.{Element, Unary, Operation, Shift, Conversion, Choice, Comparison, Not, name_of, term_of}
 use Rattle.kernel_tree.specs.Limits.{term_depth}
 use Rattle.kernel_tree.specs.Items.{stream_offset}
 use Rattle.kernel_tree.specs.Typing.{lookup, first, element_type, index_type}

@@ -5,11 +5,11 @@ use Rattle.kernel_tree.specs.declared.ast.Expr as kind
 use Rattle.kernel_tree.specs.Limits.{term_depth}
 use Rattle.value_code.proofs.TermWalks.{below_one, below_between, below_left, below_both, below_pair, step_down, step_left, step_right, both_below, HasOne, one_depth, joined_depth, on_error}
 use mir.Syntax.{w128}
-use mir.Val.{SFits, of_z, to_z}
+use mir.Val.{SFits}
 use Rattle.std.proofs.lemmas.Int.{to_z-of_z}
 use Rattle.kernel_tree.specs.declared.ops.BinaryOp.{BinaryOp}
 use Rattle.kernel_tree.specs.declared.ops.CompareOp.{CompareOp}
-use Rattle.kernel_tree.specs.Plain.{Term, Literal, Variable, Element, Operation, Choice, Comparison, name_of, term_of}
+use Rattle.kernel_tree.specs.Plain.{Term, Element, Operation, Choice, Comparison, name_of, term_of}
 use Rattle.kernel_tree.specs.Items.{stream_offset}
 use Rattle.kernel_tree.specs.Typing.{Scope}
 use Rattle.kernel_scope.specs.Scopes.{scope_of}

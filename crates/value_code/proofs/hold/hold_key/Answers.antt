@@ -1,6 +1,6 @@
-use Rattle.std.proofs.Common.{true, false, Option, ap, ◌∙◌}
+use Rattle.std.proofs.Common.{true, false, ap, ◌∙◌}
 use Rattle.std.specs.Prelude.{option_map}
-use Rattle.scalar_words.specs.View.{key_of, register_number, constants_of}
+use Rattle.scalar_words.specs.View.{key_of, register_number}
 use Rattle.value_code.proofs.TermCode.{on_ok}
 use Rattle.value_code.proofs.HeldKeys.{held_there, held_by, room_left}
 use Rattle.value_code.proofs.hold.hold_key.Goals as goal
