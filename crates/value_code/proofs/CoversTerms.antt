@@ -130,6 +130,22 @@ module _ (ls : List Loose) (s : Scope) where
     pub truths_else : first ≡ false → first ≡ covers_truth ls s (term_of e)
     truths_else not_so = and_else first (covers_truth ls s (term_of a.value)) (covers_truth ls s (term_of b.value)) not_so (f ∙ ap (λ (e : Expr). covers_truth ls s (term_of e)) ex) ∙ sym joined
 
+-- of any other condition nothing is asked
+pub others_truth : (ls : List Loose) (s : Scope) (e : Expr)
+    → ((op : CompareOp) (a b : Box Expr Global) → e ≡ kind.Compare op a b → ⊥) → ((a b : Box Expr Global) → e ≡ kind.And a b → ⊥) → ((a b : Box Expr Global) → e ≡ kind.Or a b → ⊥) → ((a : Box Expr Global) → e ≡ kind.Not a → ⊥) → true ≡ covers_truth ls s (term_of e)
+others_truth ls s (expr.Compare' op p x q y) m a o n = absurd (m op (record { ptr = p.ptr; alloc = p.alloc; value = x }) (record { ptr = q.ptr; alloc = q.alloc; value = y }) refl)
+others_truth ls s (expr.And' p x q y) m a o n = absurd (a (record { ptr = p.ptr; alloc = p.alloc; value = x }) (record { ptr = q.ptr; alloc = q.alloc; value = y }) refl)
+others_truth ls s (expr.Or' p x q y) m a o n = absurd (o (record { ptr = p.ptr; alloc = p.alloc; value = x }) (record { ptr = q.ptr; alloc = q.alloc; value = y }) refl)
+others_truth ls s (expr.Not' p x) m a o n = absurd (n (record { ptr = p.ptr; alloc = p.alloc; value = x }) refl)
+others_truth ls s (expr.Lit z) m a o n = refl
+others_truth ls s (expr.Var x) m a o n = refl
+others_truth ls s (expr.Read' x p i) m a o n = refl
+others_truth ls s (expr.Unary' op p x) m a o n = refl
+others_truth ls s (expr.Binary' op p x q y) m a o n = refl
+others_truth ls s (expr.Shift' left p x z) m a o n = refl
+others_truth ls s (expr.Cast' p x t) m a o n = refl
+others_truth ls s (expr.Select' p k q x u y) m a o n = refl
+
 -- ---- indexes
 
 module _ (ls : List Loose) (i : Option (List ℕ)) (array : Option Form) (want : Option Ty) (o : Option ℤ) (computed : Bool) where

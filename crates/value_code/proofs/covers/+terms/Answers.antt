@@ -16,7 +16,7 @@ use Rattle.scalar_words.specs.View.{looses_of, form_of}
 use Rattle.value_code.specs.Extents.{Whole}
 use Rattle.value_code.specs.Covers.{covers, covers_truth}
 use Rattle.value_code.proofs.TermWalks.{below_one, below_between, below_left, below_right, below_first, below_second, step_down, joined_depth}
-use Rattle.value_code.proofs.CoversTerms.{named, others_covers, unary_covers, shift_covers, cast_covers, binary_then, binary_else, choice_else, choice_then, choice_second, compare_then, compare_else, truths_then, truths_else, stream_covers, computed_then, computed_else}
+use Rattle.value_code.proofs.CoversTerms.{named, others_covers, others_truth, unary_covers, shift_covers, cast_covers, binary_then, binary_else, choice_else, choice_then, choice_second, compare_then, compare_else, truths_then, truths_else, stream_covers, computed_then, computed_else}
 use Rattle.value_code.proofs.covers.+terms.Goals as goal
 
 -- ---- each call is for an expression below
@@ -163,3 +163,7 @@ covers_truth-returns-else-covers_truth t c =
 pub covers-returns-in_default : goal.covers-returns-in_default
 covers-returns-in_default t c =
     others_covers (looses_of c.args.loose.now) (scope_of c.args.scope.now) c.args.extent c.args.want c.args.term.now c.in_default.not-Var c.in_default.not-Read c.in_default.not-Unary c.in_default.not-Binary c.in_default.not-Shift c.in_default.not-Cast c.in_default.not-Select
+
+pub covers_truth-returns-in_default : goal.covers_truth-returns-in_default
+covers_truth-returns-in_default t c =
+    others_truth (looses_of c.args.loose.now) (scope_of c.args.scope.now) c.args.term.now c.in_default.not-Compare c.in_default.not-And c.in_default.not-Or c.in_default.not-Not
