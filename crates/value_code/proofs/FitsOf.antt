@@ -122,30 +122,50 @@ module _ (k : Program) (L : Layout) (all : List Entry) (hs : Homes) (v : List Lo
   inner_after (Some c) b n q es e rest f inner h = last_after b q _ rest (omega (arith, f)) h
   inner_after None b n q es e rest f inner h = last_after (b + n) q _ rest (omega (arith, f)) (inner _ (part b es (e ∷ []) rest h))
 
+  -- what is listed after the items of an expression
+  abbrev After : Term → Type 0
+  After x = (b user : ℕ) (rest : List ℕ) → Sits L.untils b (untils all (term_entries k b user x) rest) → Sits L.untils (b + term_size i x) rest
+
+  -- after one operand, two or three, and the item that uses them
+  one_after : (x : Term) → After x → (b user : ℕ) (e : Entry) (rest : List ℕ) → Sits L.untils b (untils all (term_entries k b user x ++ e ∷ []) rest) → Sits L.untils (b + (term_size i x + 1)) rest
+  one_after x f b user e rest h =
+      last_after (b + term_size i x) (b + (term_size i x + 1)) (x_last_use all e) rest (omega arith) (f b user (x_last_use all e ∷ rest) (part b (term_entries k b user x) (e ∷ []) rest h))
+
+  two_after : (x y : Term) → After x → After y → (b user : ℕ) (e : Entry) (rest : List ℕ) → Sits L.untils b (untils all (term_entries k b user x ++ (term_entries k (b + term_size i x) user y ++ e ∷ [])) rest) → Sits L.untils (b + (term_size i x + term_size i y + 1)) rest
+  two_after x y f g b user e rest h =
+      let m = b + term_size i x in
+      let z : m + (term_size i y + 1) ≡ b + (term_size i x + term_size i y + 1) = omega arith in
+      subst (λ n. Sits L.untils n rest) z (one_after y g m user e rest (f b user (untils all (term_entries k m user y ++ e ∷ []) rest) (part b (term_entries k b user x) (term_entries k m user y ++ e ∷ []) rest h)))
+
+  three_after : (x y c : Term) → After x → After y → After c → (b user : ℕ) (e : Entry) (rest : List ℕ) → Sits L.untils b (untils all (term_entries k b user x ++ (term_entries k (b + term_size i x) user y ++ (term_entries k (b + term_size i x + term_size i y) user c ++ e ∷ []))) rest) → Sits L.untils (b + (term_size i x + term_size i y + term_size i c + 1)) rest
+  three_after x y c f g j b user e rest h =
+      let m = b + term_size i x in
+      let z : m + (term_size i y + term_size i c + 1) ≡ b + (term_size i x + term_size i y + term_size i c + 1) = omega arith in
+      let es = term_entries k m user y ++ (term_entries k (m + term_size i y) user c ++ e ∷ []) in
+      subst (λ n. Sits L.untils n rest) z (two_after y c g j m user e rest (f b user (untils all es rest) (part b (term_entries k b user x) es rest h)))
+
+  -- after two operands with a mark between them
+  either_after : (x y : Term) → After x → After y → (b user : ℕ) (mark e : Entry) (rest : List ℕ) → Sits L.untils b (untils all (term_entries k b user x ++ (mark ∷ (term_entries k (b + term_size i x + 1) user y ++ e ∷ []))) rest) → Sits L.untils (b + (term_size i x + 1 + term_size i y + 1)) rest
+  either_after x y f g b user mark e rest h =
+      let m = b + term_size i x in
+      let z : m + 1 + (term_size i y + 1) ≡ b + (term_size i x + 1 + term_size i y + 1) = omega arith in
+      let es = term_entries k (m + 1) user y ++ e ∷ [] in
+      subst (λ n. Sits L.untils n rest) z (one_after y g (m + 1) user e rest (last_after m (m + 1) (x_last_use all mark) (untils all es rest) refl (f b user (x_last_use all mark ∷ untils all es rest) (part b (term_entries k b user x) (mark ∷ es) rest h))))
+
   -- after the items of an expression
-  sits_after : (t : Term) (b user : ℕ) (rest : List ℕ) → Sits L.untils b (untils all (term_entries k b user t) rest) → Sits L.untils (b + term_size i t) rest
+  sits_after : (t : Term) → After t
   sits_after (Literal n) b user rest h = last_after b (b + 1) _ rest refl h
   sits_after (Variable x) b user rest h = last_after b (b + 1) _ rest refl h
   sits_after (Element a j) b user rest h = inner_after (stream_offset i j) b (term_size i j) (b + (index_size (stream_offset i j) (term_size i j) + 1)) (term_entries k b (b + index_items i j) j) _ rest refl (λ r g. sits_after j b (b + index_items i j) r g) h
-  sits_after (Unary op x) b user rest h = last_after (b + term_size i x) _ _ rest (omega arith) (sits_after x b _ _ (part b (term_entries k b _ x) _ rest h))
-  sits_after (Operation op x y) b user rest h =
-      let p = b + term_size i x + term_size i y in
-      last_after p _ _ rest (omega arith) (sits_after y (b + term_size i x) p _ (part _ (term_entries k (b + term_size i x) p y) _ rest (sits_after x b p _ (part b (term_entries k b p x) _ rest h))))
-  sits_after (Shift left x n) b user rest h = last_after (b + term_size i x) _ _ rest (omega arith) (sits_after x b _ _ (part b (term_entries k b _ x) _ rest h))
-  sits_after (Conversion x t) b user rest h = last_after (b + term_size i x) _ _ rest (omega arith) (sits_after x b _ _ (part b (term_entries k b _ x) _ rest h))
-  sits_after (Choice c x y) b user rest h =
-      let b1 = b + term_size i x in let b2 = b1 + term_size i y in let p = b2 + term_size i c in
-      last_after p _ _ rest (omega arith) (sits_after c b2 p _ (part b2 (term_entries k b2 p c) _ rest (sits_after y b1 p _ (part b1 (term_entries k b1 p y) _ rest (sits_after x b p _ (part b (term_entries k b p x) _ rest h))))))
-  sits_after (Comparison op x y) b user rest h =
-      let p = b + term_size i x + term_size i y in
-      last_after p _ _ rest (omega arith) (sits_after y (b + term_size i x) p _ (part _ (term_entries k (b + term_size i x) p y) _ rest (sits_after x b p _ (part b (term_entries k b p x) _ rest h))))
-  sits_after (Both x y) b user rest h =
-      let p = b + term_size i x + term_size i y in
-      last_after p _ _ rest (omega arith) (sits_after y (b + term_size i x) p _ (part _ (term_entries k (b + term_size i x) p y) _ rest (sits_after x b p _ (part b (term_entries k b p x) _ rest h))))
-  sits_after (Either x y) b user rest h =
-      let m = b + term_size i x in let p = m + 1 + term_size i y in
-      last_after p _ _ rest (omega arith) (sits_after y (m + 1) p _ (part (m + 1) (term_entries k (m + 1) p y) _ rest (last_after m (m + 1) _ _ refl (sits_after x b p _ (part b (term_entries k b p x) _ rest h)))))
-  sits_after (Not x) b user rest h = last_after (b + term_size i x) _ _ rest (omega arith) (sits_after x b _ _ (part b (term_entries k b _ x) _ rest h))
+  sits_after (Unary op x) b user rest h = one_after x (sits_after x) b (b + term_size i x) _ rest h
+  sits_after (Operation op x y) b user rest h = two_after x y (sits_after x) (sits_after y) b (b + term_size i x + term_size i y) _ rest h
+  sits_after (Shift left x n) b user rest h = one_after x (sits_after x) b (b + term_size i x) _ rest h
+  sits_after (Conversion x t) b user rest h = one_after x (sits_after x) b (b + term_size i x) _ rest h
+  sits_after (Choice c x y) b user rest h = three_after x y c (sits_after x) (sits_after y) (sits_after c) b (b + term_size i x + term_size i y + term_size i c) _ rest h
+  sits_after (Comparison op x y) b user rest h = two_after x y (sits_after x) (sits_after y) b (b + term_size i x + term_size i y) _ rest h
+  sits_after (Both x y) b user rest h = two_after x y (sits_after x) (sits_after y) b (b + term_size i x + term_size i y) _ rest h
+  sits_after (Either x y) b user rest h = either_after x y (sits_after x) (sits_after y) b (b + term_size i x + 1 + term_size i y) _ _ rest h
+  sits_after (Not x) b user rest h = one_after x (sits_after x) b (b + term_size i x) _ rest h
 
   -- a read, by its index
   element_fits : (a : List ℕ) (j : Term) (T : Ty) (f b n user : ℕ) (rest : List ℕ) (o : Option ℤ) (fs : List Found) (A : Type 0) (es : List Entry) (e : Entry) → inner_faults o fs ≡ [] → index_faults f o (own S j) ≡ [] → Sits L.untils b (untils all (inner_entries o es ++ e ∷ []) rest) → AreUsed hs i (inner_entries o es ++ e ∷ []) → e.content ≡ IsRead a j → e.item ≡ b + index_size o n → x_last_use all e ≡ user

@@ -21,6 +21,10 @@ pub mod CoversNone
 pub mod FitsOf
 pub mod ValueCounts
 pub mod ValuesPlaced
+mod TermWalks
+mod ByteCounts
+mod HeldKeys
+mod CoversTerms
 pub mod IndexCode
 mod Examples
 pub mod TermCode
