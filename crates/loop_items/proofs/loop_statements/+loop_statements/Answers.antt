@@ -152,3 +152,28 @@ list_if-returns t c = record { names = c.list_inner.ensures.names; kept = λ sho
 
 pub list_if_else-returns : goal.list_if_else-returns
 list_if_else-returns t c = record { names = c.list_inner-2.ensures.names ∙ c.list_inner.ensures.names; kept = λ short. c.list_truth-first.ensures.kept (c.list_inner.ensures.kept (c.append.ensures.kept (c.list_inner-2.ensures.kept short))); items = λ short taken rest. if_else_made (loop_index (program c.args.kernel.now)) c.args.names.now.items taken c.args.mask c.args.from (view c.args.listed.now.items.items) (term_of c.args.cond.now) (block_of c.args.block.now) (block_of c.args.other.now) c.expr_size.result c.statements_size.result c.list_truth-first.result c.list_inner.new.names.items (view c.list_truth-first.new.listed.items.items) (view c.list_inner.new.listed.items.items) (view c.append.new.listed.items.items) (view c.list_inner-2.new.listed.items.items) rest (λ more. c.list_inner-2.ensures.items short more rest) (c.append.ensures.items (c.list_inner-2.ensures.kept short)) (c.list_inner.ensures.items (c.append.ensures.kept (c.list_inner-2.ensures.kept short)) taken) (condition_as (loop_index (program c.args.kernel.now)) taken c.args.mask c.args.from (view c.args.listed.now.items.items) c.args.names.now.items c.deref.result.now c.deref.ensures.value (term_of c.args.cond.now) (view c.list_truth-first.new.listed.items.items) (c.list_truth-first.ensures.items (c.list_inner.ensures.kept (c.append.ensures.kept (c.list_inner-2.ensures.kept short))) taken)) c.list_inner.ensures.names c.expr_size.ensures c.statements_size.ensures c.list_truth-first.ensures.item }
+
+-- ---- sums that fit
+
+pub list_block-overflow_add-next : goal.list_block-overflow_add-next
+list_block-overflow_add-next t c =
+    let size = ap (block_size (loop_index (program c.args.kernel.now))) (ap block_of (opened c.args.block.now c.stmt-item.result c.in-len1-up.len_at_least c.stmt-item.is)) in
+    record { fits = omega arith }
+
+pub list_if-overflow_add-inner : goal.list_if-overflow_add-inner
+list_if-overflow_add-inner t c = record { fits = omega arith }
+
+pub list_if-overflow_add-inner-2 : goal.list_if-overflow_add-inner-2
+list_if-overflow_add-inner-2 t c = record { fits = omega arith }
+
+pub list_if_else-overflow_add-inner : goal.list_if_else-overflow_add-inner
+list_if_else-overflow_add-inner t c = record { fits = omega arith }
+
+pub list_if_else-overflow_add-inner-2 : goal.list_if_else-overflow_add-inner-2
+list_if_else-overflow_add-inner-2 t c = record { fits = omega arith }
+
+pub list_if_else-overflow_add-other_side : goal.list_if_else-overflow_add-other_side
+list_if_else-overflow_add-other_side t c = record { fits = omega arith }
+
+pub list_if_else-overflow_add-other_side-2 : goal.list_if_else-overflow_add-other_side-2
+list_if_else-overflow_add-other_side-2 t c = record { fits = omega arith }

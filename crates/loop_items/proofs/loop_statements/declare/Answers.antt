@@ -1,8 +1,8 @@
-use Rattle.std.proofs.Common.{◌≡◌, ℕ, ◌+◌, List, [], ◌∷◌, ◌++◌, ◌∙◌, sym, ap, ap₂}
+use Rattle.std.proofs.Common.{◌≡◌, ℕ, ◌+◌, List, [], ◌∷◌, ◌++◌, ◌∙◌, sym, ap, ap₂, arith}
 use Rattle.kernel_tree.specs.declared.fault.Binding.TheVariants.{Value}
 use Rattle.kernel_tree.specs.Plain.{Define, name_of, term_of, action_of}
 use Rattle.kernel_tree.specs.Parts.{part_action}
-use Rattle.kernel_tree.specs.Items.{loop_index}
+use Rattle.kernel_tree.specs.Items.{loop_index, action_size}
 use Rattle.kernel_tree.specs.Typing.{local, own, first}
 use Rattle.loop_form.specs.declared.loop_item.Operand.TheVariants.{Made}
 use Rattle.loop_form.specs.declared.visible.Visible.{Visible}
@@ -36,3 +36,13 @@ returns-else-is_err c =
           (sym c.parts.ensures ∙ ap part_action c.in-Let.is)
           (λ taken. sym c.in-Some.is ∙ c.first_type.ensures ∙ ap (first c.in-Let.ty) (c.own_type.ensures i taken ∙ ap (λ (vs : List Visible). own (scope_of i vs taken) value) c.deref.ensures.value));
     }
+
+pub expr_size-requires : goal.expr_size-requires
+expr_size-requires c =
+    let size = ap (action_size (loop_index (program c.args.kernel.now))) (sym c.parts.ensures ∙ ap part_action c.in-Let.is) in
+    omega (arith, size, c.requires)
+
+pub overflow_add-visible : goal.overflow_add-visible
+overflow_add-visible c =
+    let size = ap (action_size (loop_index (program c.args.kernel.now))) (sym c.parts.ensures ∙ ap part_action c.in-Let.is) in
+    record { fits = omega (arith, size, c.requires, c.expr_size.ensures) }

@@ -299,3 +299,59 @@ list_gather-expr_size-requires t c = omega arith
 
 pub list_gather-returns : goal.list_gather-returns
 list_gather-returns t c = record { kept = λ short. c.list_value.ensures.kept (c.append.ensures.kept short); items = λ short taken rest. gathered (scope_of (loop_index (program c.args.kernel.now)) c.args.names.now taken) c.args.mask c.args.from (env_of c.args.names.now) (view c.args.listed.now.items.items) (name_of c.args.array.now) c.text-array.result.now (term_of c.args.index.now) c.operand_of.result c.source.result c.array_type_of.result c.index_type_of-want.result c.index_source_of.result c.type_reach.result c.expr_size.result (view c.list_value.new.listed.items.items) (view c.append.new.listed.items.items) rest (c.append.ensures.items short rest) (c.list_value.ensures.items (c.append.ensures.kept short) taken) c.expr_size.ensures c.text-array.ensures c.operand_of.ensures c.array_type_of.ensures c.type_reach.ensures (c.index_source_of.ensures (loop_index (program c.args.kernel.now)) taken) c.source.ensures (c.index_type_of-want.ensures (loop_index (program c.args.kernel.now)) taken) }
+
+-- ---- sums that fit
+
+pub list_and-overflow_add-next : goal.list_and-overflow_add-next
+list_and-overflow_add-next t c = record { fits = omega arith }
+
+pub list_and-overflow_add-next-2 : goal.list_and-overflow_add-next-2
+list_and-overflow_add-next-2 t c = record { fits = omega arith }
+
+pub list_binary-overflow_add-next : goal.list_binary-overflow_add-next
+list_binary-overflow_add-next t c = record { fits = omega arith }
+
+pub list_binary-overflow_add-next-2 : goal.list_binary-overflow_add-next-2
+list_binary-overflow_add-next-2 t c = record { fits = omega arith }
+
+pub list_compared-overflow_add-next : goal.list_compared-overflow_add-next
+list_compared-overflow_add-next t c = record { fits = omega arith }
+
+pub list_compared-overflow_add-next-2 : goal.list_compared-overflow_add-next-2
+list_compared-overflow_add-next-2 t c = record { fits = omega arith }
+
+pub list_cast-overflow_add-from : goal.list_cast-overflow_add-from
+list_cast-overflow_add-from t c = record { fits = omega arith }
+
+pub list_gather-overflow_add-from : goal.list_gather-overflow_add-from
+list_gather-overflow_add-from t c = record { fits = omega arith }
+
+pub list_not-overflow_add-from : goal.list_not-overflow_add-from
+list_not-overflow_add-from t c = record { fits = omega arith }
+
+pub list_or-overflow_add-mark : goal.list_or-overflow_add-mark
+list_or-overflow_add-mark t c = record { fits = omega arith }
+
+pub list_or-overflow_add-mark-2 : goal.list_or-overflow_add-mark-2
+list_or-overflow_add-mark-2 t c = record { fits = omega arith }
+
+pub list_or-overflow_add-mark-3 : goal.list_or-overflow_add-mark-3
+list_or-overflow_add-mark-3 t c = record { fits = omega arith }
+
+pub list_or-overflow_add-mark-4 : goal.list_or-overflow_add-mark-4
+list_or-overflow_add-mark-4 t c = record { fits = omega arith }
+
+pub list_select-overflow_add-last : goal.list_select-overflow_add-last
+list_select-overflow_add-last t c = record { fits = omega arith }
+
+pub list_select-overflow_add-last-2 : goal.list_select-overflow_add-last-2
+list_select-overflow_add-last-2 t c = record { fits = omega arith }
+
+pub list_select-overflow_add-next : goal.list_select-overflow_add-next
+list_select-overflow_add-next t c = record { fits = omega arith }
+
+pub list_shift-overflow_add-from : goal.list_shift-overflow_add-from
+list_shift-overflow_add-from t c = record { fits = omega arith }
+
+pub list_unary-overflow_add-from : goal.list_unary-overflow_add-from
+list_unary-overflow_add-from t c = record { fits = omega arith }
