@@ -1,5 +1,5 @@
 -- What the calls of the walk over expressions append, put together. Each list stands before whatever follows.
-use Rattle.std.proofs.Common.{◌≡◌, ℕ, ◌+◌, ◌*◌, ◌<◌, ◌≤◌, ℤ, List, ◌∷◌, ◌++◌, ◌∙◌, Option, Some, None, refl, sym, ap, ap₂, subst, arith}
+use Rattle.std.proofs.Common.{◌≡◌, ℕ, ◌+◌, ◌*◌, ◌<◌, ◌≤◌, ℤ, List, ◌∷◌, ◌++◌, ◌∙◌, Option, Some, None, sym, ap, ap₂, subst, arith}
 use Rattle.kernel_tree.specs.declared.ops.Ty.{Ty}
 use Rattle.kernel_tree.specs.Plain.{Term, Choice, Both, Either}
 use Rattle.kernel_tree.specs.Limits.{term_depth}

@@ -7,7 +7,7 @@ use Rattle.kernel_tree.specs.declared.ops.Ty.{Ty}
 use Rattle.kernel_tree.specs.declared.fault.Binding.TheVariants.{Value}
 use Rattle.kernel_tree.specs.Plain.{Term, Action, Define}
 use Rattle.kernel_tree.specs.Items.{term_size}
-use Rattle.kernel_tree.specs.Typing.{Scope, Local, local, own, first, insert_name, defined, after_action}
+use Rattle.kernel_tree.specs.Typing.{Local, local, own, first, insert_name, defined, after_action}
 use Rattle.loop_form.specs.declared.loop_item.Operand.TheVariants.{Made}
 use Rattle.loop_form.specs.declared.visible.Visible.{Visible}
 use Rattle.loop_form.specs.LoopItems.{Bound, bound, with_bound, after_env}

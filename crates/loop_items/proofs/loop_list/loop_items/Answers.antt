@@ -14,7 +14,7 @@ use Rattle.loop_items.proofs.loop_list.loop_items.Goals as goal
 pub returns : goal.returns
 unfolding program
 returns c = elim c.match-tree.branch [
-    in-Some+in_ok-names w ↦
+  | in-Some+in_ok-names w ↦
       let k = program c.args.kernel.now in
       let tree = c.kernel-tree.result.now in
       let names = w.in_ok-names.names.items in
@@ -23,11 +23,11 @@ returns c = elim c.match-tree.branch [
       let short = ap (λ (l : Listed). l.short) (sym w.listed-is) ∙ c.if-listed.false in
       ap (λ (l : Listed). view l.items.items) w.listed-is
       ∙ loop_listed k old (view w.list_block.new.listed.items.items) (ap view c.new.ensures.items) (for_loop_of w.in-Some.for_loop) names start (found c.args.kernel.now tree c.kernel-tree.ensures w.in-Some.for_loop w.in-Some.is) w.in_ok-names.ensures
-          (started c.args.kernel.now tree c.kernel-tree.ensures w.len.result w.vars_size_of.result w.deref.result.now w.len.ensures w.vars_size_of.ensures w.deref.ensures.value)
-          (λ taken rest. w.list_block.ensures.items short taken rest ∙ ap (λ (b : List Stmt). old ++ block_items (scope_of (loop_index k) names taken) None (start + 1) (env_of names) (block_of b) rest) w.deref-in-Some.ensures.value)
+      (started c.args.kernel.now tree c.kernel-tree.ensures w.len.result w.vars_size_of.result w.deref.result.now w.len.ensures w.vars_size_of.ensures w.deref.ensures.value)
+      (λ taken rest. w.list_block.ensures.items short taken rest ∙ ap (λ (b : List Stmt). old ++ block_items (scope_of (loop_index k) names taken) None (start + 1) (env_of names) (block_of b) rest) w.deref-in-Some.ensures.value)
   | in_default w ↦
       nothing_listed (program c.args.kernel.now) (view c.new.result.items) (view c.match-tree.listed.items.items) (ap view c.new.ensures.items) (not_found c.args.kernel.now c.kernel-tree.result.now c.kernel-tree.ensures w.in_default.is) (ap (λ (l : Listed). view l.items.items) w.listed-is)
-  ]
+]
 
 pub returns-then-listed : goal.returns-then-listed
 returns-then-listed c = tt

@@ -1,6 +1,6 @@
 use Rattle.std.proofs.Common.{◌≡◌, ℕ, ◌+◌, List, [], ◌∷◌, ◌++◌, ◌∙◌, sym, ap, ap₂, arith}
 use Rattle.kernel_tree.specs.declared.fault.Binding.TheVariants.{Value}
-use Rattle.kernel_tree.specs.Plain.{Define, name_of, term_of, action_of}
+use Rattle.kernel_tree.specs.Plain.{name_of, term_of, action_of}
 use Rattle.kernel_tree.specs.Parts.{part_action}
 use Rattle.kernel_tree.specs.Items.{loop_index, action_size}
 use Rattle.kernel_tree.specs.Typing.{local, own, first}
