@@ -1,1 +1,5 @@
+pub mod Appends
 pub mod Breaks
+pub mod Declared
+pub mod StatementAppends
+pub mod WholeLoops

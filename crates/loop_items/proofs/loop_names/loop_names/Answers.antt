@@ -1,4 +1,5 @@
 use Rattle.std.proofs.Common.{ℕ, List, map, ap, ◌∙◌, refl}
+use Rattle.std.proofs.lemmas.Result.{IfOk-from_err}
 use Rattle.kernel_tree.specs.declared.ast.Kernel.{Kernel}
 use Rattle.kernel_tree.specs.declared.ast.Param.{Param}
 use Rattle.kernel_tree.specs.declared.ast.Var.{Var}
@@ -22,3 +23,12 @@ returns c =
     c.in_ok-push.ensures.items
     (ap (λ (x : List ℕ). local x binding.Index) c.text.ensures)
     (ap (λ (x : List ℕ). bound x LoopIndex) c.text.ensures)
+
+pub returns-in_err-add_params : goal.returns-in_err-add_params
+returns-in_err-add_params c = IfOk-from_err c.from_residual.result _ c.from_residual.ensures.0
+
+pub returns-in_err-add_vars : goal.returns-in_err-add_vars
+returns-in_err-add_vars c = IfOk-from_err c.from_residual-in_err-add_vars.result _ c.from_residual-in_err-add_vars.ensures.0
+
+pub returns-in_err-push : goal.returns-in_err-push
+returns-in_err-push c = IfOk-from_err c.from_residual-in_err-push.result _ c.from_residual-in_err-push.ensures.0

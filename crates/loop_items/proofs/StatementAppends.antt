@@ -1,0 +1,108 @@
+-- What the calls of the walk over statements append, put together. Each list stands before whatever follows.
+use Rattle.std.proofs.Common.{◌≡◌, ℕ, ◌+◌, ◌-◌, ◌≤◌, ◌<◌, ℤ, List, [], ◌∷◌, ◌++◌, ◌∙◌, Option, Some, None, length, take, drop, get_or, refl, sym, ap, ap₂, subst, arith}
+use Rattle.std.specs.Prelude.{min}
+use Rattle.std.proofs.lemmas.List.{length-take, take-take}
+use Rattle.std.proofs.lemmas.Slice.{first_rest}
+use Rattle.kernel_tree.specs.declared.ops.Ty.{Ty}
+use Rattle.kernel_tree.specs.Plain.{Term, Either, Action, Choose, Block, Nothing, Else, Then}
+use Rattle.kernel_tree.specs.Items.{term_size, action_size, block_size}
+use Rattle.kernel_tree.specs.Typing.{Scope, array_type, after_action, after_block}
+use Rattle.loop_form.specs.declared.loop_item.Operand.{Operand}
+use Rattle.loop_form.specs.declared.visible.Visible.{Visible}
+use Rattle.loop_form.specs.LoopItems.{Bound, Item, item, operand_at, home, truth_home, term_items, cond_items, store_item, break_items, leave_items, action_items, block_items, after_env}
+use Rattle.loop_form.specs.LoopItems as ops
+use Rattle.loop_form.specs.LoopView.{env_of, scope_of, Declares}
+
+-- a slice by its first element and what is left
+pub opened : {A : Type 0} (xs : List A) (x : A) → 1 ≤ length xs → x ≡ get_or xs 0 x → xs ≡ x ∷ take (length xs - 1) (drop 1 xs)
+opened xs x n is = first_rest xs x n ∙ ap (λ y. y ∷ take (length xs - 1) (drop 1 xs)) (sym is)
+
+pub empty : {A : Type 0} (xs : List A) → length xs < 1 → xs ≡ []
+empty [] n = refl
+empty (x ∷ xs) n = absurd (omega (arith, n))
+
+-- names that only grow begin as before
+pub kept_names : {A : Type 0} (n0 n1 n2 n3 : List A) → n1 ≡ n0 → take (length n1) n2 ≡ n1 → take (length n2) n3 ≡ n2 → take (length n0) n3 ≡ n0
+kept_names n0 n1 n2 n3 e f g =
+    let short : min (length n1) (length n2) ≡ length n1 = sym (length-take (length n1) n2) ∙ ap length f in
+    ap (λ l. take (length l) n3) (sym e) ∙ sym (take-take (length n1) (length n2) n3 (omega (arith, short))) ∙ ap (λ l. take (length n1) l) g ∙ f ∙ e
+
+module _ (i : Option (List ℕ)) (taken : List (List ℕ)) (mask : Option ℕ) (from : ℕ) (old : List Item) (names names2 : List Visible) (same : names2 ≡ names) where
+  -- what is appended for a statement that has been taken apart, with the names of a slice that is borrowed
+  pub action_as : (s whole : Action) (new rest : List Item) → new ++ rest ≡ old ++ action_items (scope_of i names2 taken) mask from (env_of names2) s rest → whole ≡ s → new ++ rest ≡ old ++ action_items (scope_of i names taken) mask from (env_of names) whole rest
+  action_as s whole new rest n is = n ∙ ap₂ (λ (x : Action) (vs : List Visible). old ++ action_items (scope_of i vs taken) mask from (env_of vs) x rest) (sym is) same
+
+  pub condition_as : (c : Term) (new : List Item) → ((r : List Item) → new ++ r ≡ old ++ cond_items (scope_of i names2 taken) mask from (env_of names2) c r) → (r : List Item) → new ++ r ≡ old ++ cond_items (scope_of i names taken) mask from (env_of names) c r
+  condition_as c new n r = n r ∙ ap (λ (vs : List Visible). old ++ cond_items (scope_of i vs taken) mask from (env_of vs) c r) same
+
+module _ (S : Scope) (mask : Option ℕ) (from : ℕ) (env : List Bound) (old : List Item) where
+  -- a store, of an array with this name
+  pub stored : (o : Option ℤ) (a : List ℕ) (want : Option Ty) (c : ℤ) (base x : Operand) (e : Term) (m : ℕ) (middle new rest : List Item)
+      → new ++ rest ≡ middle ++ item (from + m) mask (ops.Store a base want c x) ∷ rest → ((r : List Item) → middle ++ r ≡ old ++ term_items S want mask from env e r)
+      → m ≡ term_size S.index e → x ≡ home S.index want from env e → base ≡ operand_at env a → want ≡ array_type S a → o ≡ Some c
+      → new ++ rest ≡ old ++ term_items S (array_type S a) mask from env e (store_item S mask (from + term_size S.index e) env a o (home S.index (array_type S a) from env e) rest)
+  stored None a want c base x e m middle new rest p q e1 e2 e3 e4 is = cc
+  stored (Some d) a want c base x e m middle new rest p q e1 e2 e3 e4 is =
+      let made = λ (u : Option Ty) (n : ℕ) (b y : Operand) (k : ℤ). old ++ term_items S u mask from env e (item (from + n) mask (ops.Store a b u k y) ∷ rest) in
+      let same : c ≡ d = cc in
+      p ∙ q (item (from + m) mask (ops.Store a base want c x) ∷ rest)
+      ∙ ap₂ (λ (b y : Operand). made want m b y c) e3 e2
+      ∙ ap₂ (λ (n : ℕ) (k : ℤ). made want n (operand_at env a) (home S.index want from env e) k) e1 same
+      ∙ ap (λ (u : Option Ty). made u (term_size S.index e) (operand_at env a) (home S.index u from env e) d) e4
+
+  pub not_stored : (o : Option ℤ) (a : List ℕ) (want : Option Ty) (v : Operand) (e : Term) (q : ℕ) (new rest : List Item)
+      → new ++ rest ≡ old ++ term_items S want mask from env e rest → want ≡ array_type S a → o ≡ None
+      → new ++ rest ≡ old ++ term_items S (array_type S a) mask from env e (store_item S mask q env a o v rest)
+  not_stored None a want v e q new rest p w is = p ∙ ap (λ (u : Option Ty). old ++ term_items S u mask from env e rest) w
+  not_stored (Some d) a want v e q new rest p w is = cc
+
+  -- a break on the left side of a `||`, and then one on the right side
+  pub left_broken : (e f whole : Term) (m : ℕ) (middle new rest : List Item) → new ++ rest ≡ middle ++ break_items S mask (from + m + 1) env f rest
+      → ((r : List Item) → middle ++ r ≡ old ++ leave_items S mask from env e r) → m ≡ term_size S.index e → whole ≡ Either e f
+      → new ++ rest ≡ old ++ leave_items S mask from env whole rest
+  left_broken e f whole m middle new rest a b p is =
+      a ∙ b (break_items S mask (from + m + 1) env f rest)
+      ∙ ap (λ (n : ℕ). old ++ leave_items S mask from env e (break_items S mask (from + n + 1) env f rest)) p
+      ∙ ap (λ (x : Term). old ++ leave_items S mask from env x rest) (sym is)
+
+  -- `if`
+  pub if_made : (c : Term) (b : Block) (m x : ℕ) (middle new rest : List Item) → new ++ rest ≡ middle ++ block_items S (Some x) (from + m + 1) env b rest
+      → ((r : List Item) → middle ++ r ≡ old ++ cond_items S mask from env c r) → m ≡ term_size S.index c → x ≡ truth_home S.index from c
+      → new ++ rest ≡ old ++ action_items S mask from env (Choose c b Nothing) rest
+  if_made c b m x middle new rest p q e g =
+      p ∙ q (block_items S (Some x) (from + m + 1) env b rest)
+      ∙ ap₂ (λ (n y : ℕ). old ++ cond_items S mask from env c (block_items S (Some y) (from + n + 1) env b rest)) e g
+
+module _ (i : Option (List ℕ)) (names : List Visible) (taken : List (List ℕ)) (mask : Option ℕ) (from : ℕ) (old : List Item) where
+  -- `if` with a second block, which begins with the names from before the first one
+  pub if_else_made : (c : Term) (b d : Block) (m n x : ℕ) (names2 : List Visible) (first second marked new rest : List Item)
+      → ((more : List (List ℕ)) → new ++ rest ≡ marked ++ block_items (scope_of i names2 more) (Some (from + m + 1 + n)) (from + m + 1 + n + 1) (env_of names2) d rest)
+      → ((r : List Item) → marked ++ r ≡ second ++ item (from + m + 1 + n) mask (ops.Not x) ∷ r)
+      → ((r : List Item) → second ++ r ≡ first ++ block_items (scope_of i names taken) (Some x) (from + m + 1) (env_of names) b r)
+      → ((r : List Item) → first ++ r ≡ old ++ cond_items (scope_of i names taken) mask from (env_of names) c r)
+      → names2 ≡ names → m ≡ term_size i c → n ≡ block_size i b → x ≡ truth_home i from c
+      → new ++ rest ≡ old ++ action_items (scope_of i names taken) mask from (env_of names) (Choose c b (Else d)) rest
+  if_else_made c b d m n x names2 first second marked new rest p1 p2 p3 p4 is e f g =
+      let S = scope_of i names taken in
+      let more = (after_block S b).taken in
+      let made = λ (m n x : ℕ) (vs : List Visible). old ++ cond_items S mask from (env_of names) c (block_items S (Some x) (from + m + 1) (env_of names) b (item (from + m + 1 + n) mask (ops.Not x) ∷ block_items (scope_of i vs more) (Some (from + m + 1 + n)) (from + m + 1 + n + 1) (env_of vs) d rest)) in
+      let last = block_items (scope_of i names2 more) (Some (from + m + 1 + n)) (from + m + 1 + n + 1) (env_of names2) d rest in
+      let between = item (from + m + 1 + n) mask (ops.Not x) ∷ last in
+      p1 more ∙ p2 last ∙ p3 between ∙ p4 (block_items S (Some x) (from + m + 1) (env_of names) b between)
+      ∙ ap₂ (λ (k : ℕ) (vs : List Visible). made k n x vs) e is
+      ∙ ap₂ (λ (k y : ℕ). made (term_size i c) k y names) f g
+
+  -- a statement, and those after it with the name that it declares
+  pub block_made : (s : Action) (b whole : Block) (m : ℕ) (names1 names2 : List Visible) (middle new rest : List Item)
+      → ((more : List (List ℕ)) → new ++ rest ≡ middle ++ block_items (scope_of i names2 more) mask (from + m) (env_of names2) b rest)
+      → ((r : List Item) → middle ++ r ≡ old ++ action_items (scope_of i names taken) mask from (env_of names) s r)
+      → names1 ≡ names → Declares i from s names1 names2 → m ≡ action_size i s → whole ≡ Then s b
+      → new ++ rest ≡ old ++ block_items (scope_of i names taken) mask from (env_of names) whole rest
+  block_made s b whole m names1 names2 middle new rest p q same declares e is =
+      let S = scope_of i names taken in
+      let d = subst (λ (vs : List Visible). Declares i from s vs names2) same declares taken in
+      let more = (after_action S s).taken in
+      p more ∙ q (block_items (scope_of i names2 more) mask (from + m) (env_of names2) b rest)
+      ∙ ap₂ (λ (T : Scope) (es : List Bound). old ++ action_items S mask from (env_of names) s (block_items T mask (from + m) es b rest)) (sym d.0) (sym d.1)
+      ∙ ap (λ (n : ℕ). old ++ action_items S mask from (env_of names) s (block_items (after_action S s) mask (from + n) (after_env S from (env_of names) s) b rest)) e
+      ∙ ap (λ (x : Block). old ++ block_items S mask from (env_of names) x rest) (sym is)
