@@ -1,15 +1,13 @@
 -- What the calls of the walk over statements append, put together. Each list stands before whatever follows.
-use Rattle.std.proofs.Common.{◌≡◌, ℕ, ◌+◌, ◌-◌, ◌≤◌, ◌<◌, ℤ, List, [], ◌∷◌, ◌++◌, ◌∙◌, Option, Some, None, length, take, drop, get_or, refl, sym, ap, ap₂, subst, arith}
+use Rattle.std.proofs.Common.{◌≡◌, ℕ, ◌+◌, ◌-◌, ◌≤◌, ◌<◌, List, [], ◌∷◌, ◌++◌, ◌∙◌, Option, Some, length, take, drop, get_or, refl, sym, ap, ap₂, subst, arith}
 use Rattle.std.specs.Prelude.{min}
 use Rattle.std.proofs.lemmas.List.{length-take, take-take}
 use Rattle.std.proofs.lemmas.Slice.{first_rest}
-use Rattle.kernel_tree.specs.declared.ops.Ty.{Ty}
-use Rattle.kernel_tree.specs.Plain.{Term, Either, Action, Choose, Block, Nothing, Else, Then}
+use Rattle.kernel_tree.specs.Plain.{Term, Action, Choose, Block, Nothing, Else, Then}
 use Rattle.kernel_tree.specs.Items.{term_size, action_size, block_size}
-use Rattle.kernel_tree.specs.Typing.{Scope, array_type, after_action, after_block}
-use Rattle.loop_form.specs.declared.loop_item.Operand.{Operand}
+use Rattle.kernel_tree.specs.Typing.{Scope, after_action, after_block}
 use Rattle.loop_form.specs.declared.visible.Visible.{Visible}
-use Rattle.loop_form.specs.LoopItems.{Bound, Item, item, operand_at, home, truth_home, term_items, cond_items, store_item, break_items, leave_items, action_items, block_items, after_env}
+use Rattle.loop_form.specs.LoopItems.{Bound, Item, item, truth_home, cond_items, action_items, block_items, after_env}
 use Rattle.loop_form.specs.LoopItems as ops
 use Rattle.loop_form.specs.LoopView.{env_of, scope_of, Declares}
 
@@ -36,35 +34,6 @@ module _ (i : Option (List ℕ)) (taken : List (List ℕ)) (mask : Option ℕ) (
   condition_as c new n r = n r ∙ ap (λ (vs : List Visible). old ++ cond_items (scope_of i vs taken) mask from (env_of vs) c r) same
 
 module _ (S : Scope) (mask : Option ℕ) (from : ℕ) (env : List Bound) (old : List Item) where
-  -- a store, of an array with this name
-  pub stored : (o : Option ℤ) (a : List ℕ) (want : Option Ty) (c : ℤ) (base x : Operand) (e : Term) (m : ℕ) (middle new rest : List Item)
-      → new ++ rest ≡ middle ++ item (from + m) mask (ops.Store a base want c x) ∷ rest → ((r : List Item) → middle ++ r ≡ old ++ term_items S want mask from env e r)
-      → m ≡ term_size S.index e → x ≡ home S.index want from env e → base ≡ operand_at env a → want ≡ array_type S a → o ≡ Some c
-      → new ++ rest ≡ old ++ term_items S (array_type S a) mask from env e (store_item S mask (from + term_size S.index e) env a o (home S.index (array_type S a) from env e) rest)
-  stored None a want c base x e m middle new rest p q e1 e2 e3 e4 is = cc
-  stored (Some d) a want c base x e m middle new rest p q e1 e2 e3 e4 is =
-      let made = λ (u : Option Ty) (n : ℕ) (b y : Operand) (k : ℤ). old ++ term_items S u mask from env e (item (from + n) mask (ops.Store a b u k y) ∷ rest) in
-      let same : c ≡ d = cc in
-      p ∙ q (item (from + m) mask (ops.Store a base want c x) ∷ rest)
-      ∙ ap₂ (λ (b y : Operand). made want m b y c) e3 e2
-      ∙ ap₂ (λ (n : ℕ) (k : ℤ). made want n (operand_at env a) (home S.index want from env e) k) e1 same
-      ∙ ap (λ (u : Option Ty). made u (term_size S.index e) (operand_at env a) (home S.index u from env e) d) e4
-
-  pub not_stored : (o : Option ℤ) (a : List ℕ) (want : Option Ty) (v : Operand) (e : Term) (q : ℕ) (new rest : List Item)
-      → new ++ rest ≡ old ++ term_items S want mask from env e rest → want ≡ array_type S a → o ≡ None
-      → new ++ rest ≡ old ++ term_items S (array_type S a) mask from env e (store_item S mask q env a o v rest)
-  not_stored None a want v e q new rest p w is = p ∙ ap (λ (u : Option Ty). old ++ term_items S u mask from env e rest) w
-  not_stored (Some d) a want v e q new rest p w is = cc
-
-  -- a break on the left side of a `||`, and then one on the right side
-  pub left_broken : (e f whole : Term) (m : ℕ) (middle new rest : List Item) → new ++ rest ≡ middle ++ break_items S mask (from + m + 1) env f rest
-      → ((r : List Item) → middle ++ r ≡ old ++ leave_items S mask from env e r) → m ≡ term_size S.index e → whole ≡ Either e f
-      → new ++ rest ≡ old ++ leave_items S mask from env whole rest
-  left_broken e f whole m middle new rest a b p is =
-      a ∙ b (break_items S mask (from + m + 1) env f rest)
-      ∙ ap (λ (n : ℕ). old ++ leave_items S mask from env e (break_items S mask (from + n + 1) env f rest)) p
-      ∙ ap (λ (x : Term). old ++ leave_items S mask from env x rest) (sym is)
-
   -- `if`
   pub if_made : (c : Term) (b : Block) (m x : ℕ) (middle new rest : List Item) → new ++ rest ≡ middle ++ block_items S (Some x) (from + m + 1) env b rest
       → ((r : List Item) → middle ++ r ≡ old ++ cond_items S mask from env c r) → m ≡ term_size S.index c → x ≡ truth_home S.index from c
