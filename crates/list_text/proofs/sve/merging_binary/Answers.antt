@@ -1,0 +1,27 @@
+use Rattle.std.proofs.Common.{ℕ, List, ◌++◌, codes, ◌∙◌, ap, arith}
+use Rattle.sve_code.specs.Numbers.{size_number}
+use Rattle.list_text.specs.Parts.{comma, p_register, z_register}
+use Rattle.list_text.proofs.sve.merging_binary.Goals as goal
+
+pub begin_z-requires : goal.begin_z-requires
+begin_z-requires c = c.requires
+
+pub comma_p-requires : goal.comma_p-requires
+comma_p-requires c = record { below = omega (arith, c.args.pg.in_range); room = omega (arith, c.begin_z.ensures.len) }
+
+pub push_str-requires : goal.push_str-requires
+push_str-requires c = omega (arith, c.begin_z.ensures.len, c.comma_p.ensures.len)
+
+pub push_z-requires : goal.push_z-requires
+push_z-requires c = omega (arith, c.begin_z.ensures.len, c.comma_p.ensures.len, c.push_str.ensures.len)
+
+pub comma_z-requires : goal.comma_z-requires
+comma_z-requires c = omega (arith, c.begin_z.ensures.len, c.comma_p.ensures.len, c.push_str.ensures.len, c.push_z.ensures.len)
+
+pub returns : goal.returns
+returns c =
+      c.comma_z.ensures.bytes
+      ∙ ap (λ (l : List ℕ). l ++ comma ++ z_register (size_number c.args.size) c.args.zm.number) c.push_z.ensures.bytes
+      ∙ ap (λ (l : List ℕ). l ++ z_register (size_number c.args.size) c.args.zdn.number ++ comma ++ z_register (size_number c.args.size) c.args.zm.number) c.push_str.ensures.bytes
+      ∙ ap (λ (l : List ℕ). l ++ codes "/m, " ++ z_register (size_number c.args.size) c.args.zdn.number ++ comma ++ z_register (size_number c.args.size) c.args.zm.number) c.comma_p.ensures.bytes
+      ∙ ap (λ (l : List ℕ). l ++ comma ++ p_register c.args.pg.number ++ codes "/m, " ++ z_register (size_number c.args.size) c.args.zdn.number ++ comma ++ z_register (size_number c.args.size) c.args.zm.number) c.begin_z.ensures.bytes
