@@ -10,7 +10,9 @@ use Rattle.machine_model.specs.Arithmetic.{sum}
 use Rattle.machine_model.specs.Machine.{State, Step, x_at, x_or_sp}
 use Rattle.machine_model.specs.Answers.{IsAnswer}
 use Rattle.machine_model.specs.declared.outcome.Step.{Step as StepAnswer}
+use Rattle.machine_model.specs.declared.outcome.Step.TheVariants as steps
 use Rattle.machine_model.specs.Effects.{act}
+use Rattle.a64_machine.specs.Cores.{OnStop}
 use Rattle.a64_machine.specs.Accesses.{byte_access, access, logarithm}
 
 byte_immediate_here : (op : LoadStoreByteOp) (rt rn imm : ℕ) (s : State)
@@ -37,6 +39,12 @@ wide_register_here other rt rn scaled rm s = refl
 -- the answer to what the model says is the answer to what equals it
 pub answer_as : (m n : Step) (r : StepAnswer) (before after : State) → n ≡ m → IsAnswer m r before after → IsAnswer n r before after
 answer_as m n r before after e h = subst (λ (x : Step). IsAnswer x r before after) (sym e) h
+
+-- what is so is so where a step ends or stops
+pub on_any_stop : {fact : Type 0} (r : StepAnswer) → fact → OnStop r fact
+on_any_stop steps.Went h = tt
+on_any_stop steps.Ended h = h
+on_any_stop (steps.Stopped stop) h = h
 
 -- the same at an address that is the form's
 pub byte_immediate : (op : LoadStoreByteOp) (rt rn imm address : ℕ) (s : State) → address ≡ sum (x_or_sp s rn) (imm * 2 ^ 0)

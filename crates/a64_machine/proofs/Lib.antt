@@ -1,3 +1,4 @@
 pub mod Fields
 pub mod AddressForms
 pub mod Examples
+mod Replacing
