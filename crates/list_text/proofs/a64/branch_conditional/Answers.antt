@@ -1,7 +1,7 @@
-use Rattle.std.proofs.Common.{ℕ, List, ◌++◌, codes, ◌∙◌, ap, lit≤, arith}
+use Rattle.std.proofs.Common.{codes, ◌∙◌, lit≤, arith}
 use Rattle.a64_code.specs.View.{cond_number}
 use Rattle.list_text.specs.Parts.{cond_name, signed_constant}
-use Rattle.list_text.proofs.Pieces.{piece}
+use Rattle.list_text.proofs.Pieces.{piece, next}
 use Rattle.list_text.proofs.a64.branch_conditional.Goals as goal
 
 pub begin-requires : goal.begin-requires
@@ -18,7 +18,4 @@ push_offset_19-requires c = omega (arith, c.begin.ensures.len, c.push_str.ensure
 
 pub returns : goal.returns
 returns c =
-      c.push_offset_19.ensures.bytes
-      ∙ ap (λ (l : List ℕ). l ++ signed_constant 4 19 c.args.imm19.number) c.push_str-2.ensures.bytes
-      ∙ ap (λ (l : List ℕ). l ++ codes " " ++ signed_constant 4 19 c.args.imm19.number) (piece _ c.push_str.ensures.bytes c.name_of_cond.ensures.name)
-      ∙ ap (λ (l : List ℕ). l ++ cond_name (cond_number c.args.cond) ++ codes " " ++ signed_constant 4 19 c.args.imm19.number) c.begin.ensures.bytes
+      c.push_offset_19.ensures.bytes ∙ next (signed_constant 4 19 c.args.imm19.number) (c.push_str-2.ensures.bytes ∙ next (codes " ") (piece _ c.push_str.ensures.bytes c.name_of_cond.ensures.name ∙ next (cond_name (cond_number c.args.cond)) c.begin.ensures.bytes))

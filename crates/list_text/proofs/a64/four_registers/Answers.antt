@@ -1,5 +1,6 @@
-use Rattle.std.proofs.Common.{ℕ, List, ◌++◌, ◌∙◌, ap, arith}
+use Rattle.std.proofs.Common.{◌∙◌, arith}
 use Rattle.list_text.specs.Parts.{comma, x_register}
+use Rattle.list_text.proofs.Pieces.{next}
 use Rattle.list_text.proofs.a64.four_registers.Goals as goal
 
 pub begin_x-requires : goal.begin_x-requires
@@ -16,7 +17,4 @@ comma_x-requires-3 c = omega (arith, c.begin_x.ensures.len, c.comma_x.ensures.le
 
 pub returns : goal.returns
 returns c =
-      c.comma_x-3.ensures.bytes
-      ∙ ap (λ (l : List ℕ). l ++ comma ++ x_register c.args.ra.number) c.comma_x-2.ensures.bytes
-      ∙ ap (λ (l : List ℕ). l ++ comma ++ x_register c.args.rm.number ++ comma ++ x_register c.args.ra.number) c.comma_x.ensures.bytes
-      ∙ ap (λ (l : List ℕ). l ++ comma ++ x_register c.args.rn.number ++ comma ++ x_register c.args.rm.number ++ comma ++ x_register c.args.ra.number) c.begin_x.ensures.bytes
+      c.comma_x-3.ensures.bytes ∙ next (x_register c.args.ra.number) (next comma (c.comma_x-2.ensures.bytes ∙ next (x_register c.args.rm.number) (next comma (c.comma_x.ensures.bytes ∙ next (x_register c.args.rn.number) (next comma c.begin_x.ensures.bytes)))))

@@ -1,7 +1,7 @@
-use Rattle.std.proofs.Common.{ℕ, List, ◌++◌, codes, ◌∙◌, ap, arith}
+use Rattle.std.proofs.Common.{codes, ◌∙◌, arith}
 use Rattle.a64_code.specs.View.{cond_number}
 use Rattle.list_text.specs.Parts.{comma, cond_name, x_register}
-use Rattle.list_text.proofs.Pieces.{piece}
+use Rattle.list_text.proofs.Pieces.{piece, next}
 use Rattle.list_text.proofs.a64.registers_and_cond.Goals as goal
 
 pub begin_x-requires : goal.begin_x-requires
@@ -21,8 +21,4 @@ push_str-requires-2 c = omega (arith, c.begin_x.ensures.len, c.comma_x.ensures.l
 
 pub returns : goal.returns
 returns c =
-      piece _ c.push_str-2.ensures.bytes c.name_of_cond.ensures.name
-      ∙ ap (λ (l : List ℕ). l ++ cond_name (cond_number c.args.cond)) c.push_str.ensures.bytes
-      ∙ ap (λ (l : List ℕ). l ++ codes ", " ++ cond_name (cond_number c.args.cond)) c.comma_x-2.ensures.bytes
-      ∙ ap (λ (l : List ℕ). l ++ comma ++ x_register c.args.rm.number ++ codes ", " ++ cond_name (cond_number c.args.cond)) c.comma_x.ensures.bytes
-      ∙ ap (λ (l : List ℕ). l ++ comma ++ x_register c.args.rn.number ++ comma ++ x_register c.args.rm.number ++ codes ", " ++ cond_name (cond_number c.args.cond)) c.begin_x.ensures.bytes
+      piece _ c.push_str-2.ensures.bytes c.name_of_cond.ensures.name ∙ next (cond_name (cond_number c.args.cond)) (c.push_str.ensures.bytes ∙ next (codes ", ") (c.comma_x-2.ensures.bytes ∙ next (x_register c.args.rm.number) (next comma (c.comma_x.ensures.bytes ∙ next (x_register c.args.rn.number) (next comma c.begin_x.ensures.bytes)))))

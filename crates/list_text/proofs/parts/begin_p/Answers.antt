@@ -1,5 +1,6 @@
-use Rattle.std.proofs.Common.{ℕ, List, ◌++◌, ◌∙◌, ap, arith}
+use Rattle.std.proofs.Common.{◌∙◌, arith}
 use Rattle.list_text.specs.Parts.{p_register}
+use Rattle.list_text.proofs.Pieces.{next}
 use Rattle.list_text.proofs.parts.begin_p.Goals as goal
 
 pub begin-requires : goal.begin-requires
@@ -11,7 +12,6 @@ push_p-requires c = record { below = c.requires.below; room = omega (arith, c.be
 pub returns : goal.returns
 returns c = record {
   bytes =
-      c.push_p.ensures.bytes
-      ∙ ap (λ (l : List ℕ). l ++ p_register c.args.number) c.begin.ensures.bytes;
+      c.push_p.ensures.bytes ∙ next (p_register c.args.number) c.begin.ensures.bytes;
   len = omega (arith, c.begin.ensures.len, c.push_p.ensures.len);
 }

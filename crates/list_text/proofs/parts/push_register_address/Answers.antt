@@ -1,6 +1,6 @@
-use Rattle.std.proofs.Common.{ℕ, List, ◌++◌, codes, ◌∙◌, ap, arith}
+use Rattle.std.proofs.Common.{codes, ◌∙◌, arith}
 use Rattle.list_text.specs.Parts.{comma, lsl_by, x_or_sp, x_register}
-use Rattle.list_text.proofs.Pieces.{in_six}
+use Rattle.list_text.proofs.Pieces.{next, in_six}
 use Rattle.list_text.proofs.parts.push_register_address.Goals as goal
 
 pub push_str-requires : goal.push_str-requires
@@ -20,9 +20,5 @@ push_str-requires-2 c = omega (arith, c.requires.room, c.push_str.ensures.len, c
 
 pub returns : goal.returns
 returns c =
-      c.push_str-2.ensures.bytes
-      ∙ ap (λ (l : List ℕ). l ++ codes "]") c.push_lsl.ensures.bytes
-      ∙ ap (λ (l : List ℕ). l ++ lsl_by c.args.shift ++ codes "]") c.comma_x.ensures.bytes
-      ∙ ap (λ (l : List ℕ). l ++ comma ++ x_register c.args.offset.number ++ lsl_by c.args.shift ++ codes "]") c.push_x_or_sp.ensures.bytes
-      ∙ ap (λ (l : List ℕ). l ++ x_or_sp c.args.base.number ++ comma ++ x_register c.args.offset.number ++ lsl_by c.args.shift ++ codes "]") c.push_str.ensures.bytes
+      c.push_str-2.ensures.bytes ∙ next (codes "]") (c.push_lsl.ensures.bytes ∙ next (lsl_by c.args.shift) (c.comma_x.ensures.bytes ∙ next (x_register c.args.offset.number) (next comma (c.push_x_or_sp.ensures.bytes ∙ next (x_or_sp c.args.base.number) c.push_str.ensures.bytes))))
       ∙ in_six c.args.into.now.bytes (codes ", [") (x_or_sp c.args.base.number) comma (x_register c.args.offset.number) (lsl_by c.args.shift) (codes "]")

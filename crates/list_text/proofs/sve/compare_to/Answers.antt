@@ -1,7 +1,7 @@
-use Rattle.std.proofs.Common.{ℕ, List, ◌++◌, codes, ◌∙◌, ap, arith}
+use Rattle.std.proofs.Common.{codes, ◌∙◌, arith}
 use Rattle.sve_code.specs.Numbers.{size_number}
 use Rattle.list_text.specs.Parts.{comma, dotted, p_register, z_register}
-use Rattle.list_text.proofs.Pieces.{piece}
+use Rattle.list_text.proofs.Pieces.{piece, next}
 use Rattle.list_text.proofs.sve.compare_to.Goals as goal
 
 pub begin_p-requires : goal.begin_p-requires
@@ -24,9 +24,4 @@ comma_z-requires c = omega (arith, c.begin_p.ensures.len, c.push_str.ensures.len
 
 pub returns : goal.returns
 returns c =
-      c.comma_z.ensures.bytes
-      ∙ ap (λ (l : List ℕ). l ++ comma ++ z_register (size_number c.args.size) c.args.zm.number) c.push_z.ensures.bytes
-      ∙ ap (λ (l : List ℕ). l ++ z_register (size_number c.args.size) c.args.zn.number ++ comma ++ z_register (size_number c.args.size) c.args.zm.number) c.push_str-2.ensures.bytes
-      ∙ ap (λ (l : List ℕ). l ++ codes "/z, " ++ z_register (size_number c.args.size) c.args.zn.number ++ comma ++ z_register (size_number c.args.size) c.args.zm.number) c.comma_p.ensures.bytes
-      ∙ ap (λ (l : List ℕ). l ++ comma ++ p_register c.args.pg.number ++ codes "/z, " ++ z_register (size_number c.args.size) c.args.zn.number ++ comma ++ z_register (size_number c.args.size) c.args.zm.number) (piece _ c.push_str.ensures.bytes c.dotted_of.ensures.name)
-      ∙ ap (λ (l : List ℕ). l ++ dotted (size_number c.args.size) ++ comma ++ p_register c.args.pg.number ++ codes "/z, " ++ z_register (size_number c.args.size) c.args.zn.number ++ comma ++ z_register (size_number c.args.size) c.args.zm.number) c.begin_p.ensures.bytes
+      c.comma_z.ensures.bytes ∙ next (z_register (size_number c.args.size) c.args.zm.number) (next comma (c.push_z.ensures.bytes ∙ next (z_register (size_number c.args.size) c.args.zn.number) (c.push_str-2.ensures.bytes ∙ next (codes "/z, ") (c.comma_p.ensures.bytes ∙ next (p_register c.args.pg.number) (next comma (piece _ c.push_str.ensures.bytes c.dotted_of.ensures.name ∙ next (dotted (size_number c.args.size)) c.begin_p.ensures.bytes))))))

@@ -1,7 +1,7 @@
-use Rattle.std.proofs.Common.{ℕ, List, ◌++◌, ◌∙◌, ap, lit≤, arith}
+use Rattle.std.proofs.Common.{◌∙◌, lit≤, arith}
 use Rattle.sve_code.specs.Numbers.{size_number}
 use Rattle.list_text.specs.Parts.{comma, dotted, p_register}
-use Rattle.list_text.proofs.Pieces.{piece}
+use Rattle.list_text.proofs.Pieces.{piece, next}
 use Rattle.list_text.proofs.sve.incp.Goals as goal
 
 pub begin_x-requires : goal.begin_x-requires
@@ -15,6 +15,4 @@ push_str-requires c = omega (arith, c.begin_x.ensures.len, c.comma_p.ensures.len
 
 pub returns : goal.returns
 returns c =
-      piece _ c.push_str.ensures.bytes c.dotted_of.ensures.name
-      ∙ ap (λ (l : List ℕ). l ++ dotted (size_number c.args.size)) c.comma_p.ensures.bytes
-      ∙ ap (λ (l : List ℕ). l ++ comma ++ p_register c.args.pm.number ++ dotted (size_number c.args.size)) c.begin_x.ensures.bytes
+      piece _ c.push_str.ensures.bytes c.dotted_of.ensures.name ∙ next (dotted (size_number c.args.size)) (c.comma_p.ensures.bytes ∙ next (p_register c.args.pm.number) (next comma c.begin_x.ensures.bytes))

@@ -1,6 +1,7 @@
-use Rattle.std.proofs.Common.{ℕ, List, ◌++◌, codes, ◌∙◌, ap, arith}
+use Rattle.std.proofs.Common.{codes, ◌∙◌, arith}
 use Rattle.sve_code.specs.Numbers.{size_number}
 use Rattle.list_text.specs.Parts.{comma, p_register, z_register}
+use Rattle.list_text.proofs.Pieces.{next}
 use Rattle.list_text.proofs.sve.merging_binary.Goals as goal
 
 pub begin_z-requires : goal.begin_z-requires
@@ -20,8 +21,4 @@ comma_z-requires c = omega (arith, c.begin_z.ensures.len, c.comma_p.ensures.len,
 
 pub returns : goal.returns
 returns c =
-      c.comma_z.ensures.bytes
-      ∙ ap (λ (l : List ℕ). l ++ comma ++ z_register (size_number c.args.size) c.args.zm.number) c.push_z.ensures.bytes
-      ∙ ap (λ (l : List ℕ). l ++ z_register (size_number c.args.size) c.args.zdn.number ++ comma ++ z_register (size_number c.args.size) c.args.zm.number) c.push_str.ensures.bytes
-      ∙ ap (λ (l : List ℕ). l ++ codes "/m, " ++ z_register (size_number c.args.size) c.args.zdn.number ++ comma ++ z_register (size_number c.args.size) c.args.zm.number) c.comma_p.ensures.bytes
-      ∙ ap (λ (l : List ℕ). l ++ comma ++ p_register c.args.pg.number ++ codes "/m, " ++ z_register (size_number c.args.size) c.args.zdn.number ++ comma ++ z_register (size_number c.args.size) c.args.zm.number) c.begin_z.ensures.bytes
+      c.comma_z.ensures.bytes ∙ next (z_register (size_number c.args.size) c.args.zm.number) (next comma (c.push_z.ensures.bytes ∙ next (z_register (size_number c.args.size) c.args.zdn.number) (c.push_str.ensures.bytes ∙ next (codes "/m, ") (c.comma_p.ensures.bytes ∙ next (p_register c.args.pg.number) (next comma c.begin_z.ensures.bytes)))))

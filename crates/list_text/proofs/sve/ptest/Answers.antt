@@ -1,5 +1,6 @@
-use Rattle.std.proofs.Common.{ℕ, List, ◌++◌, codes, ◌∙◌, ap, lit≤, arith}
+use Rattle.std.proofs.Common.{codes, ◌∙◌, lit≤, arith}
 use Rattle.list_text.specs.Parts.{comma, p_register}
+use Rattle.list_text.proofs.Pieces.{next}
 use Rattle.list_text.proofs.sve.ptest.Goals as goal
 
 pub begin_p-requires : goal.begin_p-requires
@@ -13,6 +14,4 @@ push_str-requires c = omega (arith, c.begin_p.ensures.len, c.comma_p.ensures.len
 
 pub returns : goal.returns
 returns c =
-      c.push_str.ensures.bytes
-      ∙ ap (λ (l : List ℕ). l ++ codes ".b") c.comma_p.ensures.bytes
-      ∙ ap (λ (l : List ℕ). l ++ comma ++ p_register c.args.pn.number ++ codes ".b") c.begin_p.ensures.bytes
+      c.push_str.ensures.bytes ∙ next (codes ".b") (c.comma_p.ensures.bytes ∙ next (p_register c.args.pn.number) (next comma c.begin_p.ensures.bytes))

@@ -1,6 +1,7 @@
-use Rattle.std.proofs.Common.{ℕ, List, ◌++◌, decimal, ◌∙◌, ap, arith}
+use Rattle.std.proofs.Common.{decimal, ◌∙◌, arith}
 use Rattle.sve_code.specs.Numbers.{size_number}
 use Rattle.list_text.specs.Parts.{comma, p_register, z_register}
+use Rattle.list_text.proofs.Pieces.{next}
 use Rattle.list_text.proofs.sve.reduction_to.Goals as goal
 
 pub begin-requires : goal.begin-requires
@@ -20,8 +21,4 @@ comma_z-requires c = omega (arith, c.begin.ensures.len, c.push_str.ensures.len, 
 
 pub returns : goal.returns
 returns c =
-      c.comma_z.ensures.bytes
-      ∙ ap (λ (l : List ℕ). l ++ comma ++ z_register (size_number c.args.size) c.args.zn.number) c.comma_p.ensures.bytes
-      ∙ ap (λ (l : List ℕ). l ++ comma ++ p_register c.args.pg.number ++ comma ++ z_register (size_number c.args.size) c.args.zn.number) c.push_decimal.ensures.bytes
-      ∙ ap (λ (l : List ℕ). l ++ decimal c.args.zd.number ++ comma ++ p_register c.args.pg.number ++ comma ++ z_register (size_number c.args.size) c.args.zn.number) c.push_str.ensures.bytes
-      ∙ ap (λ (l : List ℕ). l ++ c.args.letter.now ++ decimal c.args.zd.number ++ comma ++ p_register c.args.pg.number ++ comma ++ z_register (size_number c.args.size) c.args.zn.number) c.begin.ensures.bytes
+      c.comma_z.ensures.bytes ∙ next (z_register (size_number c.args.size) c.args.zn.number) (next comma (c.comma_p.ensures.bytes ∙ next (p_register c.args.pg.number) (next comma (c.push_decimal.ensures.bytes ∙ next (decimal c.args.zd.number) (c.push_str.ensures.bytes ∙ next c.args.letter.now c.begin.ensures.bytes)))))

@@ -1,6 +1,7 @@
-use Rattle.std.proofs.Common.{ℕ, List, ◌++◌, ◌∙◌, ap, lit≤, arith}
+use Rattle.std.proofs.Common.{◌∙◌, lit≤, arith}
 use Rattle.sve_code.specs.Numbers.{size_number}
 use Rattle.list_text.specs.Parts.{comma, p_register, z_register}
+use Rattle.list_text.proofs.Pieces.{next}
 use Rattle.list_text.proofs.sve.sel.Goals as goal
 
 pub begin_z-requires : goal.begin_z-requires
@@ -17,7 +18,4 @@ comma_z-requires-2 c = omega (arith, c.begin_z.ensures.len, c.comma_p.ensures.le
 
 pub returns : goal.returns
 returns c =
-      c.comma_z-2.ensures.bytes
-      ∙ ap (λ (l : List ℕ). l ++ comma ++ z_register (size_number c.args.size) c.args.zm.number) c.comma_z.ensures.bytes
-      ∙ ap (λ (l : List ℕ). l ++ comma ++ z_register (size_number c.args.size) c.args.zn.number ++ comma ++ z_register (size_number c.args.size) c.args.zm.number) c.comma_p.ensures.bytes
-      ∙ ap (λ (l : List ℕ). l ++ comma ++ p_register c.args.pg.number ++ comma ++ z_register (size_number c.args.size) c.args.zn.number ++ comma ++ z_register (size_number c.args.size) c.args.zm.number) c.begin_z.ensures.bytes
+      c.comma_z-2.ensures.bytes ∙ next (z_register (size_number c.args.size) c.args.zm.number) (next comma (c.comma_z.ensures.bytes ∙ next (z_register (size_number c.args.size) c.args.zn.number) (next comma (c.comma_p.ensures.bytes ∙ next (p_register c.args.pg.number) (next comma c.begin_z.ensures.bytes)))))

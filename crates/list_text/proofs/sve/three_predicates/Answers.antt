@@ -1,5 +1,6 @@
-use Rattle.std.proofs.Common.{ℕ, List, ◌++◌, codes, ◌∙◌, ap, arith}
+use Rattle.std.proofs.Common.{codes, ◌∙◌, arith}
 use Rattle.list_text.specs.Parts.{p_register}
+use Rattle.list_text.proofs.Pieces.{next}
 use Rattle.list_text.proofs.sve.three_predicates.Goals as goal
 
 pub begin_p-requires : goal.begin_p-requires
@@ -22,9 +23,4 @@ push_str-requires-3 c = omega (arith, c.begin_p.ensures.len, c.push_str.ensures.
 
 pub returns : goal.returns
 returns c =
-      c.push_str-3.ensures.bytes
-      ∙ ap (λ (l : List ℕ). l ++ codes ".b") c.push_p-2.ensures.bytes
-      ∙ ap (λ (l : List ℕ). l ++ p_register c.args.pn.number ++ codes ".b") c.push_str-2.ensures.bytes
-      ∙ ap (λ (l : List ℕ). l ++ codes "/z, " ++ p_register c.args.pn.number ++ codes ".b") c.push_p.ensures.bytes
-      ∙ ap (λ (l : List ℕ). l ++ p_register c.args.pg.number ++ codes "/z, " ++ p_register c.args.pn.number ++ codes ".b") c.push_str.ensures.bytes
-      ∙ ap (λ (l : List ℕ). l ++ codes ".b, " ++ p_register c.args.pg.number ++ codes "/z, " ++ p_register c.args.pn.number ++ codes ".b") c.begin_p.ensures.bytes
+      c.push_str-3.ensures.bytes ∙ next (codes ".b") (c.push_p-2.ensures.bytes ∙ next (p_register c.args.pn.number) (c.push_str-2.ensures.bytes ∙ next (codes "/z, ") (c.push_p.ensures.bytes ∙ next (p_register c.args.pg.number) (c.push_str.ensures.bytes ∙ next (codes ".b, ") c.begin_p.ensures.bytes))))

@@ -1,7 +1,7 @@
-use Rattle.std.proofs.Common.{ℕ, List, ◌++◌, ◌∙◌, ap, lit≤, arith}
+use Rattle.std.proofs.Common.{◌∙◌, lit≤, arith}
 use Rattle.sve_code.specs.Numbers.{size_number}
 use Rattle.list_text.specs.Parts.{comma, dotted, x_register}
-use Rattle.list_text.proofs.Pieces.{piece}
+use Rattle.list_text.proofs.Pieces.{piece, next}
 use Rattle.list_text.proofs.sve.whilelo.Goals as goal
 
 pub begin_p-requires : goal.begin_p-requires
@@ -18,7 +18,4 @@ comma_x-requires-2 c = omega (arith, c.begin_p.ensures.len, c.push_str.ensures.l
 
 pub returns : goal.returns
 returns c =
-      c.comma_x-2.ensures.bytes
-      ∙ ap (λ (l : List ℕ). l ++ comma ++ x_register c.args.rm.number) c.comma_x.ensures.bytes
-      ∙ ap (λ (l : List ℕ). l ++ comma ++ x_register c.args.rn.number ++ comma ++ x_register c.args.rm.number) (piece _ c.push_str.ensures.bytes c.dotted_of.ensures.name)
-      ∙ ap (λ (l : List ℕ). l ++ dotted (size_number c.args.size) ++ comma ++ x_register c.args.rn.number ++ comma ++ x_register c.args.rm.number) c.begin_p.ensures.bytes
+      c.comma_x-2.ensures.bytes ∙ next (x_register c.args.rm.number) (next comma (c.comma_x.ensures.bytes ∙ next (x_register c.args.rn.number) (next comma (piece _ c.push_str.ensures.bytes c.dotted_of.ensures.name ∙ next (dotted (size_number c.args.size)) c.begin_p.ensures.bytes))))
