@@ -2,3 +2,4 @@ pub mod Fields
 pub mod AddressForms
 pub mod Examples
 mod Replacing
+mod Nothing

@@ -1,5 +1,5 @@
 use Rattle.std.proofs.Common.{arith}
-use Rattle.a64_machine.proofs.Replacing.{in_zero, in_one, in_two}
+use Rattle.a64_machine.proofs.Replacing.{in_zero, in_one, in_two, in_rest}
 use Rattle.a64_machine.proofs.arithmetic.replaced.Goals as goal
 
 pub overflow_mul-result : goal.overflow_mul-result
@@ -46,3 +46,6 @@ returns-in-1 c = in_one c.args.value c.from-imm.result c.args.imm16 c.args.hw c.
 
 pub returns-in-2 : goal.returns-in-2
 returns-in-2 c = in_two c.args.value c.from-imm.result c.args.imm16 c.args.hw c.from-imm.ensures c.in-2.is
+
+pub returns-in_default : goal.returns-in_default
+returns-in_default c = in_rest c.args.value c.from-imm.result c.args.imm16 c.args.hw c.ranges.value.fits c.from-imm.ensures c.requires.hw c.in_default.in_default-own.rest.0.0.1 c.in_default.in_default-own.rest.0.1 c.in_default.in_default-own.rest.1

@@ -30,3 +30,15 @@ returns-in-Subtract c memory rest kind =
 pub returns-in-MultiplyAdd : goal.returns-in-MultiplyAdd
 returns-in-MultiplyAdd c memory rest kind =
     ap (λ p. prepared_does p (state_of c.args.core.now memory rest)) c.in-MultiplyAdd.is ∙ c.multiply_add.ensures memory rest
+
+pub returns-in-JumpWhere : goal.returns-in-JumpWhere
+returns-in-JumpWhere c memory rest kind =
+    ap (λ p. prepared_does p (state_of c.args.core.now memory rest)) c.in-JumpWhere.is ∙ c.jump_where.ensures memory rest
+
+pub returns-in-JumpAtZero : goal.returns-in-JumpAtZero
+returns-in-JumpAtZero c memory rest kind =
+    ap (λ p. prepared_does p (state_of c.args.core.now memory rest)) c.in-JumpAtZero.is ∙ c.jump_at_zero.ensures memory rest
+
+pub returns-in-JumpElse : goal.returns-in-JumpElse
+returns-in-JumpElse c memory rest kind =
+    ap (λ p. prepared_does p (state_of c.args.core.now memory rest)) c.in-JumpElse.is ∙ c.jump_else.ensures memory rest
