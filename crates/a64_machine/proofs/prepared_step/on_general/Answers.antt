@@ -1,4 +1,5 @@
-use Rattle.std.proofs.Common.{ap, ◌∙◌}
+use Rattle.std.proofs.Common.{sym, ap, ◌∙◌}
+use Rattle.machine_model.specs.Machine.{Went}
 use Rattle.a64_machine.specs.Cores.{state_of}
 use Rattle.a64_machine.specs.Prepared.{prepared_does}
 use Rattle.a64_machine.proofs.prepared_step.on_general.Goals as goal
@@ -42,3 +43,11 @@ returns-in-JumpAtZero c memory rest kind =
 pub returns-in-JumpElse : goal.returns-in-JumpElse
 returns-in-JumpElse c memory rest kind =
     ap (λ p. prepared_does p (state_of c.args.core.now memory rest)) c.in-JumpElse.is ∙ c.jump_else.ensures memory rest
+
+pub returns-in-Constant : goal.returns-in-Constant
+returns-in-Constant c memory rest kind =
+    ap (λ p. prepared_does p (state_of c.args.core.now memory rest)) c.in-Constant.is ∙ ap (λ k. Went (state_of k memory rest)) (sym c.write_general-in-Constant.ensures)
+
+pub returns-in-Jump : goal.returns-in-Jump
+returns-in-Jump c memory rest kind =
+    ap (λ p. prepared_does p (state_of c.args.core.now memory rest)) c.in-Jump.is ∙ ap (λ k. Went (state_of k memory rest)) (sym c.jump.ensures)
