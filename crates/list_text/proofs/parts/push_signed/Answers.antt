@@ -1,5 +1,6 @@
-use Rattle.std.proofs.Common.{ℕ, ◌*◌, ◌-◌, ◌^◌, ◌<◌, ◌≤◌, arith, le_of_lt, lt_of_le_of_lt}
+use Rattle.std.proofs.Common.{ℕ, ◌*◌, ◌-◌, ◌^◌, ◌++◌, ◌<◌, ◌≤◌, codes, decimal, if◌then◌else◌, sym, ap, ◌∙◌, arith, le_of_lt, lt_of_le_of_lt, lt-ltb, le-ltb}
 use Rattle.std.proofs.Math.Nat.{mul-le-mul_left, mul-le-mul_right}
+use Rattle.list_text.proofs.Pieces.{next, in_two}
 use Rattle.list_text.proofs.parts.push_signed.Goals as goal
 
 less_fits : (u n m : ℕ) → n ≤ m → u * m < 2 ^ 32 → u * n < 2 ^ 32
@@ -26,3 +27,15 @@ overflow_sub-half c = le_of_lt c.requires.range
 pub overflow_mul-unit-else-number-half : goal.overflow_mul-unit-else-number-half
 overflow_mul-unit-else-number-half c =
     omega (arith, less_fits c.args.unit (2 * c.args.half - c.args.number) (2 * c.args.half) (omega arith) c.requires.fits)
+
+pub returns-then-number-half : goal.returns-then-number-half
+returns-then-number-half c =
+    let number = decimal (c.args.unit * c.args.number) in
+    c.push_decimal.ensures.bytes ∙ next number c.push_str.ensures.bytes ∙ in_two c.args.into.now.bytes (codes "#") number
+    ∙ ap (λ b. c.args.into.now.bytes ++ (if b then (codes "#" ++ number) else (codes "#-" ++ decimal (c.args.unit * (2 * c.args.half - c.args.number))))) (sym (lt-ltb c.args.number c.args.half c.if-number-half.true))
+
+pub returns-else-number-half : goal.returns-else-number-half
+returns-else-number-half c =
+    let number = decimal (c.args.unit * (2 * c.args.half - c.args.number)) in
+    c.push_decimal-else-number-half.ensures.bytes ∙ next number c.push_str-else-number-half.ensures.bytes ∙ in_two c.args.into.now.bytes (codes "#-") number
+    ∙ ap (λ b. c.args.into.now.bytes ++ (if b then (codes "#" ++ decimal (c.args.unit * c.args.number)) else (codes "#-" ++ number))) (sym (le-ltb c.args.number c.args.half (omega (arith, c.if-number-half.false))))
