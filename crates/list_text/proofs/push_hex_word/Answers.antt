@@ -12,7 +12,6 @@ eight : (t : List ℕ) (a b c d e f g h : ℕ)
 eight [] a b c d e f g h = refl
 eight (x ∷ t) a b c d e f g h = ap (λ (l : List ℕ). x ∷ l) (eight t a b c d e f g h)
 
-
 pub field-requires : goal.field-requires
 field-requires g c = record { within = lit≤ tt; begins = lit< tt; part = lit< tt }
 

@@ -1,4 +1,4 @@
-use Rattle.std.proofs.Common.{refl, ap, inl, inr}
+use Rattle.std.proofs.Common.{refl, ap, inl}
 use Rattle.a64_machine.specs.Cores.{state_of}
 use Rattle.a64_machine.specs.Accesses.{byte_access}
 use Rattle.a64_machine.proofs.AddressForms.{answer_as, on_any_stop}

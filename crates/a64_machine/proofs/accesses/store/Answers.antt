@@ -1,4 +1,3 @@
-use Rattle.std.proofs.Common.{refl}
 use Rattle.a64_machine.proofs.accesses.store.Goals as goal
 
 pub store-requires : goal.store-requires

@@ -1,4 +1,4 @@
-use Rattle.std.proofs.Common.{◌≡◌, ℕ, ◌+◌, ◌*◌, ◌≤◌, Bool, true, false, refl, subst, sym, ap, ap₂, ◌∙◌, lit≤, arith}
+use Rattle.std.proofs.Common.{◌≡◌, ℕ, ◌+◌, ◌*◌, ◌≤◌, Bool, true, false, refl, subst, sym, ap₂, ◌∙◌, lit≤, arith}
 use mir.Val.{bool_byte}
 use Rattle.guest_types.specs.Elements.{Flags}
 use Rattle.a64_machine.specs.Cores.{flags_in}

@@ -18,4 +18,7 @@ push_offset_19-requires c = omega (arith, c.begin.ensures.len, c.push_str.ensure
 
 pub returns : goal.returns
 returns c =
-      c.push_offset_19.ensures.bytes ∙ next (signed_constant 4 19 c.args.imm19.number) (c.push_str-2.ensures.bytes ∙ next (codes " ") (piece _ c.push_str.ensures.bytes c.name_of_cond.ensures.name ∙ next (cond_name (cond_number c.args.cond)) c.begin.ensures.bytes))
+    c.push_offset_19.ensures.bytes
+    ∙ next (signed_constant 4 19 c.args.imm19.number) (c.push_str-2.ensures.bytes
+    ∙ next (codes " ") (piece _ c.push_str.ensures.bytes c.name_of_cond.ensures.name
+    ∙ next (cond_name (cond_number c.args.cond)) c.begin.ensures.bytes))

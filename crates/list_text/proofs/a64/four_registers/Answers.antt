@@ -17,4 +17,7 @@ comma_x-requires-3 c = omega (arith, c.begin_x.ensures.len, c.comma_x.ensures.le
 
 pub returns : goal.returns
 returns c =
-      c.comma_x-3.ensures.bytes ∙ next (x_register c.args.ra.number) (next comma (c.comma_x-2.ensures.bytes ∙ next (x_register c.args.rm.number) (next comma (c.comma_x.ensures.bytes ∙ next (x_register c.args.rn.number) (next comma c.begin_x.ensures.bytes)))))
+    c.comma_x-3.ensures.bytes
+    ∙ next (x_register c.args.ra.number) (next comma (c.comma_x-2.ensures.bytes
+    ∙ next (x_register c.args.rm.number) (next comma (c.comma_x.ensures.bytes
+    ∙ next (x_register c.args.rn.number) (next comma c.begin_x.ensures.bytes)))))

@@ -38,10 +38,14 @@ pub returns-in-LdrX : goal.returns-in-LdrX
 returns-in-LdrX c = c.x_at_offset.ensures ∙ ap (λ o. a64_text (instruction_view (A64.LoadStoreImmediate o c.args.rt c.args.rn c.args.imm12))) (sym c.in-LdrX.is)
 
 pub returns-in-Ldrsh : goal.returns-in-Ldrsh
-returns-in-Ldrsh c = c.x_at_offset-in-Ldrsh.ensures ∙ ap (λ o. a64_text (instruction_view (A64.LoadStoreImmediate o c.args.rt c.args.rn c.args.imm12))) (sym c.in-Ldrsh.is)
+returns-in-Ldrsh c =
+    c.x_at_offset-in-Ldrsh.ensures
+    ∙ ap (λ o. a64_text (instruction_view (A64.LoadStoreImmediate o c.args.rt c.args.rn c.args.imm12))) (sym c.in-Ldrsh.is)
 
 pub returns-in-Ldrsw : goal.returns-in-Ldrsw
-returns-in-Ldrsw c = c.x_at_offset-in-Ldrsw.ensures ∙ ap (λ o. a64_text (instruction_view (A64.LoadStoreImmediate o c.args.rt c.args.rn c.args.imm12))) (sym c.in-Ldrsw.is)
+returns-in-Ldrsw c =
+    c.x_at_offset-in-Ldrsw.ensures
+    ∙ ap (λ o. a64_text (instruction_view (A64.LoadStoreImmediate o c.args.rt c.args.rn c.args.imm12))) (sym c.in-Ldrsw.is)
 
 pub returns-in-Strh : goal.returns-in-Strh
 returns-in-Strh c = c.w_at_offset-in-Strh.ensures ∙ ap (λ o. a64_text (instruction_view (A64.LoadStoreImmediate o c.args.rt c.args.rn c.args.imm12))) (sym c.in-Strh.is)

@@ -29,25 +29,41 @@ pub x_at_register-requires-in-StrX : goal.x_at_register-requires-in-StrX
 x_at_register-requires-in-StrX c = record { short = lit≤ tt; sized = lit≤ tt }
 
 pub returns-in-Ldrh : goal.returns-in-Ldrh
-returns-in-Ldrh c = c.w_at_register.ensures ∙ ap (λ o. a64_text (instruction_view (A64.LoadStoreRegister o c.args.rt c.args.rn c.args.scaled c.args.rm))) (sym c.in-Ldrh.is)
+returns-in-Ldrh c =
+    c.w_at_register.ensures
+    ∙ ap (λ o. a64_text (instruction_view (A64.LoadStoreRegister o c.args.rt c.args.rn c.args.scaled c.args.rm))) (sym c.in-Ldrh.is)
 
 pub returns-in-LdrW : goal.returns-in-LdrW
-returns-in-LdrW c = c.w_at_register-in-LdrW.ensures ∙ ap (λ o. a64_text (instruction_view (A64.LoadStoreRegister o c.args.rt c.args.rn c.args.scaled c.args.rm))) (sym c.in-LdrW.is)
+returns-in-LdrW c =
+    c.w_at_register-in-LdrW.ensures
+    ∙ ap (λ o. a64_text (instruction_view (A64.LoadStoreRegister o c.args.rt c.args.rn c.args.scaled c.args.rm))) (sym c.in-LdrW.is)
 
 pub returns-in-LdrX : goal.returns-in-LdrX
-returns-in-LdrX c = c.x_at_register.ensures ∙ ap (λ o. a64_text (instruction_view (A64.LoadStoreRegister o c.args.rt c.args.rn c.args.scaled c.args.rm))) (sym c.in-LdrX.is)
+returns-in-LdrX c =
+    c.x_at_register.ensures
+    ∙ ap (λ o. a64_text (instruction_view (A64.LoadStoreRegister o c.args.rt c.args.rn c.args.scaled c.args.rm))) (sym c.in-LdrX.is)
 
 pub returns-in-Ldrsh : goal.returns-in-Ldrsh
-returns-in-Ldrsh c = c.x_at_register-in-Ldrsh.ensures ∙ ap (λ o. a64_text (instruction_view (A64.LoadStoreRegister o c.args.rt c.args.rn c.args.scaled c.args.rm))) (sym c.in-Ldrsh.is)
+returns-in-Ldrsh c =
+    c.x_at_register-in-Ldrsh.ensures
+    ∙ ap (λ o. a64_text (instruction_view (A64.LoadStoreRegister o c.args.rt c.args.rn c.args.scaled c.args.rm))) (sym c.in-Ldrsh.is)
 
 pub returns-in-Ldrsw : goal.returns-in-Ldrsw
-returns-in-Ldrsw c = c.x_at_register-in-Ldrsw.ensures ∙ ap (λ o. a64_text (instruction_view (A64.LoadStoreRegister o c.args.rt c.args.rn c.args.scaled c.args.rm))) (sym c.in-Ldrsw.is)
+returns-in-Ldrsw c =
+    c.x_at_register-in-Ldrsw.ensures
+    ∙ ap (λ o. a64_text (instruction_view (A64.LoadStoreRegister o c.args.rt c.args.rn c.args.scaled c.args.rm))) (sym c.in-Ldrsw.is)
 
 pub returns-in-Strh : goal.returns-in-Strh
-returns-in-Strh c = c.w_at_register-in-Strh.ensures ∙ ap (λ o. a64_text (instruction_view (A64.LoadStoreRegister o c.args.rt c.args.rn c.args.scaled c.args.rm))) (sym c.in-Strh.is)
+returns-in-Strh c =
+    c.w_at_register-in-Strh.ensures
+    ∙ ap (λ o. a64_text (instruction_view (A64.LoadStoreRegister o c.args.rt c.args.rn c.args.scaled c.args.rm))) (sym c.in-Strh.is)
 
 pub returns-in-StrW : goal.returns-in-StrW
-returns-in-StrW c = c.w_at_register-in-StrW.ensures ∙ ap (λ o. a64_text (instruction_view (A64.LoadStoreRegister o c.args.rt c.args.rn c.args.scaled c.args.rm))) (sym c.in-StrW.is)
+returns-in-StrW c =
+    c.w_at_register-in-StrW.ensures
+    ∙ ap (λ o. a64_text (instruction_view (A64.LoadStoreRegister o c.args.rt c.args.rn c.args.scaled c.args.rm))) (sym c.in-StrW.is)
 
 pub returns-in-StrX : goal.returns-in-StrX
-returns-in-StrX c = c.x_at_register-in-StrX.ensures ∙ ap (λ o. a64_text (instruction_view (A64.LoadStoreRegister o c.args.rt c.args.rn c.args.scaled c.args.rm))) (sym c.in-StrX.is)
+returns-in-StrX c =
+    c.x_at_register-in-StrX.ensures
+    ∙ ap (λ o. a64_text (instruction_view (A64.LoadStoreRegister o c.args.rt c.args.rn c.args.scaled c.args.rm))) (sym c.in-StrX.is)

@@ -21,4 +21,8 @@ push_str-requires-2 c = omega (arith, c.begin_x.ensures.len, c.comma_x.ensures.l
 
 pub returns : goal.returns
 returns c =
-      piece _ c.push_str-2.ensures.bytes c.name_of_cond.ensures.name ∙ next (cond_name (cond_number c.args.cond)) (c.push_str.ensures.bytes ∙ next (codes ", ") (c.comma_x-2.ensures.bytes ∙ next (x_register c.args.rm.number) (next comma (c.comma_x.ensures.bytes ∙ next (x_register c.args.rn.number) (next comma c.begin_x.ensures.bytes)))))
+    piece _ c.push_str-2.ensures.bytes c.name_of_cond.ensures.name
+    ∙ next (cond_name (cond_number c.args.cond)) (c.push_str.ensures.bytes
+    ∙ next (codes ", ") (c.comma_x-2.ensures.bytes
+    ∙ next (x_register c.args.rm.number) (next comma (c.comma_x.ensures.bytes
+    ∙ next (x_register c.args.rn.number) (next comma c.begin_x.ensures.bytes)))))

@@ -20,5 +20,9 @@ push_str-requires-2 c = omega (arith, c.requires.room, c.push_str.ensures.len, c
 
 pub returns : goal.returns
 returns c =
-      c.push_str-2.ensures.bytes ∙ next (codes "]") (c.push_lsl.ensures.bytes ∙ next (lsl_by c.args.shift) (c.comma_x.ensures.bytes ∙ next (x_register c.args.offset.number) (next comma (c.push_x_or_sp.ensures.bytes ∙ next (x_or_sp c.args.base.number) c.push_str.ensures.bytes))))
-      ∙ in_six c.args.into.now.bytes (codes ", [") (x_or_sp c.args.base.number) comma (x_register c.args.offset.number) (lsl_by c.args.shift) (codes "]")
+    c.push_str-2.ensures.bytes
+    ∙ next (codes "]") (c.push_lsl.ensures.bytes
+    ∙ next (lsl_by c.args.shift) (c.comma_x.ensures.bytes
+    ∙ next (x_register c.args.offset.number) (next comma (c.push_x_or_sp.ensures.bytes
+    ∙ next (x_or_sp c.args.base.number) c.push_str.ensures.bytes))))
+    ∙ in_six c.args.into.now.bytes (codes ", [") (x_or_sp c.args.base.number) comma (x_register c.args.offset.number) (lsl_by c.args.shift) (codes "]")

@@ -17,5 +17,8 @@ push_str-requires-2 c = omega (arith, c.requires, c.push_str.ensures.len, c.push
 
 pub returns : goal.returns
 returns c =
-      c.push_str-2.ensures.bytes ∙ next (codes "]") (c.comma_z.ensures.bytes ∙ next (z_register 3 c.args.offsets.number) (next comma (c.push_x_or_sp.ensures.bytes ∙ next (x_or_sp c.args.base.number) c.push_str.ensures.bytes)))
-      ∙ in_five c.args.into.now.bytes (codes ", [") (x_or_sp c.args.base.number) comma (z_register 3 c.args.offsets.number) (codes "]")
+    c.push_str-2.ensures.bytes
+    ∙ next (codes "]") (c.comma_z.ensures.bytes
+    ∙ next (z_register 3 c.args.offsets.number) (next comma (c.push_x_or_sp.ensures.bytes
+    ∙ next (x_or_sp c.args.base.number) c.push_str.ensures.bytes)))
+    ∙ in_five c.args.into.now.bytes (codes ", [") (x_or_sp c.args.base.number) comma (z_register 3 c.args.offsets.number) (codes "]")

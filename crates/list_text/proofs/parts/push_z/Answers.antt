@@ -16,7 +16,9 @@ push_str-requires-2 c = omega (arith, c.requires, c.push_str.ensures.len, c.push
 pub returns : goal.returns
 returns c = record {
   bytes =
-      piece _ c.push_str-2.ensures.bytes c.dotted_of.ensures.name ∙ next (dotted (size_number c.args.size)) (c.push_decimal.ensures.bytes ∙ next (decimal c.args.register.number) c.push_str.ensures.bytes)
+      piece _ c.push_str-2.ensures.bytes c.dotted_of.ensures.name
+      ∙ next (dotted (size_number c.args.size)) (c.push_decimal.ensures.bytes
+      ∙ next (decimal c.args.register.number) c.push_str.ensures.bytes)
       ∙ in_three c.args.into.now.bytes (codes "z") (decimal c.args.register.number) (dotted (size_number c.args.size));
   len = omega (arith, c.requires, c.push_str.ensures.len, c.push_decimal.ensures.short (omega (arith, c.args.register.in_range)), c.push_str-2.ensures.len, c.dotted_of.ensures.len);
 }

@@ -18,4 +18,7 @@ push_str-requires c = omega (arith, c.begin_x.ensures.len, c.comma_p.ensures.len
 
 pub returns : goal.returns
 returns c =
-      piece _ c.push_str.ensures.bytes c.dotted_of.ensures.name ∙ next (dotted (size_number c.args.size)) (c.comma_p-2.ensures.bytes ∙ next (p_register c.args.pn.number) (next comma (c.comma_p.ensures.bytes ∙ next (p_register c.args.pg.number) (next comma c.begin_x.ensures.bytes))))
+    piece _ c.push_str.ensures.bytes c.dotted_of.ensures.name
+    ∙ next (dotted (size_number c.args.size)) (c.comma_p-2.ensures.bytes
+    ∙ next (p_register c.args.pn.number) (next comma (c.comma_p.ensures.bytes
+    ∙ next (p_register c.args.pg.number) (next comma c.begin_x.ensures.bytes))))

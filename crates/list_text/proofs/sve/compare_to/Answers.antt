@@ -24,4 +24,9 @@ comma_z-requires c = omega (arith, c.begin_p.ensures.len, c.push_str.ensures.len
 
 pub returns : goal.returns
 returns c =
-      c.comma_z.ensures.bytes ∙ next (z_register (size_number c.args.size) c.args.zm.number) (next comma (c.push_z.ensures.bytes ∙ next (z_register (size_number c.args.size) c.args.zn.number) (c.push_str-2.ensures.bytes ∙ next (codes "/z, ") (c.comma_p.ensures.bytes ∙ next (p_register c.args.pg.number) (next comma (piece _ c.push_str.ensures.bytes c.dotted_of.ensures.name ∙ next (dotted (size_number c.args.size)) c.begin_p.ensures.bytes))))))
+    c.comma_z.ensures.bytes
+    ∙ next (z_register (size_number c.args.size) c.args.zm.number) (next comma (c.push_z.ensures.bytes
+    ∙ next (z_register (size_number c.args.size) c.args.zn.number) (c.push_str-2.ensures.bytes
+    ∙ next (codes "/z, ") (c.comma_p.ensures.bytes
+    ∙ next (p_register c.args.pg.number) (next comma (piece _ c.push_str.ensures.bytes c.dotted_of.ensures.name
+    ∙ next (dotted (size_number c.args.size)) c.begin_p.ensures.bytes))))))

@@ -26,16 +26,26 @@ pub returns-in-Hs : goal.returns-in-Hs
 returns-in-Hs c = c.compare_to.ensures ∙ ap (λ o. sve_text (instruction_view (Sve.CompareVectors o c.args.pd c.args.zn c.args.pg c.args.zm c.args.size))) (sym c.in-Hs.is)
 
 pub returns-in-Hi : goal.returns-in-Hi
-returns-in-Hi c = c.compare_to-in-Hi.ensures ∙ ap (λ o. sve_text (instruction_view (Sve.CompareVectors o c.args.pd c.args.zn c.args.pg c.args.zm c.args.size))) (sym c.in-Hi.is)
+returns-in-Hi c =
+    c.compare_to-in-Hi.ensures
+    ∙ ap (λ o. sve_text (instruction_view (Sve.CompareVectors o c.args.pd c.args.zn c.args.pg c.args.zm c.args.size))) (sym c.in-Hi.is)
 
 pub returns-in-Ge : goal.returns-in-Ge
-returns-in-Ge c = c.compare_to-in-Ge.ensures ∙ ap (λ o. sve_text (instruction_view (Sve.CompareVectors o c.args.pd c.args.zn c.args.pg c.args.zm c.args.size))) (sym c.in-Ge.is)
+returns-in-Ge c =
+    c.compare_to-in-Ge.ensures
+    ∙ ap (λ o. sve_text (instruction_view (Sve.CompareVectors o c.args.pd c.args.zn c.args.pg c.args.zm c.args.size))) (sym c.in-Ge.is)
 
 pub returns-in-Gt : goal.returns-in-Gt
-returns-in-Gt c = c.compare_to-in-Gt.ensures ∙ ap (λ o. sve_text (instruction_view (Sve.CompareVectors o c.args.pd c.args.zn c.args.pg c.args.zm c.args.size))) (sym c.in-Gt.is)
+returns-in-Gt c =
+    c.compare_to-in-Gt.ensures
+    ∙ ap (λ o. sve_text (instruction_view (Sve.CompareVectors o c.args.pd c.args.zn c.args.pg c.args.zm c.args.size))) (sym c.in-Gt.is)
 
 pub returns-in-Eq : goal.returns-in-Eq
-returns-in-Eq c = c.compare_to-in-Eq.ensures ∙ ap (λ o. sve_text (instruction_view (Sve.CompareVectors o c.args.pd c.args.zn c.args.pg c.args.zm c.args.size))) (sym c.in-Eq.is)
+returns-in-Eq c =
+    c.compare_to-in-Eq.ensures
+    ∙ ap (λ o. sve_text (instruction_view (Sve.CompareVectors o c.args.pd c.args.zn c.args.pg c.args.zm c.args.size))) (sym c.in-Eq.is)
 
 pub returns-in-Ne : goal.returns-in-Ne
-returns-in-Ne c = c.compare_to-in-Ne.ensures ∙ ap (λ o. sve_text (instruction_view (Sve.CompareVectors o c.args.pd c.args.zn c.args.pg c.args.zm c.args.size))) (sym c.in-Ne.is)
+returns-in-Ne c =
+    c.compare_to-in-Ne.ensures
+    ∙ ap (λ o. sve_text (instruction_view (Sve.CompareVectors o c.args.pd c.args.zn c.args.pg c.args.zm c.args.size))) (sym c.in-Ne.is)

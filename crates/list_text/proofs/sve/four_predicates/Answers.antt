@@ -29,4 +29,11 @@ push_str-requires-4 c = omega (arith, c.begin_p.ensures.len, c.push_str.ensures.
 
 pub returns : goal.returns
 returns c =
-      c.push_str-4.ensures.bytes ∙ next (codes ".b") (c.push_p-3.ensures.bytes ∙ next (p_register c.args.pm.number) (c.push_str-3.ensures.bytes ∙ next (codes ".b, ") (c.push_p-2.ensures.bytes ∙ next (p_register c.args.pn.number) (c.push_str-2.ensures.bytes ∙ next (codes "/z, ") (c.push_p.ensures.bytes ∙ next (p_register c.args.pg.number) (c.push_str.ensures.bytes ∙ next (codes ".b, ") c.begin_p.ensures.bytes))))))
+    c.push_str-4.ensures.bytes
+    ∙ next (codes ".b") (c.push_p-3.ensures.bytes
+    ∙ next (p_register c.args.pm.number) (c.push_str-3.ensures.bytes
+    ∙ next (codes ".b, ") (c.push_p-2.ensures.bytes
+    ∙ next (p_register c.args.pn.number) (c.push_str-2.ensures.bytes
+    ∙ next (codes "/z, ") (c.push_p.ensures.bytes
+    ∙ next (p_register c.args.pg.number) (c.push_str.ensures.bytes
+    ∙ next (codes ".b, ") c.begin_p.ensures.bytes))))))

@@ -18,4 +18,7 @@ push_z-requires c = omega (arith, c.begin_z.ensures.len, c.comma_p.ensures.len, 
 
 pub returns : goal.returns
 returns c =
-      c.push_z.ensures.bytes ∙ next (z_register (size_number c.args.size) c.args.zn.number) (c.push_str.ensures.bytes ∙ next (codes "/m, ") (c.comma_p.ensures.bytes ∙ next (p_register c.args.pg.number) (next comma c.begin_z.ensures.bytes)))
+    c.push_z.ensures.bytes
+    ∙ next (z_register (size_number c.args.size) c.args.zn.number) (c.push_str.ensures.bytes
+    ∙ next (codes "/m, ") (c.comma_p.ensures.bytes
+    ∙ next (p_register c.args.pg.number) (next comma c.begin_z.ensures.bytes)))

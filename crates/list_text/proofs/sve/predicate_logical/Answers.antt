@@ -23,13 +23,21 @@ pub returns-in-And : goal.returns-in-And
 returns-in-And c = c.four_predicates.ensures ∙ ap (λ o. sve_text (instruction_view (Sve.PredicateLogical o c.args.pd c.args.pn c.args.pg c.args.pm))) (sym c.in-And.is)
 
 pub returns-in-Bic : goal.returns-in-Bic
-returns-in-Bic c = c.four_predicates-in-Bic.ensures ∙ ap (λ o. sve_text (instruction_view (Sve.PredicateLogical o c.args.pd c.args.pn c.args.pg c.args.pm))) (sym c.in-Bic.is)
+returns-in-Bic c =
+    c.four_predicates-in-Bic.ensures
+    ∙ ap (λ o. sve_text (instruction_view (Sve.PredicateLogical o c.args.pd c.args.pn c.args.pg c.args.pm))) (sym c.in-Bic.is)
 
 pub returns-in-Eor : goal.returns-in-Eor
-returns-in-Eor c = c.four_predicates-in-Eor.ensures ∙ ap (λ o. sve_text (instruction_view (Sve.PredicateLogical o c.args.pd c.args.pn c.args.pg c.args.pm))) (sym c.in-Eor.is)
+returns-in-Eor c =
+    c.four_predicates-in-Eor.ensures
+    ∙ ap (λ o. sve_text (instruction_view (Sve.PredicateLogical o c.args.pd c.args.pn c.args.pg c.args.pm))) (sym c.in-Eor.is)
 
 pub returns-in-Orr : goal.returns-in-Orr
-returns-in-Orr c = c.four_predicates-in-Orr.ensures ∙ ap (λ o. sve_text (instruction_view (Sve.PredicateLogical o c.args.pd c.args.pn c.args.pg c.args.pm))) (sym c.in-Orr.is)
+returns-in-Orr c =
+    c.four_predicates-in-Orr.ensures
+    ∙ ap (λ o. sve_text (instruction_view (Sve.PredicateLogical o c.args.pd c.args.pn c.args.pg c.args.pm))) (sym c.in-Orr.is)
 
 pub returns-in-Ands : goal.returns-in-Ands
-returns-in-Ands c = c.four_predicates-in-Ands.ensures ∙ ap (λ o. sve_text (instruction_view (Sve.PredicateLogical o c.args.pd c.args.pn c.args.pg c.args.pm))) (sym c.in-Ands.is)
+returns-in-Ands c =
+    c.four_predicates-in-Ands.ensures
+    ∙ ap (λ o. sve_text (instruction_view (Sve.PredicateLogical o c.args.pd c.args.pn c.args.pg c.args.pm))) (sym c.in-Ands.is)

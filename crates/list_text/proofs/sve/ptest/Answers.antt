@@ -14,4 +14,4 @@ push_str-requires c = omega (arith, c.begin_p.ensures.len, c.comma_p.ensures.len
 
 pub returns : goal.returns
 returns c =
-      c.push_str.ensures.bytes ∙ next (codes ".b") (c.comma_p.ensures.bytes ∙ next (p_register c.args.pn.number) (next comma c.begin_p.ensures.bytes))
+    c.push_str.ensures.bytes ∙ next (codes ".b") (c.comma_p.ensures.bytes ∙ next (p_register c.args.pn.number) (next comma c.begin_p.ensures.bytes))

@@ -22,7 +22,11 @@ push_str-requires-3 c = omega (arith, c.requires, c.push_str.ensures.len, c.push
 pub returns : goal.returns
 returns c = record {
   bytes =
-      c.push_str-3.ensures.bytes ∙ next (codes "/z") (c.push_p.ensures.bytes ∙ next (p_register c.args.pg.number) (c.push_str-2.ensures.bytes ∙ next (codes "}, ") (c.push_z.ensures.bytes ∙ next (z_register (size_number c.args.size) c.args.zt.number) c.push_str.ensures.bytes)))
+      c.push_str-3.ensures.bytes
+      ∙ next (codes "/z") (c.push_p.ensures.bytes
+      ∙ next (p_register c.args.pg.number) (c.push_str-2.ensures.bytes
+      ∙ next (codes "}, ") (c.push_z.ensures.bytes
+      ∙ next (z_register (size_number c.args.size) c.args.zt.number) c.push_str.ensures.bytes)))
       ∙ in_five c.args.into.now.bytes (codes " {") (z_register (size_number c.args.size) c.args.zt.number) (codes "}, ") (p_register c.args.pg.number) (codes "/z");
   len = omega (arith, c.requires, c.push_str.ensures.len, c.push_z.ensures.len, c.push_str-2.ensures.len, c.push_p.ensures.len, c.push_str-3.ensures.len);
 }

@@ -33,22 +33,43 @@ pub returns-in-Uaddv : goal.returns-in-Uaddv
 returns-in-Uaddv c = c.reduction_to.ensures ∙ ap (λ o. sve_text (instruction_view (Sve.Reduction o c.args.zd c.args.zn c.args.pg c.args.size))) (sym c.in-Uaddv.is)
 
 pub returns-in-Smaxv : goal.returns-in-Smaxv
-returns-in-Smaxv c = c.reduction_to-in-Smaxv.ensures ∙ ap (λ l. reduction (codes "smaxv ") l (c.args.zd.number ∷ c.args.zn.number ∷ c.args.pg.number ∷ size_number c.args.size ∷ [])) c.letter_of.ensures.name ∙ ap (λ o. sve_text (instruction_view (Sve.Reduction o c.args.zd c.args.zn c.args.pg c.args.size))) (sym c.in-Smaxv.is)
+returns-in-Smaxv c =
+    c.reduction_to-in-Smaxv.ensures
+    ∙ ap (λ l. reduction (codes "smaxv ") l (c.args.zd.number ∷ c.args.zn.number ∷ c.args.pg.number ∷ size_number c.args.size ∷ [])) c.letter_of.ensures.name
+    ∙ ap (λ o. sve_text (instruction_view (Sve.Reduction o c.args.zd c.args.zn c.args.pg c.args.size))) (sym c.in-Smaxv.is)
 
 pub returns-in-Umaxv : goal.returns-in-Umaxv
-returns-in-Umaxv c = c.reduction_to-in-Umaxv.ensures ∙ ap (λ l. reduction (codes "umaxv ") l (c.args.zd.number ∷ c.args.zn.number ∷ c.args.pg.number ∷ size_number c.args.size ∷ [])) c.letter_of-in-Umaxv.ensures.name ∙ ap (λ o. sve_text (instruction_view (Sve.Reduction o c.args.zd c.args.zn c.args.pg c.args.size))) (sym c.in-Umaxv.is)
+returns-in-Umaxv c =
+    c.reduction_to-in-Umaxv.ensures
+    ∙ ap (λ l. reduction (codes "umaxv ") l (c.args.zd.number ∷ c.args.zn.number ∷ c.args.pg.number ∷ size_number c.args.size ∷ [])) c.letter_of-in-Umaxv.ensures.name
+    ∙ ap (λ o. sve_text (instruction_view (Sve.Reduction o c.args.zd c.args.zn c.args.pg c.args.size))) (sym c.in-Umaxv.is)
 
 pub returns-in-Sminv : goal.returns-in-Sminv
-returns-in-Sminv c = c.reduction_to-in-Sminv.ensures ∙ ap (λ l. reduction (codes "sminv ") l (c.args.zd.number ∷ c.args.zn.number ∷ c.args.pg.number ∷ size_number c.args.size ∷ [])) c.letter_of-in-Sminv.ensures.name ∙ ap (λ o. sve_text (instruction_view (Sve.Reduction o c.args.zd c.args.zn c.args.pg c.args.size))) (sym c.in-Sminv.is)
+returns-in-Sminv c =
+    c.reduction_to-in-Sminv.ensures
+    ∙ ap (λ l. reduction (codes "sminv ") l (c.args.zd.number ∷ c.args.zn.number ∷ c.args.pg.number ∷ size_number c.args.size ∷ [])) c.letter_of-in-Sminv.ensures.name
+    ∙ ap (λ o. sve_text (instruction_view (Sve.Reduction o c.args.zd c.args.zn c.args.pg c.args.size))) (sym c.in-Sminv.is)
 
 pub returns-in-Uminv : goal.returns-in-Uminv
-returns-in-Uminv c = c.reduction_to-in-Uminv.ensures ∙ ap (λ l. reduction (codes "uminv ") l (c.args.zd.number ∷ c.args.zn.number ∷ c.args.pg.number ∷ size_number c.args.size ∷ [])) c.letter_of-in-Uminv.ensures.name ∙ ap (λ o. sve_text (instruction_view (Sve.Reduction o c.args.zd c.args.zn c.args.pg c.args.size))) (sym c.in-Uminv.is)
+returns-in-Uminv c =
+    c.reduction_to-in-Uminv.ensures
+    ∙ ap (λ l. reduction (codes "uminv ") l (c.args.zd.number ∷ c.args.zn.number ∷ c.args.pg.number ∷ size_number c.args.size ∷ [])) c.letter_of-in-Uminv.ensures.name
+    ∙ ap (λ o. sve_text (instruction_view (Sve.Reduction o c.args.zd c.args.zn c.args.pg c.args.size))) (sym c.in-Uminv.is)
 
 pub returns-in-Orv : goal.returns-in-Orv
-returns-in-Orv c = c.reduction_to-in-Orv.ensures ∙ ap (λ l. reduction (codes "orv ") l (c.args.zd.number ∷ c.args.zn.number ∷ c.args.pg.number ∷ size_number c.args.size ∷ [])) c.letter_of-in-Orv.ensures.name ∙ ap (λ o. sve_text (instruction_view (Sve.Reduction o c.args.zd c.args.zn c.args.pg c.args.size))) (sym c.in-Orv.is)
+returns-in-Orv c =
+    c.reduction_to-in-Orv.ensures
+    ∙ ap (λ l. reduction (codes "orv ") l (c.args.zd.number ∷ c.args.zn.number ∷ c.args.pg.number ∷ size_number c.args.size ∷ [])) c.letter_of-in-Orv.ensures.name
+    ∙ ap (λ o. sve_text (instruction_view (Sve.Reduction o c.args.zd c.args.zn c.args.pg c.args.size))) (sym c.in-Orv.is)
 
 pub returns-in-Eorv : goal.returns-in-Eorv
-returns-in-Eorv c = c.reduction_to-in-Eorv.ensures ∙ ap (λ l. reduction (codes "eorv ") l (c.args.zd.number ∷ c.args.zn.number ∷ c.args.pg.number ∷ size_number c.args.size ∷ [])) c.letter_of-in-Eorv.ensures.name ∙ ap (λ o. sve_text (instruction_view (Sve.Reduction o c.args.zd c.args.zn c.args.pg c.args.size))) (sym c.in-Eorv.is)
+returns-in-Eorv c =
+    c.reduction_to-in-Eorv.ensures
+    ∙ ap (λ l. reduction (codes "eorv ") l (c.args.zd.number ∷ c.args.zn.number ∷ c.args.pg.number ∷ size_number c.args.size ∷ [])) c.letter_of-in-Eorv.ensures.name
+    ∙ ap (λ o. sve_text (instruction_view (Sve.Reduction o c.args.zd c.args.zn c.args.pg c.args.size))) (sym c.in-Eorv.is)
 
 pub returns-in-Andv : goal.returns-in-Andv
-returns-in-Andv c = c.reduction_to-in-Andv.ensures ∙ ap (λ l. reduction (codes "andv ") l (c.args.zd.number ∷ c.args.zn.number ∷ c.args.pg.number ∷ size_number c.args.size ∷ [])) c.letter_of-in-Andv.ensures.name ∙ ap (λ o. sve_text (instruction_view (Sve.Reduction o c.args.zd c.args.zn c.args.pg c.args.size))) (sym c.in-Andv.is)
+returns-in-Andv c =
+    c.reduction_to-in-Andv.ensures
+    ∙ ap (λ l. reduction (codes "andv ") l (c.args.zd.number ∷ c.args.zn.number ∷ c.args.pg.number ∷ size_number c.args.size ∷ [])) c.letter_of-in-Andv.ensures.name
+    ∙ ap (λ o. sve_text (instruction_view (Sve.Reduction o c.args.zd c.args.zn c.args.pg c.args.size))) (sym c.in-Andv.is)

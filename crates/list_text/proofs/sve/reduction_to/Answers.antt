@@ -21,4 +21,8 @@ comma_z-requires c = omega (arith, c.begin.ensures.len, c.push_str.ensures.len, 
 
 pub returns : goal.returns
 returns c =
-      c.comma_z.ensures.bytes ∙ next (z_register (size_number c.args.size) c.args.zn.number) (next comma (c.comma_p.ensures.bytes ∙ next (p_register c.args.pg.number) (next comma (c.push_decimal.ensures.bytes ∙ next (decimal c.args.zd.number) (c.push_str.ensures.bytes ∙ next c.args.letter.now c.begin.ensures.bytes)))))
+    c.comma_z.ensures.bytes
+    ∙ next (z_register (size_number c.args.size) c.args.zn.number) (next comma (c.comma_p.ensures.bytes
+    ∙ next (p_register c.args.pg.number) (next comma (c.push_decimal.ensures.bytes
+    ∙ next (decimal c.args.zd.number) (c.push_str.ensures.bytes
+    ∙ next c.args.letter.now c.begin.ensures.bytes)))))

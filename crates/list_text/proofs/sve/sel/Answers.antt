@@ -18,4 +18,7 @@ comma_z-requires-2 c = omega (arith, c.begin_z.ensures.len, c.comma_p.ensures.le
 
 pub returns : goal.returns
 returns c =
-      c.comma_z-2.ensures.bytes ∙ next (z_register (size_number c.args.size) c.args.zm.number) (next comma (c.comma_z.ensures.bytes ∙ next (z_register (size_number c.args.size) c.args.zn.number) (next comma (c.comma_p.ensures.bytes ∙ next (p_register c.args.pg.number) (next comma c.begin_z.ensures.bytes)))))
+    c.comma_z-2.ensures.bytes
+    ∙ next (z_register (size_number c.args.size) c.args.zm.number) (next comma (c.comma_z.ensures.bytes
+    ∙ next (z_register (size_number c.args.size) c.args.zn.number) (next comma (c.comma_p.ensures.bytes
+    ∙ next (p_register c.args.pg.number) (next comma c.begin_z.ensures.bytes)))))

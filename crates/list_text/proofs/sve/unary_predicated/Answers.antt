@@ -17,7 +17,11 @@ pub returns-in-Abs : goal.returns-in-Abs
 returns-in-Abs c = c.merging_unary.ensures ∙ ap (λ o. sve_text (instruction_view (Sve.UnaryPredicated o c.args.zd c.args.zn c.args.pg c.args.size))) (sym c.in-Abs.is)
 
 pub returns-in-Neg : goal.returns-in-Neg
-returns-in-Neg c = c.merging_unary-in-Neg.ensures ∙ ap (λ o. sve_text (instruction_view (Sve.UnaryPredicated o c.args.zd c.args.zn c.args.pg c.args.size))) (sym c.in-Neg.is)
+returns-in-Neg c =
+    c.merging_unary-in-Neg.ensures
+    ∙ ap (λ o. sve_text (instruction_view (Sve.UnaryPredicated o c.args.zd c.args.zn c.args.pg c.args.size))) (sym c.in-Neg.is)
 
 pub returns-in-Not : goal.returns-in-Not
-returns-in-Not c = c.merging_unary-in-Not.ensures ∙ ap (λ o. sve_text (instruction_view (Sve.UnaryPredicated o c.args.zd c.args.zn c.args.pg c.args.size))) (sym c.in-Not.is)
+returns-in-Not c =
+    c.merging_unary-in-Not.ensures
+    ∙ ap (λ o. sve_text (instruction_view (Sve.UnaryPredicated o c.args.zd c.args.zn c.args.pg c.args.size))) (sym c.in-Not.is)

@@ -18,4 +18,7 @@ comma_x-requires-2 c = omega (arith, c.begin_p.ensures.len, c.push_str.ensures.l
 
 pub returns : goal.returns
 returns c =
-      c.comma_x-2.ensures.bytes ∙ next (x_register c.args.rm.number) (next comma (c.comma_x.ensures.bytes ∙ next (x_register c.args.rn.number) (next comma (piece _ c.push_str.ensures.bytes c.dotted_of.ensures.name ∙ next (dotted (size_number c.args.size)) c.begin_p.ensures.bytes))))
+    c.comma_x-2.ensures.bytes
+    ∙ next (x_register c.args.rm.number) (next comma (c.comma_x.ensures.bytes
+    ∙ next (x_register c.args.rn.number) (next comma (piece _ c.push_str.ensures.bytes c.dotted_of.ensures.name
+    ∙ next (dotted (size_number c.args.size)) c.begin_p.ensures.bytes))))
