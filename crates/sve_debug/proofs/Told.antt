@@ -1,8 +1,10 @@
 -- What is told of what a debugger holds is what its session answers.
-use Rattle.std.proofs.Common.{◌≡◌, ℕ, Bool, false, List, [], ◌∷◌, length, Option, Some, None, Result, Ok, Err, refl, sym, ap, ap₂, ◌∙◌, ◌==◌, if◌then◌else◌, codes}
-use Rattle.std.specs.Prelude.{IsErr, option_map}
+use Rattle.std.proofs.Common.{◌≡◌, ℕ, Bool, false, List, [], ◌∷◌, ◌++◌, subst, length, Option, Some, None, Result, Ok, Err, refl, sym, ap, ap₂, ◌∙◌, ◌==◌, if◌then◌else◌, codes}
+use Rattle.std.specs.Prelude.{IsErr, IfSome, OnOk, option_map}
 use Rattle.io_edges.specs.declared.sink.Failed.{Failed}
-use Rattle.io_edges.specs.Sink.{PutsText}
+use Rattle.io_edges.specs.Sink.{PutsText, GainsPart}
+use Rattle.sve_debug.specs.declared.session.SessionFault.{SessionFault}
+use Rattle.sve_debug.specs.Sessions.{Tells}
 use Rattle.machine_model.specs.Machine.{State}
 use Rattle.sve_debug.specs.declared.command.Command.{Command}
 use Rattle.sve_debug.specs.declared.command.Command.TheVariants.{Step, Go, Back, Break, Show, Quit}
@@ -40,3 +42,20 @@ puts_failed old new a b text (Ok done) failed result is err p = absurd cc
 puts_failed old new a b text (Err other) failed (Ok on) is err p = absurd cc
 puts_failed old new a b text (Err other) failed (Err again) is err p =
     record { all = tt; part = p.part; untold = p.untold; cause = record { later = p.cause.later; failed = p.cause.failed } }
+
+-- ---- what a session tells of it
+
+both : (P Q : List ℕ → Type 0) (o : Option (List ℕ)) → IfSome o P → IfSome o Q → IfSome o (λ bytes. P bytes × Q bytes)
+both P Q None p q = tt
+both P Q (Some bytes) p q = (p, q)
+
+pub tells_on : (old new : Option (List ℕ)) (a b : ℕ) (text : List ℕ) (result : Result Bool Failed) (on : Bool) → result ≡ Ok on → PutsText old new a b text result → Tells {T = Bool} old new text (Ok on)
+tells_on old new a b text result on is p =
+    both (λ bytes. new ≡ Some (bytes ++ text)) (λ bytes. GainsPart bytes new text) old (subst (λ r. OnOk r (IfSome old (λ bytes. new ≡ Some (bytes ++ text)))) is p.all) p.part
+
+pub tells_failed : (old new : Option (List ℕ)) (a b : ℕ) (text : List ℕ) (result : Result Bool Failed) (fault : SessionFault) → PutsText old new a b text result → Tells {T = Bool} old new text (Err fault)
+tells_failed old new a b text result fault p = both (λ bytes. Unit {0}) (λ bytes. GainsPart bytes new text) old (nothing old) p.part
+  where
+    nothing : (o : Option (List ℕ)) → IfSome o (λ bytes. Unit {0})
+    nothing None = tt
+    nothing (Some bytes) = tt
