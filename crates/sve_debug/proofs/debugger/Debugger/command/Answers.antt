@@ -48,3 +48,23 @@ returns-clause-told g c start d h =
     let whole = line_is c.args.line.now command d (sym c.is_empty.ensures ∙ c.if-is_empty.false) (sym c.command_of.ensures.value ∙ c.in-Some.is) in
     put_as _ _ _ _ _ _ _ (text ∙ whole)
     (puts_on (taken c.args.out.now) (taken c.answer.new.out) (faults c.args.out.now) (faults c.answer.new.out) _ c.answer.result c.in_ok-answer.field-0 _ c.in_ok-answer.was c.answer.ensures.text)
+
+-- ---- the session and its steps
+
+pub returns-clause-session : goal.returns-clause-session
+returns-clause-session g c start d h = subst (Stands c.answer.new.self start) (sym (ap (λ o. elim o [ Some command ↦ after_command command d | None ↦ d ]) (sym c.command_of.ensures.value ∙ c.in-Some.is))) (c.answer.ensures.session start d h)
+
+pub returns-clause-steps : goal.returns-clause-steps
+returns-clause-steps g c = c.answer.ensures.steps
+
+pub returns-in_err-answer-clause-session : goal.returns-in_err-answer-clause-session
+returns-in_err-answer-clause-session g c start d h = subst (Stands c.answer.new.self start) (sym (ap (λ o. elim o [ Some command ↦ after_command command d | None ↦ d ]) (sym c.command_of.ensures.value ∙ c.in-Some.is))) (c.answer.ensures.session start d h)
+
+pub returns-in_err-answer-clause-steps : goal.returns-in_err-answer-clause-steps
+returns-in_err-answer-clause-steps g c = c.answer.ensures.steps
+
+pub returns-in_default-clause-session : goal.returns-in_default-clause-session
+returns-in_default-clause-session g c start d h = subst (Stands c.args.self.now start) (sym (ap (λ o. elim o [ Some command ↦ after_command command d | None ↦ d ]) (sym c.command_of.ensures.value ∙ c.in_default.is))) h
+
+pub returns-in_err-put_line-clause-session : goal.returns-in_err-put_line-clause-session
+returns-in_err-put_line-clause-session g c start d h = subst (Stands c.args.self.now start) (sym (ap (λ o. elim o [ Some command ↦ after_command command d | None ↦ d ]) (sym c.command_of.ensures.value ∙ c.in_default.is))) h
