@@ -1,9 +1,10 @@
 -- What is told of what a debugger holds is what its session answers.
-use Rattle.std.proofs.Common.{◌≡◌, ℕ, Bool, false, List, [], ◌∷◌, ◌++◌, subst, length, Option, Some, None, Result, Ok, Err, refl, sym, ap, ap₂, ◌∙◌, ◌==◌, if◌then◌else◌, codes}
-use Rattle.std.specs.Prelude.{IsErr, IfSome, OnOk, option_map}
+use Rattle.std.proofs.Common.{◌≡◌, ℕ, Bool, true, false, List, [], ◌∷◌, ◌++◌, subst, length, Option, Some, None, Result, Ok, Err, refl, sym, ap, ap₂, ◌∙◌, ◌==◌, if◌then◌else◌, codes}
+use Rattle.std.specs.Prelude.{IsErr, not, IfSome, OnOk, option_map}
 use Rattle.io_edges.specs.declared.sink.Failed.{Failed}
 use Rattle.io_edges.specs.Sink.{PutsText, GainsPart}
 use Rattle.sve_debug.specs.declared.session.SessionFault.{SessionFault}
+use Rattle.sve_debug.specs.declared.session.SessionFault.TheVariants.{Input, Output}
 use Rattle.sve_debug.specs.Sessions.{Tells}
 use Rattle.machine_model.specs.Machine.{State}
 use Rattle.sve_debug.specs.declared.command.Command.{Command}
@@ -43,6 +44,15 @@ puts_failed old new a b text (Err other) failed (Ok on) is err p = absurd cc
 puts_failed old new a b text (Err other) failed (Err again) is err p =
     record { all = tt; part = p.part; untold = p.untold; cause = record { later = p.cause.later; failed = p.cause.failed } }
 
+-- whether steps back were done, and the text of what was answered
+pub went_back : (far gone : Bool) (x y : List ℕ) → gone ≡ not far → gone ≡ true → y ≡ (if far then x else y)
+went_back true gone x y is e = absurd cc
+went_back false gone x y is e = refl
+
+pub went_too_far : (far gone : Bool) (x y : List ℕ) → gone ≡ not far → gone ≡ false → x ≡ (if far then x else y)
+went_too_far true gone x y is e = refl
+went_too_far false gone x y is e = absurd cc
+
 -- ---- what a session tells of it
 
 both : (P Q : List ℕ → Type 0) (o : Option (List ℕ)) → IfSome o P → IfSome o Q → IfSome o (λ bytes. P bytes × Q bytes)
@@ -59,3 +69,9 @@ tells_failed old new a b text result fault p = both (λ bytes. Unit {0}) (λ byt
     nothing : (o : Option (List ℕ)) → IfSome o (λ bytes. Unit {0})
     nothing None = tt
     nothing (Some bytes) = tt
+
+pub ok_no_err : {T E : Type 0} (x : T) (y : E) → ◌≡◌ {A = Result T E} (Ok x) (Err y) → ⊥
+ok_no_err x y e = absurd cc
+
+pub output_no_input : {T : Type 0} → ◌≡◌ {A = Result T SessionFault} (Err Output) (Err Input) → ⊥
+output_no_input e = absurd cc
