@@ -1,6 +1,6 @@
 -- What is told of what a debugger holds is what its session answers.
 use Rattle.std.proofs.Common.{◌≡◌, ℕ, Bool, true, false, List, [], ◌∷◌, ◌++◌, subst, length, Option, Some, None, Result, Ok, Err, refl, sym, ap, ap₂, ◌∙◌, ◌==◌, if◌then◌else◌, codes}
-use Rattle.std.specs.Prelude.{IsErr, not, IfSome, OnOk, option_map}
+use Rattle.std.specs.Prelude.{IsErr, not, IfSome, OnOk, OnErr, option_map}
 use Rattle.io_edges.specs.declared.sink.Failed.{Failed}
 use Rattle.io_edges.specs.Sink.{PutsText, GainsPart}
 use Rattle.sve_debug.specs.declared.session.SessionFault.{SessionFault}
@@ -75,3 +75,7 @@ ok_no_err x y e = absurd cc
 
 pub output_no_input : {T : Type 0} → ◌≡◌ {A = Result T SessionFault} (Err Output) (Err Input) → ⊥
 output_no_input e = absurd cc
+
+pub errs : {T E P : Type 0} (r : Result T E) → P → OnErr r P
+errs (Ok x) p = tt
+errs (Err y) p = p

@@ -1,5 +1,5 @@
 use Rattle.std.proofs.Common.{rules, ◌≡◌, ℕ, ◌+◌, ◌-◌, ◌<◌, ◌≤◌, ◌++◌, List, Option, None, Some, length, take, Bool, true, false, refl, sym, ap, ◌∙◌, subst, arith}
-use Rattle.std.specs.Prelude.{is_some, is_none}
+use Rattle.std.specs.Prelude.{IsTrue, is_some, is_none}
 use Rattle.machine_model.specs.declared.outcome.Ending.{Ending}
 use Rattle.circular_buffer.specs.Buffer.{keep_last}
 use Rattle.sve_debug.specs.DebuggerState.{held_by}
@@ -173,3 +173,12 @@ pub returns-clause-steps : goal.returns-clause-steps
 returns-clause-steps g c =
     let exact = c.count-2.ensures.steps ∙ ap (λ m. m + c.min-most.result) c.loop-done.invariant.steps in
     omega (arith, exact, c.min-near.ensures, c.min-most.ensures)
+
+pub returns-then-not-goes_on-clause-quiet : goal.returns-then-not-goes_on-clause-quiet
+returns-then-not-goes_on-clause-quiet g c q = subst IsTrue (sym c.count.ensures.quiet) (c.goes_on.ensures.quiet (c.loop-done.invariant.quiet q))
+
+pub returns-then-is_stop-clause-quiet : goal.returns-then-is_stop-clause-quiet
+returns-then-is_stop-clause-quiet g c q = subst IsTrue (sym c.count-then-is_stop.ensures.quiet) (c.goes_on.ensures.quiet (c.loop-done.invariant.quiet q))
+
+pub returns-clause-quiet : goal.returns-clause-quiet
+returns-clause-quiet g c q = subst IsTrue (sym c.count-2.ensures.quiet) (c.loop-done.invariant.quiet q)

@@ -3,6 +3,8 @@ use Rattle.std.specs.Prelude.{not}
 use Rattle.std.proofs.lemmas.Result.{IfOk-from_err}
 use Rattle.sve_debug.specs.DebuggerState.{Stands}
 use Rattle.sve_debug.specs.Sessions.{Tells}
+use Rattle.sve_debug.specs.declared.session.SessionFault.TheVariants.{Input, Output}
+use Rattle.sve_debug.proofs.Told.{ok_no_err}
 use Rattle.sve_debug.proofs.ByteAnswers.{ended_after, ended_text, ended_quits, other_after, other_text, other_pending, other_goes_on, tells_cut, tells_nothing}
 use Rattle.sve_debug.proofs.session.answer_byte.Goals as goal
 
@@ -62,3 +64,29 @@ returns-clause-told g c start d h = tells_nothing {A = Bool} (g.S.Sink.taken c.a
 
 pub returns-clause-goes_on : goal.returns-clause-goes_on
 returns-clause-goes_on g c = ap not (other_goes_on c.args.line.now.items c.args.byte c.if-byte-eq10.false)
+
+-- ---- steps and faults
+
+pub returns-in_err-on-clause-later : goal.returns-in_err-on-clause-later
+returns-in_err-on-clause-later g c = c.tell.ensures.later
+
+pub returns-in_err-on-clause-steps : goal.returns-in_err-on-clause-steps
+returns-in_err-on-clause-steps g c = c.tell.ensures.steps
+
+pub returns-then-byte-eq10-clause-later : goal.returns-then-byte-eq10-clause-later
+returns-then-byte-eq10-clause-later g c = c.tell.ensures.later
+
+pub returns-then-byte-eq10-clause-steps : goal.returns-then-byte-eq10-clause-steps
+returns-then-byte-eq10-clause-steps g c = c.tell.ensures.steps
+
+pub returns-then-byte-eq10-clause-output : goal.returns-then-byte-eq10-clause-output
+returns-then-byte-eq10-clause-output g c e = absurd (ok_no_err c.in_ok-on.on Output e)
+
+pub returns-then-byte-eq10-clause-input : goal.returns-then-byte-eq10-clause-input
+returns-then-byte-eq10-clause-input g c e = ok_no_err c.in_ok-on.on Input e
+
+pub returns-clause-output : goal.returns-clause-output
+returns-clause-output g c e = absurd (ok_no_err true Output e)
+
+pub returns-clause-input : goal.returns-clause-input
+returns-clause-input g c e = ok_no_err true Input e

@@ -1,6 +1,7 @@
-use Rattle.std.proofs.Common.{sym, ap, subst}
+use Rattle.std.proofs.Common.{sym, ap, subst, arith}
 use Rattle.io_edges.proofs.Puts.{put_as}
-use Rattle.sve_debug.specs.DebuggerState.{Stands, answer_text}
+use Rattle.sve_debug.specs.DebuggerState.{DebuggerState, Stands, answer_text}
+use Rattle.sve_debug.specs.View.{IsWithin}
 use Rattle.sve_debug.specs.Replies.{after_command}
 use Rattle.sve_debug.proofs.debugger.Debugger.answer.Goals as goal
 
@@ -33,3 +34,23 @@ returns-in-Show-clause-text g c = put_as _ _ _ _ _ _ _ (sym (ap (λ command. ans
 
 pub returns-in-Quit-clause-session : goal.returns-in-Quit-clause-session
 returns-in-Quit-clause-session g c start d h = subst (λ command. Stands c.args.self.now start (after_command command d)) (sym c.in-Quit.is) (h)
+
+-- ---- the steps
+
+pub returns-in-Step-clause-steps : goal.returns-in-Step-clause-steps
+returns-in-Step-clause-steps g c =
+    let few = subst IsWithin c.in-Step.is c.requires.within in
+    omega (arith, few, c.take_steps.ensures.steps)
+
+pub returns-in-Go-clause-steps : goal.returns-in-Go-clause-steps
+returns-in-Go-clause-steps g c =
+    let few = subst IsWithin c.in-Go.is c.requires.within in
+    omega (arith, few, c.go.ensures.steps)
+
+pub returns-in-Back-clause-steps : goal.returns-in-Back-clause-steps
+returns-in-Back-clause-steps g c = omega (arith, c.put_back.ensures.steps)
+
+pub returns-in-Break-clause-steps : goal.returns-in-Break-clause-steps
+returns-in-Break-clause-steps g c =
+    let same = ap (λ (held : DebuggerState). held.machine.steps) c.put_break.ensures.breaks in
+    omega (arith, same)
