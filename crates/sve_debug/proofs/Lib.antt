@@ -5,3 +5,5 @@ mod Kept
 mod Told
 mod Sessions
 mod Answered
+mod Named
+mod ByteAnswers

@@ -1,8 +1,11 @@
 -- What is told of what a debugger holds is what its session answers.
-use Rattle.std.proofs.Common.{◌≡◌, ℕ, Bool, false, List, [], ◌∷◌, length, Option, Some, None, Result, Ok, Err, refl, sym, ap, ap₂, ◌∙◌, ◌==◌, if◌then◌else◌, codes}
-use Rattle.std.specs.Prelude.{IsErr, option_map}
+use Rattle.std.proofs.Common.{◌≡◌, ℕ, Bool, true, false, List, [], ◌∷◌, ◌++◌, subst, length, Option, Some, None, Result, Ok, Err, refl, sym, ap, ap₂, ◌∙◌, ◌==◌, if◌then◌else◌, codes}
+use Rattle.std.specs.Prelude.{IsErr, not, IfSome, OnOk, OnErr, option_map}
 use Rattle.io_edges.specs.declared.sink.Failed.{Failed}
-use Rattle.io_edges.specs.Sink.{PutsText}
+use Rattle.io_edges.specs.Sink.{PutsText, GainsPart}
+use Rattle.sve_debug.specs.declared.session.SessionFault.{SessionFault}
+use Rattle.sve_debug.specs.declared.session.SessionFault.TheVariants.{Input, Output}
+use Rattle.sve_debug.specs.Sessions.{Tells}
 use Rattle.machine_model.specs.Machine.{State}
 use Rattle.sve_debug.specs.declared.command.Command.{Command}
 use Rattle.sve_debug.specs.declared.command.Command.TheVariants.{Step, Go, Back, Break, Show, Quit}
@@ -40,3 +43,39 @@ puts_failed old new a b text (Ok done) failed result is err p = absurd cc
 puts_failed old new a b text (Err other) failed (Ok on) is err p = absurd cc
 puts_failed old new a b text (Err other) failed (Err again) is err p =
     record { all = tt; part = p.part; untold = p.untold; cause = record { later = p.cause.later; failed = p.cause.failed } }
+
+-- whether steps back were done, and the text of what was answered
+pub went_back : (far gone : Bool) (x y : List ℕ) → gone ≡ not far → gone ≡ true → y ≡ (if far then x else y)
+went_back true gone x y is e = absurd cc
+went_back false gone x y is e = refl
+
+pub went_too_far : (far gone : Bool) (x y : List ℕ) → gone ≡ not far → gone ≡ false → x ≡ (if far then x else y)
+went_too_far true gone x y is e = refl
+went_too_far false gone x y is e = absurd cc
+
+-- ---- what a session tells of it
+
+both : (P Q : List ℕ → Type 0) (o : Option (List ℕ)) → IfSome o P → IfSome o Q → IfSome o (λ bytes. P bytes × Q bytes)
+both P Q None p q = tt
+both P Q (Some bytes) p q = (p, q)
+
+pub tells_on : (old new : Option (List ℕ)) (a b : ℕ) (text : List ℕ) (result : Result Bool Failed) (on : Bool) → result ≡ Ok on → PutsText old new a b text result → Tells {T = Bool} old new text (Ok on)
+tells_on old new a b text result on is p =
+    both (λ bytes. new ≡ Some (bytes ++ text)) (λ bytes. GainsPart bytes new text) old (subst (λ r. OnOk r (IfSome old (λ bytes. new ≡ Some (bytes ++ text)))) is p.all) p.part
+
+pub tells_failed : (old new : Option (List ℕ)) (a b : ℕ) (text : List ℕ) (result : Result Bool Failed) (fault : SessionFault) → PutsText old new a b text result → Tells {T = Bool} old new text (Err fault)
+tells_failed old new a b text result fault p = both (λ bytes. Unit {0}) (λ bytes. GainsPart bytes new text) old (nothing old) p.part
+  where
+    nothing : (o : Option (List ℕ)) → IfSome o (λ bytes. Unit {0})
+    nothing None = tt
+    nothing (Some bytes) = tt
+
+pub ok_no_err : {T E : Type 0} (x : T) (y : E) → ◌≡◌ {A = Result T E} (Ok x) (Err y) → ⊥
+ok_no_err x y e = absurd cc
+
+pub output_no_input : {T : Type 0} → ◌≡◌ {A = Result T SessionFault} (Err Output) (Err Input) → ⊥
+output_no_input e = absurd cc
+
+pub errs : {T E P : Type 0} (r : Result T E) → P → OnErr r P
+errs (Ok x) p = tt
+errs (Err y) p = p

@@ -71,3 +71,32 @@ pub returns-clause-session : goal.returns-clause-session
 returns-clause-session g c breaks start d h =
     let none : c.loop-left.left ≡ 0 = omega (arith, c.loop-left-test.false) in
     counted_end _ start d c.args.stops.now c.args.most c.loop-left.left none (c.loop-left.invariant.session breaks start d h)
+
+-- ---- what goes on to hold
+
+pub returns-then-is_some-clause-quiet : goal.returns-then-is_some-clause-quiet
+returns-then-is_some-clause-quiet g c = c.requires.quiet
+
+pub returns-clause-quiet : goal.returns-clause-quiet
+returns-clause-quiet g c = c.loop-left.invariant.quiet
+
+pub returns-then-is_some-clause-room : goal.returns-then-is_some-clause-room
+returns-then-is_some-clause-room g c = c.requires.room
+
+pub returns-clause-room : goal.returns-clause-room
+returns-clause-room g c = c.loop-left.invariant.room
+
+pub returns-then-is_some-clause-some : goal.returns-then-is_some-clause-some
+returns-then-is_some-clause-some g c = c.requires.some
+
+pub returns-clause-some : goal.returns-clause-some
+returns-clause-some g c = c.loop-left.invariant.some
+
+pub returns-then-is_some-clause-twins : goal.returns-then-is_some-clause-twins
+returns-then-is_some-clause-twins g c = c.requires.twins
+
+pub returns-clause-twins : goal.returns-clause-twins
+returns-clause-twins g c = c.loop-left.invariant.twins
+
+pub returns-clause-steps : goal.returns-clause-steps
+returns-clause-steps g c = omega (arith, c.loop-left.invariant.steps)

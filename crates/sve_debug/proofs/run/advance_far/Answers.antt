@@ -1,5 +1,5 @@
 use Rattle.std.proofs.Common.{rules, ◌≡◌, ℕ, ◌+◌, ◌-◌, ◌<◌, ◌≤◌, ◌++◌, List, Option, None, Some, length, take, Bool, true, false, refl, sym, ap, ◌∙◌, subst, arith}
-use Rattle.std.specs.Prelude.{is_some, is_none}
+use Rattle.std.specs.Prelude.{IsTrue, is_some, is_none}
 use Rattle.machine_model.specs.declared.outcome.Ending.{Ending}
 use Rattle.circular_buffer.specs.Buffer.{keep_last}
 use Rattle.sve_debug.specs.DebuggerState.{held_by}
@@ -99,3 +99,86 @@ returns-clause-session g c breaks last start d h =
     subst (λ m. Reaches (held_by x breaks (keep_last 64 (last ++ take m c.loop-done.recent))) start d c.args.stops.now c.args.left (c.args.left - m)) at
     (reaches_now (counted_by k v) x breaks (keep_last 64 (last ++ take k c.loop-done.recent)) start d c.args.stops.now c.args.left (c.args.left - k) (counted_is k v x all.state (all.steps ∙ ap (λ m. v.steps + m) (sym at)) all.over all.quiet)
     (c.loop-done.invariant.session breaks last start d h))
+
+-- ---- the counts
+
+pub returns-then-not-goes_on-clause-running : goal.returns-then-not-goes_on-clause-running
+returns-then-not-goes_on-clause-running g c more = absurd (omega (arith, more))
+
+pub returns-then-not-goes_on-clause-count : goal.returns-then-not-goes_on-clause-count
+returns-then-not-goes_on-clause-count g c = omega (arith, c.min-near.ensures, c.min-most.ensures, c.loop-done-test.true)
+
+pub returns-then-not-goes_on-clause-near : goal.returns-then-not-goes_on-clause-near
+returns-then-not-goes_on-clause-near g c = omega (arith, c.min-near.ensures, c.min-most.ensures, c.loop-done-test.true)
+
+pub returns-then-not-goes_on-clause-exact : goal.returns-then-not-goes_on-clause-exact
+returns-then-not-goes_on-clause-exact g c = c.count.ensures.steps ∙ ap (λ m. m + (c.loop-done.done + 1)) (c.goes_on.ensures.steps ∙ c.loop-done.invariant.steps)
+
+pub returns-then-not-goes_on-clause-past : goal.returns-then-not-goes_on-clause-past
+returns-then-not-goes_on-clause-past g c = c.count.ensures.past ∙ c.goes_on.ensures.past ∙ c.loop-done.invariant.past
+
+pub returns-then-not-goes_on-clause-less : goal.returns-then-not-goes_on-clause-less
+returns-then-not-goes_on-clause-less g c = c.requires.some
+
+pub returns-then-not-goes_on-clause-steps : goal.returns-then-not-goes_on-clause-steps
+returns-then-not-goes_on-clause-steps g c =
+    let exact = c.count.ensures.steps ∙ ap (λ m. m + (c.loop-done.done + 1)) (c.goes_on.ensures.steps ∙ c.loop-done.invariant.steps) in
+    omega (arith, exact, c.min-near.ensures, c.min-most.ensures, c.loop-done-test.true)
+
+pub returns-then-is_stop-clause-running : goal.returns-then-is_stop-clause-running
+returns-then-is_stop-clause-running g c more = absurd (omega (arith, more))
+
+pub returns-then-is_stop-clause-count : goal.returns-then-is_stop-clause-count
+returns-then-is_stop-clause-count g c = omega (arith, c.min-near.ensures, c.min-most.ensures, c.loop-done-test.true)
+
+pub returns-then-is_stop-clause-near : goal.returns-then-is_stop-clause-near
+returns-then-is_stop-clause-near g c = omega (arith, c.min-near.ensures, c.min-most.ensures, c.loop-done-test.true)
+
+pub returns-then-is_stop-clause-exact : goal.returns-then-is_stop-clause-exact
+returns-then-is_stop-clause-exact g c = c.count-then-is_stop.ensures.steps ∙ ap (λ m. m + (c.loop-done.done + 1)) (c.goes_on.ensures.steps ∙ c.loop-done.invariant.steps)
+
+pub returns-then-is_stop-clause-past : goal.returns-then-is_stop-clause-past
+returns-then-is_stop-clause-past g c = c.count-then-is_stop.ensures.past ∙ c.goes_on.ensures.past ∙ c.loop-done.invariant.past
+
+pub returns-then-is_stop-clause-less : goal.returns-then-is_stop-clause-less
+returns-then-is_stop-clause-less g c = c.requires.some
+
+pub returns-then-is_stop-clause-steps : goal.returns-then-is_stop-clause-steps
+returns-then-is_stop-clause-steps g c =
+    let exact = c.count-then-is_stop.ensures.steps ∙ ap (λ m. m + (c.loop-done.done + 1)) (c.goes_on.ensures.steps ∙ c.loop-done.invariant.steps) in
+    omega (arith, exact, c.min-near.ensures, c.min-most.ensures, c.loop-done-test.true)
+
+pub returns-clause-running : goal.returns-clause-running
+returns-clause-running g c more = c.count-2.ensures.over ∙ c.loop-done.invariant.running
+
+pub returns-clause-count : goal.returns-clause-count
+returns-clause-count g c = omega (arith, c.min-near.ensures, c.min-most.ensures)
+
+pub returns-clause-some : goal.returns-clause-some
+returns-clause-some g c = omega (arith, c.min-near.ensures, c.min-most.ensures, c.requires.some, c.requires.near)
+
+pub returns-clause-near : goal.returns-clause-near
+returns-clause-near g c = omega (arith, c.min-near.ensures, c.min-most.ensures)
+
+pub returns-clause-exact : goal.returns-clause-exact
+returns-clause-exact g c = c.count-2.ensures.steps ∙ ap (λ m. m + c.min-most.result) c.loop-done.invariant.steps
+
+pub returns-clause-past : goal.returns-clause-past
+returns-clause-past g c = c.count-2.ensures.past ∙ c.loop-done.invariant.past
+
+pub returns-clause-less : goal.returns-clause-less
+returns-clause-less g c = omega (arith, c.min-near.ensures, c.min-most.ensures, c.requires.some, c.requires.near)
+
+pub returns-clause-steps : goal.returns-clause-steps
+returns-clause-steps g c =
+    let exact = c.count-2.ensures.steps ∙ ap (λ m. m + c.min-most.result) c.loop-done.invariant.steps in
+    omega (arith, exact, c.min-near.ensures, c.min-most.ensures)
+
+pub returns-then-not-goes_on-clause-quiet : goal.returns-then-not-goes_on-clause-quiet
+returns-then-not-goes_on-clause-quiet g c q = subst IsTrue (sym c.count.ensures.quiet) (c.goes_on.ensures.quiet (c.loop-done.invariant.quiet q))
+
+pub returns-then-is_stop-clause-quiet : goal.returns-then-is_stop-clause-quiet
+returns-then-is_stop-clause-quiet g c q = subst IsTrue (sym c.count-then-is_stop.ensures.quiet) (c.goes_on.ensures.quiet (c.loop-done.invariant.quiet q))
+
+pub returns-clause-quiet : goal.returns-clause-quiet
+returns-clause-quiet g c q = subst IsTrue (sym c.count-2.ensures.quiet) (c.loop-done.invariant.quiet q)

@@ -2,6 +2,9 @@ use Rattle.std.proofs.Common.{◌≡◌, ℕ, ◌+◌, ◌-◌, ◌≤◌, List,
 use Rattle.std.specs.Prelude.{IfSome, slice_get}
 use Rattle.sve_debug.specs.Replies.{Session, line_text}
 use Rattle.sve_debug.specs.Sessions.{Tells, AsItCame, most_input, session_text}
+use Rattle.io_edges.proofs.Puts.{later_rose}
+use Rattle.sve_debug.specs.declared.session.SessionFault.TheVariants.{Input, Output}
+use Rattle.sve_debug.proofs.Told.{ok_no_err}
 use Rattle.sve_debug.proofs.Answered.{so_far_first, so_far_next, so_far_failed}
 use Rattle.sve_debug.proofs.Sessions.{IsPending, under_first, under_next, under_quit, under_cut, under_unread, under_end, under_limit, pends, if_some, limit}
 use Rattle.sve_debug.proofs.session.answer_lines.Goals as goal
@@ -114,3 +117,32 @@ returns-in_err-byte-clause-as_it_comes g c start d h err =
     if_some (g.I.Source.left c.args.input.now) (λ (bytes : List ℕ). AsItCame d bytes input' (taken c.args.out.now) (taken c.loop-taken.out))
     (λ bytes is. so_far_failed c.loop-taken.debugger start d bytes c.loop-taken.line.items (g.I.Source.left c.loop-taken.input) input' (taken c.args.out.now) (taken c.loop-taken.out) c.loop-taken.invariant.pending c.in_err-byte.ensures.unread
     (c.loop-taken.invariant.answered start d h bytes is))
+
+-- ---- faults
+
+pub returns-in_default-clause-as_it_comes : goal.returns-in_default-clause-as_it_comes
+returns-in_default-clause-as_it_comes g c start d h e = absurd (c.finish.ensures.input e)
+
+pub returns-in_default-clause-output : goal.returns-in_default-clause-output
+returns-in_default-clause-output g c e = later_rose (g.S.Sink.faults c.args.out.now) (g.S.Sink.faults c.loop-taken.out) (g.S.Sink.faults c.finish.new.out) c.loop-taken.invariant.later (c.finish.ensures.output e)
+
+pub returns-in_default-clause-input : goal.returns-in_default-clause-input
+returns-in_default-clause-input g c e = absurd (c.finish.ensures.input e)
+
+pub returns-clause-as_it_comes : goal.returns-clause-as_it_comes
+returns-clause-as_it_comes g c start d h e = absurd (c.finish-2.ensures.input e)
+
+pub returns-clause-output : goal.returns-clause-output
+returns-clause-output g c e = later_rose (g.S.Sink.faults c.args.out.now) (g.S.Sink.faults c.loop-taken.out) (g.S.Sink.faults c.finish-2.new.out) c.loop-taken.invariant.later (c.finish-2.ensures.output e)
+
+pub returns-clause-input : goal.returns-clause-input
+returns-clause-input g c e = absurd (c.finish-2.ensures.input e)
+
+pub returns-then-not-on-clause-as_it_comes : goal.returns-then-not-on-clause-as_it_comes
+returns-then-not-on-clause-as_it_comes g c start d h e = absurd (ok_no_err tt Input e)
+
+pub returns-then-not-on-clause-output : goal.returns-then-not-on-clause-output
+returns-then-not-on-clause-output g c e = absurd (ok_no_err tt Output e)
+
+pub returns-then-not-on-clause-input : goal.returns-then-not-on-clause-input
+returns-then-not-on-clause-input g c e = absurd (ok_no_err tt Input e)
