@@ -1,3 +1,5 @@
 pub mod StepLists
 pub mod ListWalks
 pub mod SameNames
+mod NodeWalks
+mod StatementWalks
