@@ -3,3 +3,4 @@ pub mod ListWalks
 pub mod SameNames
 mod NodeWalks
 mod StatementWalks
+mod Places

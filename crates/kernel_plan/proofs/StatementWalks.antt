@@ -7,7 +7,7 @@ use Rattle.kernel_tree.specs.declared.ops.BinaryOp.{BinaryOp}
 use Rattle.kernel_tree.specs.declared.ops.UpdateOp.{UpdateOp}
 use Rattle.kernel_tree.specs.declared.ast.Stmt.{Stmt}
 use Rattle.kernel_tree.specs.declared.fault.Binding.{Binding}
-use Rattle.kernel_tree.specs.Plain.{Term, Action, Update, Choose, Block, Done, Then, Else, block_of}
+use Rattle.kernel_tree.specs.Plain.{Term, Action, Update, Choose, Block, Done, Then, Nothing, Else, block_of}
 use Rattle.kernel_tree.specs.Limits.{action_depth, block_depth}
 use Rattle.kernel_tree.specs.Typing.{Scope, lookup, accumulator_type, left, after_action, after_block}
 use Rattle.kernel_meaning.specs.Operators.{operator_of}
@@ -22,6 +22,9 @@ statement_below t whole x more a falls depth is = let deep = ap block_depth is i
 
 pub if_below : (t : ℕ) (whole : Action) (c : Term) (b d : Block) → 4 * action_depth whole ≡ t → whole ≡ Choose c b (Else d) → 4 * max (block_depth b) (block_depth d) + 3 < t
 if_below t whole c b d falls is = let deep = ap action_depth is in omega (arith, falls, deep)
+
+pub if_only_below : (t : ℕ) (whole : Action) (c : Term) (b : Block) → 4 * action_depth whole ≡ t → whole ≡ Choose c b Nothing → 4 * max (block_depth b) 0 + 3 < t
+if_only_below t whole c b falls is = let deep = ap action_depth is in omega (arith, falls, deep)
 
 pub first_below : (t b d : ℕ) → 4 * max b d + 3 ≡ t → 4 * b + 2 < t
 first_below t b d falls = omega arith

@@ -1,18 +1,20 @@
-use Rattle.std.proofs.Common.{◌≡◌, ℕ, None, Option, sym, refl, ap, ap₂, ◌∙◌, rules}
+use Rattle.std.proofs.Common.{◌≡◌, ℕ, None, Some, Option, sym, refl, ap, ap₂, ◌∙◌, rules}
 use Rattle.std.specs.Prelude.{ℤ, max}
 use Rattle.std.specs.Int.{w128}
 use Rattle.std.proofs.lemmas.Int.{to_z-of_z}
-use Rattle.std.proofs.lemmas.Result.{IfOk-from_err}
+use Rattle.std.proofs.lemmas.Result.{IfOk-weaker, IfOk-from_err}
 use Rattle.kernel_tree.specs.declared.ast.Expr.{Expr}
 use Rattle.kernel_tree.specs.declared.ops.Ty.{Ty}
+use Rattle.kernel_tree.specs.declared.ops.Ty.TheVariants as ty
 use Rattle.kernel_tree.specs.Plain.{Literal, Variable, Element, Unary, Operation, Shift, Conversion, Choice, Comparison, Both, Either, Not, name_of, term_of}
 use Rattle.kernel_tree.specs.Limits.{term_depth}
-use Rattle.kernel_tree.specs.Typing.{own, array_type}
+use Rattle.kernel_tree.specs.Typing.{first, own, array_type}
 use Rattle.kernel_scope.specs.Scopes.{scope_of}
+use Rattle.kernel_meaning.specs.Operators.{wrapped}
 use Rattle.kernel_plan.specs.Trees as trees
 use Rattle.kernel_plan.specs.Trees.{tree_of}
-use Rattle.kernel_plan.specs.Resolve.{slot_of, resolved}
-use Rattle.kernel_plan.proofs.NodeWalks.{called, operand_called, as_whole, one_below, number_below, pair_below, left_below, right_below, condition_below, values_below}
+use Rattle.kernel_plan.specs.Resolve.{slot_of, stream_tree, resolved, number_tree}
+use Rattle.kernel_plan.proofs.NodeWalks.{called, operand_called, as_whole, one_below, number_below, pair_below, left_below, right_below, condition_below, values_below, stream_read, computed_read}
 use Rattle.kernel_plan.proofs.resolve.+nodes.Goals as goal
 
 -- ---- an expression by its kind
@@ -244,3 +246,18 @@ pub resolve_select-returns : goal.resolve_select-returns
 resolve_select-returns t c =
     ap₂ (λ (b e : trees.Tree). trees.Select b e (tree_of c.in_ok-yes.no.value)) c.in_ok-cond.ensures c.in_ok-yes.ensures.left
     ∙ ap (trees.Select (resolved (scope_of c.args.scope.now) None (term_of c.args.cond.now)) (resolved (scope_of c.args.scope.now) c.args.want (term_of c.args.yes.now))) c.in_ok-yes.ensures.right
+
+pub resolve-returns-in-Lit : goal.resolve-returns-in-Lit
+resolve-returns-in-Lit t c =
+    let is : term_of c.args.expr.now ≡ Literal c.in-Lit.value = ap term_of c.in-Lit.is in
+    ap trees.Constant (to_z-of_z w128 c.wrapped.result (search rules) ∙ c.wrapped.ensures ∙ ap (wrapped c.args.want) (to_z-of_z w128 c.in-Lit.value (search rules))) ∙ ap (resolved (scope_of c.args.scope.now) c.args.want) (sym is)
+
+pub resolve_read-returns-in-Some : goal.resolve_read-returns-in-Some
+resolve_read-returns-in-Some t c =
+    c.stream.ensures ∙ ap (stream_tree (scope_of c.args.scope.now) (name_of c.args.array.now)) (to_z-of_z w128 c.in-Some.offset (search rules)) ∙ stream_read (scope_of c.args.scope.now) (name_of c.args.array.now) _ _ (number_tree (scope_of c.args.scope.now) (term_of c.args.index.now)) (sym c.in-Some.is ∙ c.stream_offset.ensures)
+
+pub resolve_read-returns-in-None : goal.resolve_read-returns-in-None
+resolve_read-returns-in-None t c = IfOk-weaker c.resolve_element.result _ _ (λ _ h. h ∙ computed_read (scope_of c.args.scope.now) (name_of c.args.array.now) _ (number_tree (scope_of c.args.scope.now) (term_of c.args.index.now)) (sym c.in-None.is ∙ c.stream_offset.ensures)) c.resolve_element.ensures
+
+pub resolve_number-returns : goal.resolve_number-returns
+resolve_number-returns t c = IfOk-weaker c.resolve.result _ _ (λ _ h. h ∙ ap (λ o. resolved (scope_of c.args.scope.now) o (term_of c.args.index.now)) (c.first-want.ensures ∙ ap (λ o. first o (Some ty.U64)) c.own_type.ensures)) c.resolve.ensures

@@ -2,7 +2,7 @@ use Rattle.std.proofs.Common.{◌+◌, List, None, refl, sym, ap, ◌∙◌, ari
 use Rattle.std.proofs.Math.ListN.{drop_of_length-le}
 use Rattle.std.proofs.lemmas.Result.{IfOk-from_err}
 use Rattle.kernel_tree.specs.declared.ast.Stmt.{Stmt}
-use Rattle.kernel_tree.specs.Plain.{Define, Put, Update, Choose, Else, Leave, name_of, term_of, action_of, block_of}
+use Rattle.kernel_tree.specs.Plain.{Define, Put, Update, Choose, Nothing, Else, Leave, name_of, term_of, action_of, block_of}
 use Rattle.kernel_tree.specs.Typing as typing
 use Rattle.kernel_tree.specs.Typing.{after_action}
 use Rattle.kernel_tree.specs.Limits.{block_depth}
@@ -14,7 +14,7 @@ use Rattle.kernel_scope.proofs.Growth.{kept-block}
 use Rattle.kernel_plan.proofs.SameNames.{resolved-same}
 use Rattle.kernel_plan.proofs.StepLists.{if-resolved}
 use Rattle.kernel_plan.proofs.ListWalks.{next_statement, goes_on, followed-done}
-use Rattle.kernel_plan.proofs.StatementWalks.{statement_below, if_below, first_below, second_below, inner_below, as_task, as_scope, on_any, no_statement, two_blocks}
+use Rattle.kernel_plan.proofs.StatementWalks.{statement_below, if_below, if_only_below, first_below, second_below, inner_below, as_task, as_scope, on_any, no_statement, two_blocks}
 use Rattle.kernel_plan.proofs.statements.+statements.Goals as goal
 
 pub resolve_block-loop-stmt-preserved : goal.resolve_block-loop-stmt-preserved
@@ -69,6 +69,15 @@ pub resolve_stmt-returns-in-Update : goal.resolve_stmt-returns-in-Update
 resolve_stmt-returns-in-Update t c = record {
   step = as_task c.resolve_update.result (scope_of c.args.scope.now) (Update (name_of c.in-Update.name.now) c.in-Update.op (term_of c.in-Update.value.now)) (action_of c.args.stmt.now) (sym c.in-Update.ensures) c.resolve_update.ensures;
   scope = on_any c.resolve_update.result (ap (after_action (scope_of c.args.scope.now)) c.in-Update.ensures);
+}
+
+pub resolve_stmt-resolve_if-requires : goal.resolve_stmt-resolve_if-requires
+resolve_stmt-resolve_if-requires t c = (if_only_below t (action_of c.args.stmt.now) (term_of c.in-If.cond.now) (block_of c.in-If.block.now) c.decreases (sym c.in-If.ensures), tt)
+
+pub resolve_stmt-returns-in-If : goal.resolve_stmt-returns-in-If
+resolve_stmt-returns-in-If t c = record {
+  step = as_task c.resolve_if.result (scope_of c.args.scope.now) (Choose (term_of c.in-If.cond.now) (block_of c.in-If.block.now) Nothing) (action_of c.args.stmt.now) (sym c.in-If.ensures) c.resolve_if.ensures.step;
+  scope = as_scope c.resolve_if.result (scope_of c.args.scope.now) (Choose (term_of c.in-If.cond.now) (block_of c.in-If.block.now) Nothing) (action_of c.args.stmt.now) (sym c.in-If.ensures) (scope_of c.resolve_if.new.scope) c.resolve_if.ensures.scope;
 }
 
 pub resolve_stmt-resolve_if-requires-in-IfElse : goal.resolve_stmt-resolve_if-requires-in-IfElse
