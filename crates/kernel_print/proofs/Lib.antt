@@ -1,3 +1,5 @@
 mod Printed
 mod PrintedTokens
 mod PrintedKernel
+mod PrintWalks
+mod BlockWalks
