@@ -5,7 +5,8 @@ use Rattle.std.proofs.lemmas.Int.{to_z-of_z}
 use Rattle.guest_types.specs.declared.length.Width.TheVariants.{D}
 use Rattle.guest_types.proofs.Shifts.{or-below}
 use Rattle.kernel_meaning.specs.Operators.{word, binary_on}
-use Rattle.kernel_meaning.proofs.Residues.{word-small}
+use Rattle.kernel_meaning.proofs.Residues.{word-small, word-wrapping_mul}
+use Rattle.kernel_eval.proofs.Words.{word-wrapping_add, word-wrapping_sub}
 use Rattle.kernel_eval.proofs.operate.binary_on.Goals as goal
 
 pub returns-in-Or : goal.returns-in-Or
@@ -15,3 +16,21 @@ returns-in-Or c =
     ap word (word-small (bit_or a.result b.result) (or-below D a.result b.result a.type_inv b.type_inv))
     ∙ ap₂ (λ m n. word (pos (bit_or m n))) (a.ensures ∙ ap word (to_z-of_z w128 c.args.left c.ranges.left)) (b.ensures ∙ ap word (to_z-of_z w128 c.args.right c.ranges.right))
     ∙ sym (ap (λ o. word (binary_on o c.args.left c.args.right)) c.in-Or.is)
+
+pub returns-in-Add : goal.returns-in-Add
+returns-in-Add c =
+    let x = c.args.left in
+    let y = c.args.right in
+    word-wrapping_add x y c.ranges.left c.ranges.right ∙ sym (ap (λ o. word (binary_on o x y)) c.in-Add.is)
+
+pub returns-in-Sub : goal.returns-in-Sub
+returns-in-Sub c =
+    let x = c.args.left in
+    let y = c.args.right in
+    word-wrapping_sub x y c.ranges.left c.ranges.right ∙ sym (ap (λ o. word (binary_on o x y)) c.in-Sub.is)
+
+pub returns-in-Mul : goal.returns-in-Mul
+returns-in-Mul c =
+    let x = c.args.left in
+    let y = c.args.right in
+    word-wrapping_mul x y c.ranges.left c.ranges.right ∙ sym (ap (λ o. word (binary_on o x y)) c.in-Mul.is)

@@ -1,8 +1,10 @@
-use Rattle.std.proofs.Common.{sym, ap, ap₂, ◌∙◌}
+use Rattle.std.proofs.Common.{Some, sym, ap, ap₂, ◌∙◌, rules}
 use Rattle.std.specs.Prelude.{option_map}
+use Rattle.std.specs.Int.{w128}
+use Rattle.std.proofs.lemmas.Int.{to_z-of_z}
 use Rattle.kernel_tree.specs.Wrap.{wrap}
-use Rattle.kernel_meaning.specs.Operators.{unary_value, binary_value, compare_on}
-use Rattle.kernel_meaning.specs.Eval.{on_both}
+use Rattle.kernel_meaning.specs.Operators.{unary_value, binary_value, shift_value, compare_on}
+use Rattle.kernel_meaning.specs.Eval.{on_both, chosen}
 use Rattle.kernel_plan.specs.declared.node.Node.{Node}
 use Rattle.kernel_plan.specs.Trees.{tree_of}
 use Rattle.kernel_eval.specs.Slots.{tree_value, tree_holds}
@@ -32,3 +34,27 @@ holds-returns-in-Compare g t c =
     let hold = (λ (n : Node). tree_holds (tree_of n) (g.M.GuestMemory.memory c.args.memory.now) c.args.slots.now) in
     let i = c.in-Compare in
     c.compare.ensures ∙ ap₂ (on_both (compare_on i.op)) (c.value.ensures ∙ ap value c.deref.ensures) (c.value-in-Compare.ensures ∙ ap value c.deref-in-Compare.ensures) ∙ sym (ap hold i.is)
+
+pub value-returns-in-Constant : goal.value-returns-in-Constant
+value-returns-in-Constant g t c =
+    let value = (λ (n : Node). tree_value (tree_of n) (g.M.GuestMemory.memory c.args.memory.now) c.args.slots.now) in
+    ap Some (to_z-of_z w128 c.in-Constant.value (search rules)) ∙ sym (ap value c.in-Constant.is)
+
+pub value-returns-in-Slot : goal.value-returns-in-Slot
+value-returns-in-Slot g t c =
+    let value = (λ (n : Node). tree_value (tree_of n) (g.M.GuestMemory.memory c.args.memory.now) c.args.slots.now) in
+    ap Some (to_z-of_z w128 c.slot_at.result (search rules) ∙ c.slot_at.ensures) ∙ sym (ap value c.in-Slot.is)
+
+pub value-returns-in-Shift : goal.value-returns-in-Shift
+value-returns-in-Shift g t c =
+    let value = (λ (n : Node). tree_value (tree_of n) (g.M.GuestMemory.memory c.args.memory.now) c.args.slots.now) in
+    let i = c.in-Shift in
+    c.shift.ensures ∙ ap₂ (λ n o. option_map (shift_value i.left_shift n i.ty) o) (to_z-of_z w128 i.count (search rules)) (c.value-in-Shift.ensures ∙ ap value c.deref-in-Shift.ensures) ∙ sym (ap value i.is)
+
+pub value-returns-in-Select : goal.value-returns-in-Select
+value-returns-in-Select g t c =
+    let value = (λ (n : Node). tree_value (tree_of n) (g.M.GuestMemory.memory c.args.memory.now) c.args.slots.now) in
+    let hold = (λ (n : Node). tree_holds (tree_of n) (g.M.GuestMemory.memory c.args.memory.now) c.args.slots.now) in
+    let i = c.in-Select in
+    c.select.ensures ∙ ap₂ (λ a b. chosen a b c.holds.result) (c.value-in-Select.ensures ∙ ap value c.deref-in-Select-2.ensures) (c.value-in-Select-2.ensures ∙ ap value c.deref-in-Select-3.ensures)
+    ∙ ap (chosen (value i.yes.value) (value i.no.value)) (c.holds.ensures ∙ ap hold c.deref-in-Select.ensures) ∙ sym (ap value i.is)
