@@ -5,7 +5,7 @@ use Rattle.kernel_plan.specs.Trees.{Task, tree_of, tasks_of, task_of, task_depth
 use Rattle.kernel_eval.specs.Slots.{set_slot, quit, do_task, do_tasks}
 use Rattle.kernel_plan.proofs.StepLists.{if-is}
 use Rattle.kernel_eval.proofs.StepWalks.{next_step, step_below, less_deep, steps_on}
-use Rattle.kernel_eval.proofs.Branches.{branch-true, branch-false}
+use Rattle.kernel_eval.proofs.Branches.{branch-none, branch-true, branch-false}
 use Rattle.kernel_eval.proofs.perform.+steps.Goals as goal
 
 pub perform_step-perform-requires : goal.perform_step-perform-requires
@@ -47,6 +47,12 @@ perform_step-returns-in-Set g t c =
 pub perform_step-returns-in-Break : goal.perform_step-returns-in-Break
 perform_step-returns-in-Break g t c =
     c.leave.ensures (g.M.GuestMemory.memory c.args.memory.now) c.args.slots.now ∙ ap (quit (g.M.GuestMemory.memory c.args.memory.now) c.args.slots.now) c.holds-in-Break.ensures ∙ sym (ap (λ (a : Task). do_task a (g.M.GuestMemory.memory c.args.memory.now) c.args.slots.now) (ap task_of c.in-Break.is))
+
+pub perform_step-returns-in-None : goal.perform_step-returns-in-None
+perform_step-returns-in-None g t c =
+    let i = c.in-If in
+    let z = ap task_of i.is ∙ if-is i.cond i.yes i.no in
+    branch-none (task_of c.args.step.now) (tree_of i.cond) (tasks_of i.yes.items) (tasks_of i.no.items) (g.M.GuestMemory.memory c.args.memory.now) c.args.slots.now z (sym c.holds.ensures ∙ c.in-None.is)
 
 -- ---- steps, one after another
 
