@@ -1,5 +1,6 @@
-use Rattle.std.proofs.Common.{ap, ap₂, sym, ◌∙◌, pos, rules}
-use Rattle.std.specs.Prelude.{bit_or, bit_xor}
+use Rattle.std.proofs.Common.{◌<◌, ◌^◌, ap, ap₂, sym, ◌∙◌, pos, rules, arith}
+use lib.Bits.{and_le_r}
+use Rattle.std.specs.Prelude.{bit_and, bit_or, bit_xor}
 use Rattle.std.specs.Int.{w128, int_min, int_max}
 use Rattle.std.proofs.lemmas.Int.{to_z-of_z}
 use Rattle.guest_types.specs.declared.length.Width.TheVariants.{D}
@@ -52,3 +53,12 @@ pub returns-in-Max : goal.returns-in-Max
 returns-in-Max c =
     let both = ap₂ int_max (to_z-of_z w128 c.args.left c.ranges.left) (to_z-of_z w128 c.args.right c.ranges.right) in
     ap word (to_z-of_z w128 c.max.result (search rules) ∙ c.max.ensures.value ∙ both) ∙ sym (ap (λ o. word (binary_on o c.args.left c.args.right)) c.in-Max.is)
+
+pub returns-in-And : goal.returns-in-And
+returns-in-And c =
+    let a = c.word in
+    let b = c.word-in-And in
+    let below : bit_and a.result b.result < 2 ^ 64 = omega (arith, and_le_r a.result b.result, b.type_inv) in
+    ap word (word-small (bit_and a.result b.result) below)
+    ∙ ap₂ (λ m n. word (pos (bit_and m n))) (a.ensures ∙ ap word (to_z-of_z w128 c.args.left c.ranges.left)) (b.ensures ∙ ap word (to_z-of_z w128 c.args.right c.ranges.right))
+    ∙ sym (ap (λ o. word (binary_on o c.args.left c.args.right)) c.in-And.is)
