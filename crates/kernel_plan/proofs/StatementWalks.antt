@@ -12,7 +12,7 @@ use Rattle.kernel_tree.specs.Limits.{action_depth, block_depth}
 use Rattle.kernel_tree.specs.Typing.{Scope, lookup, accumulator_type, left, after_action, after_block}
 use Rattle.kernel_meaning.specs.Operators.{operator_of}
 use Rattle.kernel_plan.specs.declared.step.Step.{Step}
-use Rattle.kernel_plan.specs.Trees.{Tree, Slot, Binary, Task, Set, task_of}
+use Rattle.kernel_plan.specs.Trees.{Tree, Slot, Binary, Set, task_of}
 use Rattle.kernel_plan.specs.Resolve.{slot_of, resolved, resolved_action}
 
 -- ---- depths

@@ -6,7 +6,7 @@ use Rattle.std.proofs.lemmas.Result.{IfOk-weaker, IfOk-from_err}
 use Rattle.kernel_tree.specs.declared.ast.Expr.{Expr}
 use Rattle.kernel_tree.specs.declared.ops.UnaryOp.{UnaryOp}
 use Rattle.kernel_tree.specs.declared.mark.Mark.{Mark}
-use Rattle.kernel_tree.specs.TextToken.{TextToken, IsMark}
+use Rattle.kernel_tree.specs.TextToken.{IsMark}
 use Rattle.kernel_tree.specs.Plain.{Literal, Variable, Element, Unary, Operation, Shift, Conversion, Choice, Comparison, Both, Either, Not, name_of, term_of}
 use Rattle.kernel_tree.specs.Limits.{term_depth}
 use Rattle.kernel_tree.specs.Printing.{spaced, closed, print_count, mark_of_shift, print_term, print_unary, print_binary, print_call}
