@@ -3,3 +3,4 @@ mod PrintedTokens
 mod PrintedKernel
 mod PrintWalks
 mod BlockWalks
+mod MarkTexts

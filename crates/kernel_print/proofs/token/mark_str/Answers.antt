@@ -1,5 +1,6 @@
-use Rattle.std.proofs.Common.{sym, ap}
+use Rattle.std.proofs.Common.{sym, ap, ◌∙◌}
 use Rattle.kernel_tree.specs.Printing.{mark_text}
+use Rattle.kernel_print.proofs.MarkTexts.{reserved}
 use Rattle.kernel_print.proofs.token.mark_str.Goals as goal
 
 pub returns-in-OpenParen : goal.returns-in-OpenParen
@@ -73,3 +74,8 @@ returns-in-Tilde c = ap mark_text (sym c.in-Tilde.is)
 
 pub returns-in-Bang : goal.returns-in-Bang
 returns-in-Bang c = ap mark_text (sym c.in-Bang.is)
+
+pub returns-in_default : goal.returns-in_default
+returns-in_default c =
+    let d = c.in_default in
+    c.reserved_str.ensures ∙ reserved c.args.mark d.not-OpenParen d.not-CloseParen d.not-OpenBracket d.not-CloseBracket d.not-OpenBrace d.not-CloseBrace d.not-Comma d.not-Semicolon d.not-Colon d.not-Arrow d.not-Range d.not-Equals d.not-Plus d.not-Minus d.not-Star d.not-ShiftLeft d.not-ShiftRight d.not-Ampersand d.not-Caret d.not-Bar d.not-AndAnd d.not-OrOr d.not-Tilde d.not-Bang
