@@ -7,3 +7,4 @@ pub mod LimitedRuns
 pub mod IterationWalks
 mod StepWalks
 mod Words
+mod ElementValues

@@ -8,6 +8,7 @@ use Rattle.kernel_meaning.specs.Eval.{on_both, chosen, and_then, or_else}
 use Rattle.kernel_plan.specs.declared.node.Node.{Node}
 use Rattle.kernel_plan.specs.Trees.{tree_of}
 use Rattle.kernel_eval.specs.Slots.{tree_value, tree_holds}
+use Rattle.kernel_eval.proofs.ElementValues.{of_element}
 use Rattle.kernel_eval.proofs.value.+values.Goals as goal
 
 pub value-returns-in-Unary : goal.value-returns-in-Unary
@@ -98,3 +99,8 @@ pub holds-returns-in-Some : goal.holds-returns-in-Some
 holds-returns-in-Some g t c =
     let hold = (λ (n : Node). tree_holds (tree_of n) (g.M.GuestMemory.memory c.args.memory.now) c.args.slots.now) in
     ap (option_map not) (sym c.in-Some.is ∙ c.holds-in-Not.ensures ∙ ap hold c.deref-in-Not.ensures) ∙ sym (ap hold c.in-Not.is)
+
+pub value-returns-in_default : goal.value-returns-in_default
+value-returns-in_default g t c =
+    let d = c.in_default in
+    c.element.ensures ∙ of_element (g.M.GuestMemory.memory c.args.memory.now) c.args.slots.now c.args.node.now d.not-Constant d.not-Slot d.not-Unary d.not-Binary d.not-Shift d.not-Cast d.not-Select
