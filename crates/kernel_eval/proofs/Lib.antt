@@ -5,3 +5,6 @@ pub mod ResolvedStatements
 pub mod ResolvedRuns
 pub mod LimitedRuns
 pub mod IterationWalks
+mod StepWalks
+mod Words
+mod ElementValues

@@ -1,3 +1,6 @@
 pub mod StepLists
 pub mod ListWalks
 pub mod SameNames
+mod NodeWalks
+mod StatementWalks
+mod Places

@@ -1,3 +1,6 @@
 mod Printed
 mod PrintedTokens
 mod PrintedKernel
+mod PrintWalks
+mod BlockWalks
+mod MarkTexts

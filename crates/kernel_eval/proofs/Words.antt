@@ -1,0 +1,42 @@
+-- The words of results of 128 bits, and the address of an element.
+use Rattle.std.proofs.Common.{◌≡◌, ℕ, ◌+◌, ◌-◌, ◌*◌, ◌%◌, ◌^◌, ◌<◌, Bool, true, false, refl, sym, ap, ◌∙◌, arith, ltb}
+use Rattle.std.specs.Prelude.{ℤ, pos, negsuc, ◌+ℤ◌, ◌-ℤ◌, ◌*ℤ◌, FitsSigned}
+use Rattle.std.specs.Int.{w128, cast_signed, int_wrap, int_wrapping_add, int_wrapping_sub}
+use Rattle.std.proofs.lemmas.Bool.{ltb-false}
+use Rattle.std.proofs.lemmas.Int.{wrapping_add_is, wrapping_sub_is}
+use Rattle.kernel_tree.specs.declared.ops.Ty.{Ty}
+use Rattle.kernel_tree.specs.declared.ops.Ty.TheVariants as ty
+use Rattle.kernel_meaning.specs.Operators.{word}
+use Rattle.kernel_meaning.specs.Eval.{byte_count, address}
+use Rattle.kernel_meaning.proofs.Residues.{word-add, word-mul}
+
+word-signed : (m : ℕ) → m < 2 ^ 128 → word (cast_signed w128 m) ≡ m % 2 ^ 64
+word-signed m h = by_half (ltb m (2 ^ 127)) refl
+  where
+    by_half : (b : Bool) → ltb m (2 ^ 127) ≡ b → word (cast_signed w128 m) ≡ m % 2 ^ 64
+    by_half true e = rw e refl
+    by_half false e = rw e (omega (arith, ltb-false m (2 ^ 127) e, h))
+
+word-wide : (z : ℤ) → word (int_wrap w128 z) ≡ word z
+unfolding int_wrap
+word-wide (pos n) = word-signed (n % 2 ^ 128) (omega arith) ∙ omega arith
+word-wide (negsuc n) = word-signed (2 ^ 128 - 1 - n % 2 ^ 128) (omega arith) ∙ omega arith
+
+pub word-wrapping_add : (a b : ℤ) → FitsSigned w128 a → FitsSigned w128 b → word (int_wrapping_add w128 a b) ≡ word (a +ℤ b)
+word-wrapping_add a b f g = ap word (wrapping_add_is w128 a b f g) ∙ word-wide (a +ℤ b)
+
+pub word-wrapping_sub : (a b : ℤ) → FitsSigned w128 a → FitsSigned w128 b → word (int_wrapping_sub w128 a b) ≡ word (a -ℤ b)
+word-wrapping_sub a b f g = ap word (wrapping_sub_is w128 a b f g) ∙ word-wide (a -ℤ b)
+
+few_bytes : (t : Ty) → word (pos (byte_count t)) ≡ byte_count t
+few_bytes ty.I8 = refl
+few_bytes ty.U8 = refl
+few_bytes ty.I16 = refl
+few_bytes ty.U16 = refl
+few_bytes ty.I32 = refl
+few_bytes ty.U32 = refl
+few_bytes ty.I64 = refl
+few_bytes ty.U64 = refl
+
+pub address_is : (t : Ty) (base x : ℤ) → (word base + (byte_count t * word x) % 2 ^ 64) % 2 ^ 64 ≡ address t base x
+address_is t base x = sym (word-add base (pos (byte_count t) *ℤ x) ∙ ap (λ m. (word base + m) % 2 ^ 64) (word-mul (pos (byte_count t)) x ∙ ap (λ k. (k * word x) % 2 ^ 64) (few_bytes t)))

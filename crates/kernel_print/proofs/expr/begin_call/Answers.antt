@@ -1,0 +1,9 @@
+use Rattle.std.proofs.Common.{◌∙◌}
+use Rattle.std.proofs.lemmas.Result.{IfOk-weaker, IfOk-from_err}
+use Rattle.kernel_print.proofs.expr.begin_call.Goals as goal
+
+pub returns-in_err-put_mark : goal.returns-in_err-put_mark
+returns-in_err-put_mark c = IfOk-from_err _ _ c.from_residual.ensures.0
+
+pub returns : goal.returns
+returns c = IfOk-weaker c.put_mark-2.result _ _ (λ _ h rest. h rest ∙ c.in_ok-put_mark.ensures _) c.put_mark-2.ensures
