@@ -7,6 +7,7 @@ pub mod Merging
 pub mod Parts
 pub mod Places
 pub mod PageLaws
+mod Failures
 pub mod Puts
 pub mod RunLaws
 pub mod UndoLaws
