@@ -1,6 +1,6 @@
 -- How many bytes elements take.
 use Rattle.std.proofs.Common.{◌≡◌, ℕ, suc, ◌+◌, ◌*◌, ◌<◌, ◌≤◌, ◌⊎◌, inl, inr, ap, arith}
-use Rattle.std.proofs.Math.Nat.{mul-suc, mul-le-mul_left}
+use Rattle.std.proofs.Math.Nat.{mul-suc, mul-add, mul-le-mul_left}
 use Rattle.guest_types.specs.declared.length.Width.{Width}
 use Rattle.guest_types.specs.declared.length.Width.TheVariants.{B, H, S, D}
 use Rattle.guest_types.specs.Length.{width_bytes, all_lanes}
@@ -41,3 +41,7 @@ pub lane_end : (w : Width) (n i : ℕ) → n ≡ width_bytes w → i < all_lanes
 lane_end w n i e l =
     let up : width_bytes w * suc i ≤ width_bytes w * all_lanes w = mul-le-mul_left (width_bytes w) (let u : suc i ≤ all_lanes w = l in u) in
     omega (arith, up, mul-suc (width_bytes w) i, whole-register w, e, ap (λ n. n * i) e)
+
+-- and some of a register, from a place on
+pub lanes_end : (w : Width) (from count : ℕ) → from + count ≤ all_lanes w → width_bytes w * from + width_bytes w * count ≤ 256
+lanes_end w from count l = omega (arith, mul-le-mul_left (width_bytes w) l, mul-add (width_bytes w) from count, whole-register w)
