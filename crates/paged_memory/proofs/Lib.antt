@@ -8,6 +8,7 @@ pub mod Parts
 pub mod Places
 pub mod PageLaws
 mod Failures
+mod FirstEpochs
 pub mod Puts
 pub mod RunLaws
 pub mod UndoLaws
