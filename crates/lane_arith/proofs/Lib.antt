@@ -1,6 +1,7 @@
 pub mod Operations
 pub mod Shifted
 pub mod Blocks
+mod Chosen
 pub mod Banks
 pub mod Filled
 pub mod Joins

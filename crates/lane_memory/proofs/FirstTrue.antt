@@ -1,6 +1,6 @@
 -- The first element at which a test is true.
 use Rattle.std.proofs.Common.{◌≡◌, ℕ, zero, suc, ◌+◌, ◌-◌, ◌<◌, ◌≤◌, Bool, true, false, cond, Some, None, refl, ap, ap₂, ◌∙◌, subst, arith, inl, inr}
-use Rattle.std.proofs.lemmas.Bool.{cond-true, cond-false, cases_eq}
+use Rattle.std.proofs.lemmas.Bool.{cond-true, cond-false, cases_eq, cases_lt}
 use Rattle.guest_types.specs.Elements.{first_true}
 
 -- what a first element is, and what it says of the others
@@ -67,3 +67,7 @@ first_true-at test n e i h least most before =
     ∙ first_true-skip test (i - e) (n - (i - e)) e (λ j l u. before j l (omega arith))
     ∙ ap₂ (first_true test) (let q : n - (i - e) ≡ suc (n - (i - e) - 1) = omega arith in q) (let q : e + (i - e) ≡ i = omega arith in q)
     ∙ cond-true _ _ _ h
+
+-- and at one more
+pub false_next : (test : ℕ → Bool) (e : ℕ) → ((j : ℕ) → j < e → test j ≡ false) → test e ≡ false → (j : ℕ) → j < e + 1 → test j ≡ false
+false_next test e before here j l = elim (cases_lt j e) [ inl b ↦ before j b | inr g ↦ subst (λ k. test k ≡ false) (let q : e ≡ j = omega (arith, l, g) in q) here ]

@@ -1,5 +1,5 @@
 -- The active elements of a register, block by block.
-use Rattle.std.proofs.Common.{◌≡◌, ℕ, zero, suc, ◌+◌, ◌-◌, ◌*◌, ◌/◌, ◌<◌, ◌≤◌, true, false, ◌&&◌, cond, List, [], ◌++◌, length, get_or, take, drop, replicate, append_assoc, refl, sym, ap, ap₂, ◌∙◌, subst, arith}
+use Rattle.std.proofs.Common.{◌≡◌, ℕ, zero, suc, ◌+◌, ◌-◌, ◌*◌, ◌/◌, ◌<◌, ◌≤◌, true, ◌&&◌, cond, List, [], ◌++◌, length, get_or, take, drop, replicate, append_assoc, refl, sym, ap, ap₂, ◌∙◌, subst, arith}
 use Rattle.std.specs.Prelude.{nat_lt}
 use Rattle.std.proofs.lemmas.Bool.{lt-ltb, le-ltb, cond-true, cond-false, and_right}
 use Rattle.std.proofs.lemmas.List.{take_at, drop-drop, drop-take, take-take, append-nil, drop-replicate, length-take-le, length-drop, length-append}

@@ -1,4 +1,6 @@
 pub mod ListParts
+mod ActiveRanges
+mod Sizes
 pub mod EarlySteps
 mod Examples
 pub mod FirstTrue

@@ -7,6 +7,8 @@ pub mod Merging
 pub mod Parts
 pub mod Places
 pub mod PageLaws
+mod Failures
+mod FirstEpochs
 pub mod Puts
 pub mod RunLaws
 pub mod UndoLaws

@@ -1,7 +1,9 @@
-use Rattle.std.proofs.Common.{◌≡◌, ◌+◌, ◌*◌, ◌<◌, ℕ, get_or, Fits, w8, rules, sym, ap, ◌∙◌, subst, arith}
+use Rattle.std.proofs.Common.{◌≡◌, ◌+◌, ◌*◌, ◌<◌, ℕ, get_or, Fits, w8, rules, sym, ap, ◌∙◌, subst, arith, length, refl}
 use Rattle.guest_types.specs.Length.{width_bytes, modulus, all_lanes}
 use Rattle.paged_memory.specs.Numbers.{number_in, with_number}
 use Rattle.lane_memory.proofs.ReadLaws.{chunk-below, number_in-chunk, copied-more, length-written}
+use Rattle.lane_memory.specs.Readings.{IsCopied}
+use Rattle.lane_memory.proofs.Sizes.{byte_size, lanes_most, few_bytes, element_end, lane_end}
 use Rattle.lane_memory.proofs.copy.widen.Goals as goal
 
 pub extend-requires : goal.extend-requires
@@ -30,3 +32,42 @@ loop-i-preserved c =
       length-written was now r.element (from + i) c.extend.result c.loop-i.invariant.0 inside written,
       copied-more r part from i c.args.out.now.bytes was now c.number-value.result c.extend.result c.loop-i.invariant.1 c.loop-i.invariant.0 inside is c.extend.ensures written,
     )
+
+pub loop-i-init : goal.loop-i-init
+loop-i-init c =
+    let whole : length c.args.out.now.bytes ≡ 256 = search rules in (
+      whole,
+      record { copied = λ i l. absurd (omega (arith, l)); kept = λ i _. refl },
+    )
+
+pub overflow_mul-memory : goal.overflow_mul-memory
+overflow_mul-memory c =
+    let few = few_bytes c.args.reading.memory c.args.reading.element c.args.count (omega (arith, c.requires.inside)) in
+    omega (arith, few, c.requires.part, element_end (width_bytes c.args.reading.memory) c.args.memory c.loop-i.i c.args.count (length c.args.part.now) c.requires.memory c.loop-i-test.true c.requires.part)
+
+pub number-value-requires : goal.number-value-requires
+number-value-requires c = record {
+  size = byte_size c.args.reading.memory c.args.memory c.requires.memory;
+  inside = element_end (width_bytes c.args.reading.memory) c.args.memory c.loop-i.i c.args.count (length c.args.part.now) c.requires.memory c.loop-i-test.true c.requires.part;
+}
+
+pub overflow_add-at : goal.overflow_add-at
+overflow_add-at c = omega (arith, c.loop-i-test.true, c.requires.inside, lanes_most c.args.reading.element)
+
+pub overflow_mul-at : goal.overflow_mul-at
+overflow_mul-at c =
+    let inside : c.args.from + c.loop-i.i < all_lanes c.args.reading.element = omega (arith, c.loop-i-test.true, c.requires.inside) in
+    omega (arith, lane_end c.args.reading.element c.args.element (c.args.from + c.loop-i.i) c.requires.element inside)
+
+pub put_number-requires : goal.put_number-requires
+put_number-requires c =
+    let inside : c.args.from + c.loop-i.i < all_lanes c.args.reading.element = omega (arith, c.loop-i-test.true, c.requires.inside) in
+    record {
+      size = byte_size c.args.reading.element c.args.element c.requires.element;
+      inside = omega (arith, c.loop-i.invariant.0, lane_end c.args.reading.element c.args.element (c.args.from + c.loop-i.i) c.requires.element inside);
+    }
+
+pub returns : goal.returns
+returns c =
+    let all : c.loop-i.i ≡ c.args.count = omega (arith, c.loop-i-test.false, c.loop-i.auto.i-end) in
+    subst (λ i. IsCopied c.args.reading c.args.part.now c.args.from i c.args.out.now.bytes c.loop-i.out.bytes) all c.loop-i.invariant.1

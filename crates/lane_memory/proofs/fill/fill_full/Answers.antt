@@ -2,6 +2,8 @@ use Rattle.std.proofs.Common.{◌≡◌, ◌+◌, ◌*◌, refl, ap, ◌∙◌, 
 use Rattle.lane_memory.specs.Readings.{refused_of, HoldsLanes, IsActiveRange}
 use Rattle.lane_memory.proofs.FirstTrue.{first_true-absent}
 use Rattle.lane_memory.proofs.ReadLaws.{holds-none, holds-part, filled, part-free}
+use Rattle.std.proofs.lemmas.Bool.{true≢false, false≢true}
+use Rattle.lane_memory.proofs.Sizes.{few_bytes}
 use Rattle.lane_memory.proofs.fill.fill_full.Goals as goal
 
 pub returns-clause-filled : goal.returns-clause-filled
@@ -26,3 +28,27 @@ returns-clause-free c went =
     let pg = c.args.pg.now.bits in
     let n = c.args.lanes in
     first_true-absent (refused_of r m pg) n 0 (λ j _ l. part-free r m pg 0 n c.place-address.result (c.bytes.result * n) j c.place-address.ensures (ap (λ k. k * n) c.bytes.ensures) (c.in-Some.ensures.some.0 refl) (omega arith) l)
+
+pub overflow_mul-len : goal.overflow_mul-len
+overflow_mul-len c =
+    let n = c.args.lanes in
+    omega (arith, few_bytes c.args.reading.memory c.args.reading.element n (c.requires.lanes), ap (λ k. k * n) c.bytes.ensures)
+
+pub overflow_cast-len : goal.overflow_cast-len
+overflow_cast-len c =
+    let n = c.args.lanes in
+    omega (arith, few_bytes c.args.reading.memory c.args.reading.element n (c.requires.lanes), ap (λ k. k * n) c.bytes.ensures)
+
+pub returns-in_default : goal.returns-in_default
+returns-in_default c = record { filled = λ went. absurd (false≢true went); free = λ went. absurd (false≢true went); unchanged = λ _. refl }
+
+pub copy_part-requires : goal.copy_part-requires
+copy_part-requires c =
+    let n = c.args.lanes in
+    record { part = c.in-Some.ensures.len ∙ ap (λ k. k * n) c.bytes.ensures; inside = omega (arith, c.requires.lanes) }
+
+pub returns-clause-unchanged : goal.returns-clause-unchanged
+returns-clause-unchanged c = λ e. absurd (true≢false e)
+
+pub keep_first-requires : goal.keep_first-requires
+keep_first-requires c = record { lanes = c.requires.lanes; full = c.requires.full }

@@ -1,6 +1,7 @@
 use Rattle.std.proofs.Common.{◌≡◌, ◌+◌, ◌-◌, ◌*◌, ◌/◌, ◌++◌, ℕ, length, get_or, take, drop, Fits, w8, rules, ap, ap₂, ◌∙◌, arith}
 use Rattle.guest_types.specs.Length.{width_bytes}
 use Rattle.lane_memory.proofs.WriteLaws.{merged-part}
+use Rattle.lane_memory.proofs.Sizes.{lanes_end}
 use Rattle.lane_memory.proofs.write.merge_some.Goals as goal
 
 pub returns : goal.returns
@@ -19,3 +20,64 @@ returns c =
     (ap₂ (λ a b. (a + b + 31) / 32) (ap (λ k. k * c.args.from) c.bytes-size.ensures) (c.requires.part ∙ ap (λ w. width_bytes w * c.args.count) c.requires.same))
     c.merge_active.ensures
     (c.copy_from_slice-2.ensures.after ∙ ap₂ (λ n l. take n (drop l c.merge_active.new.out.bytes)) size (ap (λ k. k * c.args.from) c.bytes-size.ensures))
+
+pub overflow_mul-at : goal.overflow_mul-at
+overflow_mul-at c =
+    let at = ap (λ k. k * c.args.from) c.bytes-size.ensures in
+    let long = c.requires.part ∙ ap (λ w. width_bytes w * c.args.count) c.requires.same in
+    omega (arith, lanes_end c.args.writing.element c.args.from c.args.count c.requires.inside, at, long)
+
+pub overflow_add-end : goal.overflow_add-end
+overflow_add-end c =
+    let at = ap (λ k. k * c.args.from) c.bytes-size.ensures in
+    let long = c.requires.part ∙ ap (λ w. width_bytes w * c.args.count) c.requires.same in
+    omega (arith, lanes_end c.args.writing.element c.args.from c.args.count c.requires.inside, at, long)
+
+pub overflow_add-end-2 : goal.overflow_add-end-2
+overflow_add-end-2 c =
+    let at = ap (λ k. k * c.args.from) c.bytes-size.ensures in
+    let long = c.requires.part ∙ ap (λ w. width_bytes w * c.args.count) c.requires.same in
+    omega (arith, lanes_end c.args.writing.element c.args.from c.args.count c.requires.inside, at, long)
+
+pub merge_active-requires : goal.merge_active-requires
+merge_active-requires c =
+    let at = ap (λ k. k * c.args.from) c.bytes-size.ensures in
+    let long = c.requires.part ∙ ap (λ w. width_bytes w * c.args.count) c.requires.same in
+    omega (arith, lanes_end c.args.writing.element c.args.from c.args.count c.requires.inside, at, long)
+
+pub slice_bounds-copy_from_slice-count : goal.slice_bounds-copy_from_slice-count
+slice_bounds-copy_from_slice-count c =
+    let at = ap (λ k. k * c.args.from) c.bytes-size.ensures in
+    let long = c.requires.part ∙ ap (λ w. width_bytes w * c.args.count) c.requires.same in
+    omega (arith, lanes_end c.args.writing.element c.args.from c.args.count c.requires.inside, at, long)
+
+pub slice_bounds-copy_from_slice-start : goal.slice_bounds-copy_from_slice-start
+slice_bounds-copy_from_slice-start c =
+    let at = ap (λ k. k * c.args.from) c.bytes-size.ensures in
+    let long = c.requires.part ∙ ap (λ w. width_bytes w * c.args.count) c.requires.same in
+    omega (arith, lanes_end c.args.writing.element c.args.from c.args.count c.requires.inside, at, long)
+
+pub slice_bounds-copy_from_slice-count-2 : goal.slice_bounds-copy_from_slice-count-2
+slice_bounds-copy_from_slice-count-2 c =
+    let at = ap (λ k. k * c.args.from) c.bytes-size.ensures in
+    let long = c.requires.part ∙ ap (λ w. width_bytes w * c.args.count) c.requires.same in
+    omega (arith, lanes_end c.args.writing.element c.args.from c.args.count c.requires.inside, at, long)
+
+pub slice_bounds-copy_from_slice-start-2 : goal.slice_bounds-copy_from_slice-start-2
+slice_bounds-copy_from_slice-start-2 c =
+    let at = ap (λ k. k * c.args.from) c.bytes-size.ensures in
+    let long = c.requires.part ∙ ap (λ w. width_bytes w * c.args.count) c.requires.same in
+    omega (arith, lanes_end c.args.writing.element c.args.from c.args.count c.requires.inside, at, long)
+
+pub slice_bounds-copy_from_slice-end : goal.slice_bounds-copy_from_slice-end
+slice_bounds-copy_from_slice-end c =
+    let at = ap (λ k. k * c.args.from) c.bytes-size.ensures in
+    let long = c.requires.part ∙ ap (λ w. width_bytes w * c.args.count) c.requires.same in
+    let whole : length c.zero-merged.result.bytes ≡ 256 = search rules in
+    omega (arith, lanes_end c.args.writing.element c.args.from c.args.count c.requires.inside, at, long, whole)
+
+pub slice_bounds-copy_from_slice-end-2 : goal.slice_bounds-copy_from_slice-end-2
+slice_bounds-copy_from_slice-end-2 c =
+    let at = ap (λ k. k * c.args.from) c.bytes-size.ensures in
+    let long = c.requires.part ∙ ap (λ w. width_bytes w * c.args.count) c.requires.same in
+    omega (arith, lanes_end c.args.writing.element c.args.from c.args.count c.requires.inside, at, long, c.merge_active.ensures.long)

@@ -1,8 +1,9 @@
-use Rattle.std.proofs.Common.{◌≡◌, ◌+◌, ◌*◌, sym, ap, ◌∙◌, subst, arith}
-use Rattle.guest_types.specs.Length.{width_bytes}
+use Rattle.std.proofs.Common.{◌≡◌, ◌+◌, ◌*◌, sym, ap, ◌∙◌, subst, arith, length, rules, ◌<◌}
+use Rattle.guest_types.specs.Length.{width_bytes, all_lanes}
 use Rattle.paged_memory.specs.Numbers.{number_in, with_number}
 use Rattle.lane_memory.specs.Writings.{IsWritten}
 use Rattle.lane_memory.proofs.WriteLaws.{Under, under-none, under-on, under-off}
+use Rattle.lane_memory.proofs.Sizes.{byte_size, lanes_most, few_bytes, element_end, lane_end}
 use Rattle.lane_memory.proofs.write.narrow.Goals as goal
 use Rattle.lane_memory.proofs.write.narrow.Goals.{then-is_active, else-is_active}
 
@@ -35,3 +36,37 @@ pub returns : goal.returns
 returns c =
     let all : c.loop-i.i ≡ c.args.count = omega (arith, c.loop-i-test.false, c.loop-i.auto.i-end) in
     subst (λ i. IsWritten c.args.writing c.args.pg.now.bits c.args.z.now.bytes c.args.from i c.args.part.now c.loop-i.part) all c.loop-i.invariant.done
+
+pub overflow_add-from : goal.overflow_add-from
+overflow_add-from c = omega (arith, c.loop-i-test.true, c.requires.inside, lanes_most c.args.writing.element)
+
+pub overflow_add-from-then-is_active : goal.overflow_add-from-then-is_active
+overflow_add-from-then-is_active c = omega (arith, c.loop-i-test.true, c.requires.inside, lanes_most c.args.writing.element)
+
+pub is_active-requires : goal.is_active-requires
+is_active-requires c = omega (arith, c.loop-i-test.true, c.requires.inside)
+
+pub overflow_mul-element : goal.overflow_mul-element
+overflow_mul-element c =
+    let inside : c.args.from + c.loop-i.i < all_lanes c.args.writing.element = omega (arith, c.loop-i-test.true, c.requires.inside) in
+    omega (arith, lane_end c.args.writing.element c.args.element (c.args.from + c.loop-i.i) c.requires.element inside)
+
+pub number-value-requires : goal.number-value-requires
+number-value-requires c =
+    let inside : c.args.from + c.loop-i.i < all_lanes c.args.writing.element = omega (arith, c.loop-i-test.true, c.requires.inside) in
+    let whole : length c.args.z.now.bytes ≡ 256 = search rules in
+    record {
+      size = byte_size c.args.writing.element c.args.element c.requires.element;
+      inside = omega (arith, whole, lane_end c.args.writing.element c.args.element (c.args.from + c.loop-i.i) c.requires.element inside);
+    }
+
+pub overflow_mul-memory : goal.overflow_mul-memory
+overflow_mul-memory c =
+    let few = few_bytes c.args.writing.memory c.args.writing.element c.args.count (omega (arith, c.requires.inside)) in
+    omega (arith, few, c.requires.part, element_end (width_bytes c.args.writing.memory) c.args.memory c.loop-i.i c.args.count (length c.args.part.now) c.requires.memory c.loop-i-test.true c.requires.part)
+
+pub put_number-requires : goal.put_number-requires
+put_number-requires c = record {
+  size = byte_size c.args.writing.memory c.args.memory c.requires.memory;
+  inside = omega (arith, c.loop-i.invariant.done.long, element_end (width_bytes c.args.writing.memory) c.args.memory c.loop-i.i c.args.count (length c.args.part.now) c.requires.memory c.loop-i-test.true c.requires.part);
+}

@@ -18,3 +18,12 @@ loop-k-preserved c =
           ∙ ap (λ j. put_back (take j ps) ims c.loop-k.store) up
           ∙ c.loop-k.invariant.rest;
     }
+
+pub slice_bounds-put_page-count : goal.slice_bounds-put_page-count
+slice_bounds-put_page-count c = omega arith
+
+pub slice_bounds-put_page-end : goal.slice_bounds-put_page-end
+slice_bounds-put_page-end c = omega (arith, c.requires, c.loop-k.invariant.below, c.loop-k-test.true)
+
+pub slice_bounds-put_page-start : goal.slice_bounds-put_page-start
+slice_bounds-put_page-start c = omega (arith, c.requires, c.loop-k.invariant.below, c.loop-k-test.true)

@@ -1,4 +1,4 @@
-use Rattle.std.proofs.Common.{◌≡◌, ◌<◌, [], ◌∷◌, ◌++◌, false, length, rules, sym, ap, ap₂, ◌∙◌, arith, vec_len}
+use Rattle.std.proofs.Common.{◌≡◌, ◌<◌, [], ◌∷◌, ◌++◌, false, length, rules, sym, ap, ap₂, ◌∙◌, arith, vec_len, refl}
 use Rattle.std.proofs.lemmas.List.{get_or_read}
 use Rattle.paged_memory.specs.Epochs.{put_back, undone, with_page, has_place}
 use Rattle.paged_memory.proofs.PageLaws.{with_page-same}
@@ -51,3 +51,18 @@ returns-clause-same c = λ memory e.
     ∙ put_back-push p places ims page memory c.self.invariant.whole c.requires.whole
     ∙ ap (put_back places ims) (ap (λ x. with_page p x memory) (sym e) ∙ with_page-same p memory)
     ∙ ap (λ s. undone s memory) c.self.view_is
+
+pub index-requires : goal.index-requires
+index-requires c = omega (arith, c.requires.inside, ap (λ s. s.pages) c.self.view_is)
+
+pub index_mut-requires : goal.index_mut-requires
+index_mut-requires c = omega (arith, c.requires.inside, ap (λ s. s.pages) c.self.view_is)
+
+pub returns-then-index-clause-pages : goal.returns-then-index-clause-pages
+returns-then-index-clause-pages c = refl
+
+pub returns-then-index-clause-kept : goal.returns-then-index-clause-kept
+returns-then-index-clause-kept c = λ other has. has
+
+pub returns-then-index-clause-same : goal.returns-then-index-clause-same
+returns-then-index-clause-same c = λ memory e. refl

@@ -1,8 +1,9 @@
-use Rattle.std.proofs.Common.{◌≡◌, length, sym, ap, ap₂, ◌∙◌, subst, arith, rules}
+use Rattle.std.proofs.Common.{◌≡◌, length, sym, ap, ap₂, ◌∙◌, subst, arith, rules, refl}
 use Rattle.guest_types.specs.Memory.{IsMemory, DoNotMeet, merged}
 use Rattle.paged_memory.specs.Layout.{memory_of, IsLaidOut, heads_from, joined}
 use Rattle.paged_memory.proofs.HeadPlaces.{length-pages}
 use Rattle.paged_memory.proofs.Mapped.{memory-mapped, laid-mapped, length-heads_from}
+use Rattle.paged_memory.proofs.Failures.{on_error, on_failure}
 use Rattle.paged_memory.proofs.store.Store.map_pages.Goals as goal
 
 pub join-requires : goal.join-requires
@@ -34,3 +35,21 @@ returns-clause-memory c =
     ap₂ memory_of now c.in_ok-append.ensures.done
     ∙ memory-mapped heads bs pages c.self.invariant c.requires.pages
     ∙ ap (merged pages) c.self.view_is
+
+pub heads_of-requires-clause-few : goal.heads_of-requires-clause-few
+heads_of-requires-clause-few c = omega (arith, c.requires.few)
+
+pub append-requires : goal.append-requires
+append-requires c = omega (arith, c.requires.few)
+
+pub returns-in_err-more : goal.returns-in_err-more
+returns-in_err-more c = record { memory = on_error _ _ c.from_residual.ensures.0; unchanged = on_failure _ refl }
+
+pub returns-in_err-heads : goal.returns-in_err-heads
+returns-in_err-heads c = record { memory = on_error _ _ c.from_residual-in_err-heads.ensures.0; unchanged = on_failure _ refl }
+
+pub returns-in_err-append : goal.returns-in_err-append
+returns-in_err-append c = record {
+  memory = on_error _ _ c.from_residual-in_err-append.ensures.0;
+  unchanged = on_failure _ (ap (memory_of c.self.inside.heads.items) c.in_err-append.ensures.unchanged ∙ c.self.view_is);
+}

@@ -1,6 +1,6 @@
 use Rattle.std.proofs.Common.{◌≡◌, ◌/◌, true, false, refl, sym, ap, ap₂, ◌∙◌}
 use Rattle.std.specs.Prelude.{◌&&◌}
-use Rattle.std.proofs.lemmas.Bool.{and_parts}
+use Rattle.std.proofs.lemmas.Bool.{and_parts, false≢true}
 use Rattle.guest_types.specs.Memory.{can_write, is_writable}
 use Rattle.guest_types.specs.Spans.{in_one_page}
 use Rattle.guest_types.proofs.SpanLaws.{in_one_page-fits}
@@ -40,11 +40,11 @@ returns-else-is_writable-clause-some c =
     let here = stands heads c.deref.result.now (a / 4096) i c.deref.ensures.value c.in-Some.ensures.found in
     let page = found heads bs m (a / 4096) i c.self.view_is c.self.invariant here in
     let may_not : can_write m a ≡ false = sym (c.is_writable.ensures ∙ ap is_writable (head-read heads i c.index.result.now here.below c.index.ensures) ∙ write-found m a (page_of heads bs i) page) ∙ c.if-is_writable.false in
-    (λ e. absurd cc, λ has. sym may_not ∙ (and_parts (in_one_page a c.args.len) (can_write m a) has).1)
+    (λ e. absurd (false≢true e), λ has. sym may_not ∙ (and_parts (in_one_page a c.args.len) (can_write m a) has).1)
 
 pub returns-in-None-clause-some : goal.returns-in-None-clause-some
 returns-in-None-clause-some c =
     let m = c.args.self.now in
     let a = c.args.address in
     let unmapped : false ≡ can_write m a = write-none m a (absent c.self.inside.heads.items c.deref.result.now c.self.inside.bytes.items m (a / 4096) c.self.view_is c.deref.ensures.value c.in-None.ensures.absent) in
-    (λ e. absurd cc, λ has. unmapped ∙ (and_parts (in_one_page a c.args.len) (can_write m a) has).1)
+    (λ e. absurd (false≢true e), λ has. unmapped ∙ (and_parts (in_one_page a c.args.len) (can_write m a) has).1)

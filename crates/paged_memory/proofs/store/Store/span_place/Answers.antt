@@ -1,6 +1,6 @@
 use Rattle.std.proofs.Common.{◌≡◌, ◌/◌, true, false, refl, sym, ap, ap₂, ◌∙◌}
 use Rattle.std.specs.Prelude.{◌&&◌, is_some}
-use Rattle.std.proofs.lemmas.Bool.{and_parts}
+use Rattle.std.proofs.lemmas.Bool.{and_parts, false≢true}
 use Rattle.guest_types.specs.Memory.{can_read}
 use Rattle.guest_types.specs.Spans.{in_one_page}
 use Rattle.guest_types.proofs.SpanLaws.{in_one_page-fits}
@@ -31,4 +31,4 @@ returns-in-None-clause-some c =
     let m = c.args.self.now in
     let a = c.args.address in
     let unmapped : can_read m a ≡ false = ap is_some (absent c.self.inside.heads.items c.deref.result.now c.self.inside.bytes.items m (a / 4096) c.self.view_is c.deref.ensures.value c.in-None.ensures.absent) in
-    (λ e. absurd cc, λ has. sym unmapped ∙ (and_parts (in_one_page a c.args.len) (can_read m a) has).1)
+    (λ e. absurd (false≢true e), λ has. sym unmapped ∙ (and_parts (in_one_page a c.args.len) (can_read m a) has).1)

@@ -1,8 +1,9 @@
-use Rattle.std.proofs.Common.{◌+◌, ◌/◌, ◌%◌, ◌≤◌, sym, ap, ap₂, ◌∙◌, arith}
+use Rattle.std.proofs.Common.{◌+◌, ◌/◌, ◌%◌, ◌≤◌, sym, ap, ap₂, ◌∙◌, arith, rules, length}
 use Rattle.std.proofs.lemmas.List.{with_items_is}
 use Rattle.guest_types.specs.Memory.{is_writable}
 use Rattle.paged_memory.specs.Numbers.{with_number}
 use Rattle.paged_memory.proofs.HeadPlaces.{rising, stands, head-read, start-read, laid-written, store-found}
+use Rattle.paged_memory.proofs.Places.{within}
 use Rattle.paged_memory.proofs.store.StoreGuestMemory.store.Goals as goal
 
 pub place_of-requires : goal.place_of-requires
@@ -37,3 +38,26 @@ returns-then-is_writable-clause-done c =
     let perm = head-read heads i c.index.result.now here.below c.index.ensures in
     let writable = sym (ap is_writable perm) ∙ sym c.is_writable.ensures ∙ c.if-is_writable.true in
     store-found heads bs _ m a c.args.size c.args.value i c.self.view_is c.self.invariant here writable (omega arith) fits new
+
+pub index-requires : goal.index-requires
+index-requires c = omega (arith, (stands c.self.inside.heads.items c.deref.result.now (c.args.address / 4096) c.in-Some.place c.deref.ensures.value c.in-Some.ensures.found).below, c.self.inside.heads.ok.0)
+
+pub index-requires-then-is_writable : goal.index-requires-then-is_writable
+index-requires-then-is_writable c = omega (arith, (stands c.self.inside.heads.items c.deref.result.now (c.args.address / 4096) c.in-Some.place c.deref.ensures.value c.in-Some.ensures.found).below, c.self.inside.heads.ok.0)
+
+pub overflow_add-at : goal.overflow_add-at
+overflow_add-at c =
+    let heads = c.self.inside.heads.items in
+    let bs = c.self.inside.bytes.items in
+    let i = c.in-Some.place in
+    let here = stands heads c.deref.result.now (c.args.address / 4096) i c.deref.ensures.value c.in-Some.ensures.found in
+    let most : length bs ≤ 9223372036854775808 = search rules in
+    omega (arith, start-read heads i c.index-then-is_writable.result.now here.below c.index-then-is_writable.ensures, within heads bs i c.self.invariant here.below, most)
+
+pub put_number-requires-clause-inside : goal.put_number-requires-clause-inside
+put_number-requires-clause-inside c =
+    let heads = c.self.inside.heads.items in
+    let bs = c.self.inside.bytes.items in
+    let i = c.in-Some.place in
+    let here = stands heads c.deref.result.now (c.args.address / 4096) i c.deref.ensures.value c.in-Some.ensures.found in
+    omega (arith, start-read heads i c.index-then-is_writable.result.now here.below c.index-then-is_writable.ensures, within heads bs i c.self.invariant here.below, ap length c.deref_mut.ensures.value, c.from.ensures, c.if-offset-from-le4096.true)
