@@ -1,4 +1,5 @@
 pub mod Lines
+pub mod Leaves
 pub mod SomeExpectedLaws
 pub mod OneExpectedLaws
 pub mod Completions
