@@ -1,13 +1,16 @@
 -- What a command leaves, in one record over its line.
-use Rattle.std.proofs.Common.{◌≡◌, ◌≢◌, List, ℕ, Option, Some, None, Ok, Err, refl, sym, ap, ◌∙◌, subst}
-use Rattle.std.specs.Prelude.{IfSome, OnOk, IsTrue}
+use Rattle.std.proofs.Common.{◌≡◌, ◌≢◌, List, ℕ, Option, Some, None, Ok, Err, inl, inr, refl, sym, ap, subst}
+use Rattle.std.specs.Prelude.{IfSome, IsErrAnd, OnOk}
 use Rattle.io_edges.specs.Files.{Rose, content}
 use Rattle.command_line.specs.Line.{Line, CompileLine, CheckLine, EvalLine, ListLine, RunLine, DebugLine, SweepLine, AsmLine, PipeLine}
-use Rattle.refusals.specs.declared.refusal.Refusal.TheVariants.{File, Output}
+use Rattle.refusals.specs.declared.refusal.Refusal.{Refusal}
+use Rattle.refusals.specs.declared.refusal.Refusal.TheVariants.{Usage, Memory, File, Output}
 use Rattle.command_answers.specs.Answer.{HeldFiles, Expected, Answer, answer_of, expected_text, status_of, IsAnswer, IsKept, IsQuiet, Unwritten}
 use Rattle.command_answers.specs.Outputs.{Prints}
 use Rattle.sve_top.specs.Commands.{WhereTold, StreamRose, Swept, IsOf, IsHeld, IsSilent, IsUnread, OnlyReads, Compiled, OthersKept, AsItComes}
-use Rattle.sve_top.proofs.Lines.{of_every_line}
+use Rattle.command_answers.proofs.Prints.{prints_nothing}
+use Rattle.command_answers.proofs.Reading.{is_err, of_one}
+use Rattle.sve_top.proofs.Lines.{of_every_line, nothing_swept, no_session}
 
 -- the files, the output and the input at one moment
 pub record Seen : Type 0 where
@@ -128,3 +131,81 @@ not_wanted (Some h) left number to P = λ input taken work w. absurd w
 pub in_any : (held : Option HeldFiles) (P : HeldFiles → Type 0) → ((h : HeldFiles) → P h) → IfSome held P
 in_any None P all = tt
 in_any (Some h) P all = all h
+
+-- ---- words that come to no command, and want of memory before they were read
+
+same_others : (line : Option Line) (held : Option HeldFiles) → IfSome held (λ old. IfSome held (λ new. OthersKept old new line))
+same_others line None = tt
+same_others (Some (CompileLine from to)) (Some h) = λ name ne. refl
+same_others (Some (SweepLine number to)) (Some h) = λ name ne. refl
+same_others (Some (AsmLine from to)) (Some h) = λ name ne. refl
+same_others other (Some h) = λ name. refl
+
+memory_listed : (line : Option Line) → IsOf line (Err Memory)
+memory_listed None = inr refl
+memory_listed (Some (CompileLine from to)) = tt
+memory_listed (Some (CheckLine from)) = tt
+memory_listed (Some (EvalLine task)) = tt
+memory_listed (Some (ListLine from)) = tt
+memory_listed (Some (RunLine vl suppress task)) = tt
+memory_listed (Some (DebugLine vl task)) = tt
+memory_listed (Some (SweepLine number to)) = tt
+memory_listed (Some (AsmLine from to)) = tt
+memory_listed (Some (PipeLine vl task)) = tt
+
+no_file : (line : Option Line) (held : Option HeldFiles) (refusal : Refusal) → (◌≡◌ {A = Answer} (Err refusal) (Err File) → ⊥) → IfSome line (λ l. IfSome held (λ h. IsHeld h l → ◌≢◌ {A = Answer} (Err refusal) (Err File)))
+no_file None held refusal not = tt
+no_file (Some line) held refusal not = in_any held (λ h. IsHeld h line → ◌≢◌ {A = Answer} (Err refusal) (Err File)) (λ h reads. not)
+
+pub short : (line : Option Line) (before : Seen) (is_steady same_output same_input : Type 0) (result : Answer) → IsErrAnd result (λ r. r ≡ Memory) → same_output → same_input → Leaves line before before is_steady same_output same_input result
+short line before is_steady same_output same_input result is output input =
+    by_result line before before is_steady same_output same_input (Err Memory) result (sym (is_err Memory result is)) (record {
+      answer = of_every_line before.held before.left line _ (λ work. inl (inr (inl refl)));
+      listed = memory_listed line;
+      file = tt;
+      others = same_others line before.held;
+      swept = nothing_swept line before.held before.printed (Err Memory) refl;
+      kept = λ k. refl;
+      reads = λ r. refl;
+      failed = λ e. absurd (file e);
+      output = λ e. absurd (written e);
+      steady = λ s. no_file line before.held Memory file;
+      as_it_comes = no_session line before.held before.left before.left before.printed before.printed before.output_faults before.output_faults (Err Memory) refl;
+      printed = of_every_line before.held before.left line _ (λ work. prints_nothing before.printed (expected_text work) Memory);
+      quiet = λ q. output;
+      unwritten = of_every_line before.held before.left line _ (λ work refused. refl);
+      silent = λ s. output;
+      unread = λ u. input;
+    })
+  where
+    file : ◌≡◌ {A = Answer} (Err Memory) (Err File) → ⊥
+    file e = absurd cc
+
+    written : ◌≡◌ {A = Answer} (Err Memory) (Err Output) → ⊥
+    written e = absurd cc
+
+pub not_asked : (before : Seen) (is_steady same_output same_input : Type 0) → same_output → same_input → Leaves None before before is_steady same_output same_input (Err Usage)
+not_asked before is_steady same_output same_input output input = record {
+  answer = λ bytes taken. of_one before.held (λ h. Err Usage) _ (in_any before.held _ (λ h. inl (inl refl)));
+  listed = inl refl;
+  file = tt;
+  others = same_others None before.held;
+  swept = tt;
+  kept = λ k. refl;
+  reads = λ r. refl;
+  failed = λ e. absurd (file e);
+  output = λ e. absurd (written e);
+  steady = λ s. tt;
+  as_it_comes = tt;
+  printed = of_every_line before.held before.left None _ (λ work. prints_nothing before.printed (expected_text work) Usage);
+  quiet = λ q. output;
+  unwritten = of_every_line before.held before.left None _ (λ work refused. refl);
+  silent = λ s. output;
+  unread = λ u. input;
+}
+  where
+    file : ◌≡◌ {A = Answer} (Err Usage) (Err File) → ⊥
+    file e = absurd cc
+
+    written : ◌≡◌ {A = Answer} (Err Usage) (Err Output) → ⊥
+    written e = absurd cc
