@@ -1,4 +1,4 @@
-use Rattle.std.proofs.Common.{◌≡◌, Option, Some, None, Ok, Err, refl, ap, sym, ◌∙◌}
+use Rattle.std.proofs.Common.{◌≡◌, Option, Some, None, Err, refl, ap, sym, ◌∙◌}
 use Rattle.std.specs.Prelude.{IsTrue, option_map}
 use Rattle.command_line.specs.Line.{Line, line_of}
 use Rattle.command_line.specs.View.{texts, command_view}
