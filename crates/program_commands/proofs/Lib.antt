@@ -1,4 +1,5 @@
 pub mod Programs
 pub mod Listings
+pub mod Exits
 pub mod Sessions
 pub mod Assemblies

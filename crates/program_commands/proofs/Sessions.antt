@@ -18,7 +18,7 @@ use Rattle.refusals.specs.declared.refusal.Done.TheVariants as done
 use Rattle.command_answers.specs.Answer.{HeldFiles, Expected, Answer, answer_of, expected_text, IsFileAnswer, IsAnswer}
 use Rattle.refusals.specs.Statuses.{of_session}
 use Rattle.command_answers.specs.Reads.{and_then, task_files, IsOfRead}
-use Rattle.program_commands.specs.Commands.{expected_of_debug, expected_of_run, IsOfDebug}
+use Rattle.program_commands.specs.Commands.{expected_of_debug, expected_of_run, IsOfDebug, IsOfRun}
 use Rattle.command_answers.specs.Works.{RefusesProgram}
 use Rattle.command_answers.specs.Outputs.{Prints}
 use Rattle.program_commands.specs.Ready.{AnswersAsItCame, DebugsAsItCame}
@@ -51,9 +51,12 @@ refused_answer x y rose wanted (Elf fault) result is h = inl (inl (is ∙ sym (a
 refused_answer x y rose wanted (Map fault) result is h = inl (inl (is ∙ sym (ap answer_of h)))
 refused_answer x y rose wanted other result is h = absurd h
 
+pub refused_work : (x y : ℕ) (rose : Type 0) (wanted : Expected) (refusal : Refusal) (result : Answer) → IsErrAnd result (λ r. r ≡ refusal) → RefusesProgram wanted refusal → IsAnswer x y rose (answer_of wanted) result
+refused_work x y rose wanted refusal result is h = refused_answer x y rose wanted refusal result (is_err refusal result is) h
+
 pub refused_program : (x y : ℕ) (rose : Type 0) (left : Option (List ℕ)) (wanted : List ℕ → Expected) (refusal : Refusal) (result : Answer) → IsErrAnd result (λ r. r ≡ refusal) → ((input : List ℕ) → RefusesProgram (wanted input) refusal) → IfSome left (λ input. IsAnswer x y rose (answer_of (wanted input)) result)
 refused_program x y rose None wanted refusal result is h = tt
-refused_program x y rose (Some input) wanted refusal result is h = refused_answer x y rose (wanted input) refusal result (is_err refusal result is) (h input)
+refused_program x y rose (Some input) wanted refusal result is h = refused_work x y rose (wanted input) refusal result is (h input)
 
 -- a refusal of a program or its map is none of another command, of a file or of an output
 refusal_of : (wanted : Expected) (refusal : Refusal) → RefusesProgram wanted refusal → IsOfDebug (Err refusal)
@@ -76,6 +79,15 @@ no_failed_output wanted other h e = absurd h
 
 pub program_of_debug : (wanted : Expected) (refusal : Refusal) (result : Answer) → IsErrAnd result (λ r. r ≡ refusal) → RefusesProgram wanted refusal → IsOfDebug result
 program_of_debug wanted refusal result is h = subst IsOfDebug (sym (is_err refusal result is)) (refusal_of wanted refusal h)
+
+pub program_of_run : (wanted : Expected) (refusal : Refusal) (result : Answer) → IsErrAnd result (λ r. r ≡ refusal) → RefusesProgram wanted refusal → IsOfRun result
+program_of_run wanted refusal result is h = subst IsOfRun (sym (is_err refusal result is)) (by refusal h)
+  where
+    by : (refusal : Refusal) → RefusesProgram wanted refusal → IsOfRun (Err refusal)
+    by Memory h = tt
+    by (Elf fault) h = tt
+    by (Map fault) h = tt
+    by other h = absurd h
 
 pub program_not_file : (wanted : Expected) (refusal : Refusal) (result : Answer) → IsErrAnd result (λ r. r ≡ refusal) → RefusesProgram wanted refusal → result ≢ Err File
 program_not_file wanted refusal result is h e = no_failed_file wanted refusal h (sym (is_err refusal result is) ∙ e)
@@ -127,11 +139,6 @@ pub untold_session : (left : Option (List ℕ)) (held : Option HeldFiles) (vl : 
 untold_session left held vl task printed refusal result is =
     whatever left held (λ input h. Prints printed printed (expected_text (expected_of_debug h input vl task)) result)
     (λ input h. subst (Prints printed printed (expected_text (expected_of_debug h input vl task))) (sym (is_err refusal result is)) (prints_nothing printed (expected_text (expected_of_debug h input vl task)) refusal))
-
--- nothing was put on the output of a run that was refused
-pub untold_run : (held : Option HeldFiles) (vl : ℕ) (stops : StopList) (task : Task) (printed : Option (List ℕ)) (refusal : Refusal) (result : Answer) → IsErrAnd result (λ r. r ≡ refusal) → IfSome held (λ h. Prints printed printed (expected_text (expected_of_run h vl stops task)) result)
-untold_run None vl stops task printed refusal result is = tt
-untold_run (Some h) vl stops task printed refusal result is = subst (Prints printed printed (expected_text (expected_of_run h vl stops task))) (sym (is_err refusal result is)) (prints_nothing printed (expected_text (expected_of_run h vl stops task)) refusal)
 
 all_told : (old new : Option (List ℕ)) (text : List ℕ) (told : Result (Unit {0}) SessionFault) → told ≡ Ok tt → Tells old new text told → Prints old new text (Ok done.Ended)
 all_told None new text (Ok all) is h = tt
