@@ -15,7 +15,7 @@ use Rattle.sve_debug.specs.Sessions.{Tells, AsItCame}
 use Rattle.refusals.specs.declared.refusal.Refusal.{Refusal}
 use Rattle.refusals.specs.declared.refusal.Refusal.TheVariants.{Elf, Map, Memory, File, Output}
 use Rattle.refusals.specs.declared.refusal.Done.TheVariants as done
-use Rattle.command_answers.specs.Answer.{HeldFiles, Expected, Answer, answer_of, expected_text, IsFileAnswer, IsAnswer}
+use Rattle.command_answers.specs.Answer.{HeldFiles, Expected, Answer, answer_of, expected_text, IsFileAnswer, IsAnswer, IsQuiet}
 use Rattle.refusals.specs.Statuses.{of_session}
 use Rattle.command_answers.specs.Reads.{and_then, task_files, IsOfRead}
 use Rattle.program_commands.specs.Commands.{expected_of_debug, expected_of_run, IsOfDebug, IsOfRun}
@@ -106,6 +106,39 @@ pub failed_session : (x y a b i j : ℕ) (wanted : Answer) (fault : SessionFault
 failed_session x y a b i j wanted sessions.Memory result is input output = inl (inr (inl (is_err Memory result is)))
 failed_session x y a b i j wanted sessions.Input result is input output = inr (is_err Output result is, inr (input refl))
 failed_session x y a b i j wanted sessions.Output result is input output = inr (is_err Output result is, inl (output refl))
+
+pub session_output : (a b i j : ℕ) (fault : SessionFault) (result : Answer) → IsErrAnd result (λ r. r ≡ of_session fault) → (fault ≡ sessions.Input → Rose i j) → (fault ≡ sessions.Output → Rose a b) → result ≡ Err Output → Rose a b ⊎ Rose i j
+session_output a b i j sessions.Memory result is input output e = absurd (differ (sym (is_err Memory result is) ∙ e))
+  where
+    differ : ◌≡◌ {A = Answer} (Err Memory) (Err Output) → ⊥
+    differ e = absurd cc
+session_output a b i j sessions.Input result is input output e = inr (input refl)
+session_output a b i j sessions.Output result is input output e = inl (output refl)
+
+-- it has put something on the output, and no file failed
+pub session_loud : (P : Type 0) (fault : SessionFault) (result : Answer) → IsErrAnd result (λ r. r ≡ of_session fault) → IsQuiet result → P
+session_loud P fault result is quiet = absurd (by fault (subst IsQuiet (is_err (of_session fault) result is) quiet))
+  where
+    by : (fault : SessionFault) → IsQuiet (Err (of_session fault)) → ⊥
+    by sessions.Memory quiet = quiet
+    by sessions.Input quiet = quiet
+    by sessions.Output quiet = quiet
+
+pub session_not_file : (fault : SessionFault) (result : Answer) → IsErrAnd result (λ r. r ≡ of_session fault) → result ≢ Err File
+session_not_file fault result is e = by fault (sym (is_err (of_session fault) result is) ∙ e)
+  where
+    by : (fault : SessionFault) → ◌≡◌ {A = Answer} (Err (of_session fault)) (Err File) → ⊥
+    by sessions.Memory e = absurd cc
+    by sessions.Input e = absurd cc
+    by sessions.Output e = absurd cc
+
+pub of_failed_session : (fault : SessionFault) (result : Answer) → IsErrAnd result (λ r. r ≡ of_session fault) → IsOfDebug result
+of_failed_session fault result is = subst IsOfDebug (sym (is_err (of_session fault) result is)) (by fault)
+  where
+    by : (fault : SessionFault) → IsOfDebug (Err (of_session fault))
+    by sessions.Memory = tt
+    by sessions.Input = tt
+    by sessions.Output = tt
 
 -- Where no output failed, the input did, and the lines that were ended are answered.
 pub came_session : (x y a b : ℕ) (left rest : Option (List ℕ)) (held : Option HeldFiles) (vl : ℕ) (task : Task) (read : List ℕ × List ℕ) (found : Result (List ℕ × List ℕ) Refusal) (old new : Option (List ℕ)) (image : Image) (pages : Pages) (fault : SessionFault) (result : Answer) → found ≡ Ok read → IfSome held (λ h. IsFileAnswer x y (task_files h task) found)
