@@ -1,5 +1,5 @@
 -- What a command owes where it ends: after a read that was refused, an output that failed, and where it is done.
-use Rattle.std.proofs.Common.{◌≡◌, ◌≢◌, ℕ, List, ◌++◌, Option, Some, None, Result, Ok, Err, inl, inr, sym, ap, ◌∙◌, subst}
+use Rattle.std.proofs.Common.{◌≡◌, ◌≢◌, ℕ, List, ◌++◌, Option, Some, None, Result, Ok, Err, inr, sym, ap, ◌∙◌, subst}
 use Rattle.std.specs.Prelude.{IfSome, IsErrAnd, OnOk, OnErr}
 use Rattle.io_edges.specs.Files.{Rose}
 use Rattle.io_edges.specs.declared.sink.Failed.{Failed}

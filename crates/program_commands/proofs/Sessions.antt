@@ -1,7 +1,6 @@
 -- What a debugging session comes to, by the files that were read, the program that was loaded, and what was answered.
 use Rattle.std.proofs.Common.{◌≡◌, ◌≢◌, ◌⊎◌, ℕ, List, Option, Some, None, Result, Ok, Err, inl, inr, refl, sym, ap, ◌∙◌, subst}
 use Rattle.std.specs.Prelude.{IfSome, IfOk, IsErrAnd}
-use Rattle.guest_types.specs.EarlyLoads.{StopList}
 use Rattle.guest_types.specs.Memory.{Memory as Pages}
 use Rattle.machine_model.specs.Load.{Image, load}
 use Rattle.machine_model.specs.Run.{start}
@@ -18,7 +17,7 @@ use Rattle.refusals.specs.declared.refusal.Done.TheVariants as done
 use Rattle.command_answers.specs.Answer.{HeldFiles, Expected, Answer, answer_of, expected_text, IsFileAnswer, IsAnswer, IsQuiet}
 use Rattle.refusals.specs.Statuses.{of_session}
 use Rattle.command_answers.specs.Reads.{and_then, task_files, IsOfRead}
-use Rattle.program_commands.specs.Commands.{expected_of_debug, expected_of_run, IsOfDebug, IsOfRun}
+use Rattle.program_commands.specs.Commands.{expected_of_debug, IsOfDebug, IsOfRun}
 use Rattle.command_answers.specs.Works.{RefusesProgram}
 use Rattle.command_answers.specs.Outputs.{Prints}
 use Rattle.program_commands.specs.Ready.{AnswersAsItCame, DebugsAsItCame}

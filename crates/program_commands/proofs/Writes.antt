@@ -1,10 +1,10 @@
 -- What a command owes that writes a file: before the write, and where the write fails.
 use mathlib.Core.Logic.{⊎_elim}
-use Rattle.std.proofs.Common.{◌≡◌, ◌≢◌, ◌≤◌, ℕ, List, Option, Some, None, Result, Ok, Err, inl, inr, refl, sym, ap, ◌∙◌, subst}
-use Rattle.std.specs.Prelude.{IfSome, IsErrAnd, IsErrOf, IsTrue, Bool, OnOk}
+use Rattle.std.proofs.Common.{◌≡◌, ◌≢◌, ◌≤◌, ℕ, List, Option, Some, None, Result, Err, inl, inr, refl, sym, ap, ◌∙◌, subst}
+use Rattle.std.specs.Prelude.{IfSome, IsErrAnd, IsErrOf, OnOk}
 use Rattle.io_edges.specs.declared.files.FileError.{FileError}
 use Rattle.io_edges.specs.declared.files.FileError.TheVariants as files
-use Rattle.io_edges.specs.Files.{Rose, HasCause, content, Writes, WritesSteadily}
+use Rattle.io_edges.specs.Files.{Rose, HasCause, content, Writes}
 use Rattle.io_edges.proofs.Puts.{later_rose}
 use Rattle.refusals.specs.declared.refusal.Refusal.{Refusal}
 use Rattle.refusals.specs.declared.refusal.Refusal.TheVariants.{TooLong, Asm, Memory, File}

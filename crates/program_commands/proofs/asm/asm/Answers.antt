@@ -39,9 +39,9 @@ returns-in_err-file g c =
     let is = c.from_residual-in_err-file.ensures.1 in
     record {
       answer = of_what_follows (g.F.Files.faults c.args.files.now) (g.F.Files.faults c.read_file.new.files) (g.F.Files.held c.args.files.now) (λ h. file_of h c.args.from.now) c.deref.result.now (bytes_in c.read_file.result) assemble_text
-    (λ work. IsFileAnswer (g.F.Files.faults c.args.files.now) (g.F.Files.faults c.read_file.new.files) (answer_of work) c.from_residual-in_err-file.result)
-    (ap bytes_in c.in_ok-text.was ∙ ap (λ b. Ok b) (sym c.deref.ensures.value)) c.read_file.ensures.answer
-    (asm_refused _ _ _ c.in_err-file.field-0.0 c.from_residual-in_err-file.result (is_err c.in_err-file.field-0.0 c.from_residual-in_err-file.result c.from_residual-in_err-file.ensures.1) c.in_err-file.ensures.refusal);
+          (λ work. IsFileAnswer (g.F.Files.faults c.args.files.now) (g.F.Files.faults c.read_file.new.files) (answer_of work) c.from_residual-in_err-file.result)
+          (ap bytes_in c.in_ok-text.was ∙ ap (λ b. Ok b) (sym c.deref.ensures.value)) c.read_file.ensures.answer
+          (asm_refused _ _ _ c.in_err-file.field-0.0 c.from_residual-in_err-file.result (is_err c.in_err-file.field-0.0 c.from_residual-in_err-file.result c.from_residual-in_err-file.ensures.1) c.in_err-file.ensures.refusal);
       file = not_done _ refusal result is;
       others = same_others (g.F.Files.held c.args.files.now) (g.F.Files.held c.read_file.new.files) c.args.to.now c.read_file.ensures.held;
       kept = λ k. c.read_file.ensures.held;
@@ -65,9 +65,9 @@ returns-in_err-write g c =
       failed = λ e. write_failed (g.F.Files.faults c.args.files.now) (g.F.Files.faults c.read_file.new.files) (g.F.Files.faults c.write.new.self) c.write.result fault result was is c.write.ensures.not_long c.write.ensures.cause c.read_file.ensures.later e;
       steady = λ s. steady_anyway (g.F.Files.held c.args.files.now) (λ h. IsSome (content h c.args.from.now)) result (write_steady c.write.result fault result was is (c.write.ensures.steady (c.read_file.ensures.steady s)).1);
       unwritten = of_what_follows (g.F.Files.faults c.args.files.now) (g.F.Files.faults c.read_file.new.files) (g.F.Files.held c.args.files.now) (λ h. file_of h c.args.from.now) c.deref.result.now (bytes_in c.read_file.result) assemble_text
-    (λ work. Unwritten work (g.F.Files.held c.args.files.now) (g.F.Files.held c.write.new.self))
-    (ap bytes_in c.in_ok-text.was ∙ ap (λ b. Ok b) (sym c.deref.ensures.value)) c.read_file.ensures.answer
-    (subst (λ work. Unwritten work (g.F.Files.held c.args.files.now) (g.F.Files.held c.write.new.self)) (sym c.in_ok-file.ensures.wanted) (λ r. absurd r));
+          (λ work. Unwritten work (g.F.Files.held c.args.files.now) (g.F.Files.held c.write.new.self))
+          (ap bytes_in c.in_ok-text.was ∙ ap (λ b. Ok b) (sym c.deref.ensures.value)) c.read_file.ensures.answer
+          (subst (λ work. Unwritten work (g.F.Files.held c.args.files.now) (g.F.Files.held c.write.new.self)) (sym c.in_ok-file.ensures.wanted) (λ r. absurd r));
       of_asm = of_write fault result is;
     }
 
@@ -75,21 +75,21 @@ pub returns : goal.returns
 returns g c =
     record {
       answer = of_what_follows (g.F.Files.faults c.args.files.now) (g.F.Files.faults c.read_file.new.files) (g.F.Files.held c.args.files.now) (λ h. file_of h c.args.from.now) c.deref.result.now (bytes_in c.read_file.result) assemble_text
-    (λ work. IsFileAnswer (g.F.Files.faults c.args.files.now) (g.F.Files.faults c.write.new.self) (answer_of work) (Ok done.Ended))
-    (ap bytes_in c.in_ok-text.was ∙ ap (λ b. Ok b) (sym c.deref.ensures.value)) c.read_file.ensures.answer
-    (inl (sym (ap answer_of c.in_ok-file.ensures.wanted)));
+          (λ work. IsFileAnswer (g.F.Files.faults c.args.files.now) (g.F.Files.faults c.write.new.self) (answer_of work) (Ok done.Ended))
+          (ap bytes_in c.in_ok-text.was ∙ ap (λ b. Ok b) (sym c.deref.ensures.value)) c.read_file.ensures.answer
+          (inl (sym (ap answer_of c.in_ok-file.ensures.wanted)));
       file = written_file (g.F.Files.faults c.args.files.now) (g.F.Files.faults c.read_file.new.files)
-    (g.F.Files.held c.args.files.now) (g.F.Files.held c.read_file.new.files) (g.F.Files.held c.write.new.self) c.args.from.now c.args.to.now
-    c.deref.result.now c.deref-2.result.now c.in_ok-file.file.items (bytes_in c.read_file.result) c.write.result AssemblesTo
-    (ap bytes_in c.in_ok-text.was ∙ ap (λ b. Ok b) (sym c.deref.ensures.value)) c.read_file.ensures.answer c.read_file.ensures.held c.write.ensures.bytes
-    c.in_ok-write.was c.deref-2.ensures.value c.in_ok-file.ensures.file;
+          (g.F.Files.held c.args.files.now) (g.F.Files.held c.read_file.new.files) (g.F.Files.held c.write.new.self) c.args.from.now c.args.to.now
+          c.deref.result.now c.deref-2.result.now c.in_ok-file.file.items (bytes_in c.read_file.result) c.write.result AssemblesTo
+          (ap bytes_in c.in_ok-text.was ∙ ap (λ b. Ok b) (sym c.deref.ensures.value)) c.read_file.ensures.answer c.read_file.ensures.held c.write.ensures.bytes
+          c.in_ok-write.was c.deref-2.ensures.value c.in_ok-file.ensures.file;
       others = written_others (g.F.Files.held c.args.files.now) (g.F.Files.held c.read_file.new.files) (g.F.Files.held c.write.new.self) c.args.to.now c.deref-2.result.now c.write.result c.read_file.ensures.held c.write.ensures.bytes;
       kept = λ k. absurd k;
       failed = λ e. absurd (not_refused done.Ended File e);
       steady = λ s. steady_anyway (g.F.Files.held c.args.files.now) (λ h. IsSome (content h c.args.from.now)) (Ok done.Ended) (not_refused done.Ended File);
       unwritten = of_what_follows (g.F.Files.faults c.args.files.now) (g.F.Files.faults c.read_file.new.files) (g.F.Files.held c.args.files.now) (λ h. file_of h c.args.from.now) c.deref.result.now (bytes_in c.read_file.result) assemble_text
-    (λ work. Unwritten work (g.F.Files.held c.args.files.now) (g.F.Files.held c.write.new.self))
-    (ap bytes_in c.in_ok-text.was ∙ ap (λ b. Ok b) (sym c.deref.ensures.value)) c.read_file.ensures.answer
-    (subst (λ work. Unwritten work (g.F.Files.held c.args.files.now) (g.F.Files.held c.write.new.self)) (sym c.in_ok-file.ensures.wanted) (λ r. absurd r));
+          (λ work. Unwritten work (g.F.Files.held c.args.files.now) (g.F.Files.held c.write.new.self))
+          (ap bytes_in c.in_ok-text.was ∙ ap (λ b. Ok b) (sym c.deref.ensures.value)) c.read_file.ensures.answer
+          (subst (λ work. Unwritten work (g.F.Files.held c.args.files.now) (g.F.Files.held c.write.new.self)) (sym c.in_ok-file.ensures.wanted) (λ r. absurd r));
       of_asm = refl;
     }
