@@ -1,4 +1,5 @@
 use Rattle.std.proofs.Common.{◌∙◌, ◌≡◌, None, ◌<◌, ◌^◌, All, length, sym, ap, subst, arith}
+use Rattle.std.proofs.lemmas.Result.{IfOk-from_err}
 use Rattle.kernel_tree.specs.declared.checked.Checked.{Checked}
 use Rattle.kernel_tree.specs.Grammar.{IsTree}
 use Rattle.kernel_tree.specs.Typing.{check_fault}
@@ -129,3 +130,45 @@ returns-clause-reserved c =
     let scalar = c.in_ok-scalar.field-0.at_iteration in
     let alone = lanes_alone (drafts c) (c.scalar_code_leaves.ensures.begin c.label.new.self.labels) (c.scalar_code_leaves.ensures.scalar c.branch-draft.new.self.labels) (c.guard_leaves.ensures k scalar c.place.new.self.labels) (c.vector_code_leaves.ensures c.args.regs.now.z c.args.regs.now.p scalar c.guard.new.draft.labels) in
     subst (λ ws. All LeavesReserved ws) (sym c.in_ok-words.ensures.words) (c.words_leave.ensures c.emit_vector.new.draft.labels c.emit_vector.new.draft.entries c.in_ok-words.ensures.fit alone)
+
+-- ---- where a call fails
+
+pub returns-in_err-vector : goal.returns-in_err-vector
+returns-in_err-vector c =
+    let failed = c.from_residual.ensures.0 in
+    record { close = IfOk-from_err _ _ failed; ends = IfOk-from_err _ _ failed; short = IfOk-from_err _ _ failed; reserved = IfOk-from_err _ _ failed }
+
+pub returns-in_err-emit_begin : goal.returns-in_err-emit_begin
+returns-in_err-emit_begin c =
+    let failed = c.from_residual-in_err-emit_begin.ensures.0 in
+    record { close = IfOk-from_err _ _ failed; ends = IfOk-from_err _ _ failed; short = IfOk-from_err _ _ failed; reserved = IfOk-from_err _ _ failed }
+
+pub returns-in_err-branch : goal.returns-in_err-branch
+returns-in_err-branch c =
+    let failed = c.from_residual-in_err-branch.ensures.0 in
+    record { close = IfOk-from_err _ _ failed; ends = IfOk-from_err _ _ failed; short = IfOk-from_err _ _ failed; reserved = IfOk-from_err _ _ failed }
+
+pub returns-in_err-scalar : goal.returns-in_err-scalar
+returns-in_err-scalar c =
+    let failed = c.from_residual-in_err-scalar.ensures.0 in
+    record { close = IfOk-from_err _ _ failed; ends = IfOk-from_err _ _ failed; short = IfOk-from_err _ _ failed; reserved = IfOk-from_err _ _ failed }
+
+pub returns-in_err-place : goal.returns-in_err-place
+returns-in_err-place c =
+    let failed = c.from_residual-in_err-place.ensures.0 in
+    record { close = IfOk-from_err _ _ failed; ends = IfOk-from_err _ _ failed; short = IfOk-from_err _ _ failed; reserved = IfOk-from_err _ _ failed }
+
+pub returns-in_err-guard : goal.returns-in_err-guard
+returns-in_err-guard c =
+    let failed = c.from_residual-in_err-guard.ensures.0 in
+    record { close = IfOk-from_err _ _ failed; ends = IfOk-from_err _ _ failed; short = IfOk-from_err _ _ failed; reserved = IfOk-from_err _ _ failed }
+
+pub returns-in_err-emit_vector : goal.returns-in_err-emit_vector
+returns-in_err-emit_vector c =
+    let failed = c.from_residual-in_err-emit_vector.ensures.0 in
+    record { close = IfOk-from_err _ _ failed; ends = IfOk-from_err _ _ failed; short = IfOk-from_err _ _ failed; reserved = IfOk-from_err _ _ failed }
+
+pub returns-in_err-words : goal.returns-in_err-words
+returns-in_err-words c =
+    let failed = c.from_residual-in_err-words.ensures.0 in
+    record { close = IfOk-from_err _ _ failed; ends = IfOk-from_err _ _ failed; short = IfOk-from_err _ _ failed; reserved = IfOk-from_err _ _ failed }
