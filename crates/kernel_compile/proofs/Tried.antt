@@ -60,11 +60,12 @@ enough_in k class n wanted count is h =
     (ap (nat_lt (counted_registers class)) (need_is k class) ∙ le-ltb (counted_registers class) (need k class) (omega (arith, count, is, h)))
 
 pub refused_in : (k : Program) (class c : RegClass) (n wanted found : ℕ) → n ≡ counted_registers class → wanted ≡ need k class → c ≡ class → found ≡ wanted → n < found → IsRefusalIn (needs_of k) (class ∷ []) (TooManyLive c found)
-refused_in k class c n wanted found count is same e more =
-    (ap (λ over. cond over (Some class) None)
-    (ap (nat_lt (counted_registers class)) (need_is k class) ∙ lt-ltb (counted_registers class) (need k class) (omega (arith, count, is, e, more)))
-    ∙ ap (λ class. Some class) (sym same),
-    e ∙ is ∙ sym (need_is k class) ∙ ap (need_in (needs_of k)) (sym same))
+refused_in k class c n wanted found count is same e more = (
+  ap (λ over. cond over (Some class) None)
+      (ap (nat_lt (counted_registers class)) (need_is k class) ∙ lt-ltb (counted_registers class) (need k class) (omega (arith, count, is, e, more)))
+      ∙ ap (λ class. Some class) (sym same),
+  e ∙ is ∙ sym (need_is k class) ∙ ap (need_in (needs_of k)) (sym same),
+)
 
 -- ---- a call that failed
 
