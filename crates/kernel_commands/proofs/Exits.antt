@@ -1,6 +1,6 @@
 -- What a command owes where it ends: after a read that was refused, an output that failed, and where it is done.
 use mathlib.Core.Logic.{⊎_elim}
-use Rattle.std.proofs.Common.{◌≡◌, ◌≢◌, ◌⊎◌, ℕ, Option, Some, None, Result, Ok, Err, inr, sym, ap, ◌∙◌, subst}
+use Rattle.std.proofs.Common.{◌≡◌, ◌≢◌, ◌⊎◌, ℕ, Option, Some, None, Result, Ok, Err, sym, ap, ◌∙◌, subst}
 use Rattle.std.specs.Prelude.{IfSome, IsErrAnd, OnErr}
 use Rattle.io_edges.specs.Files.{Rose}
 use Rattle.io_edges.specs.declared.sink.Failed.{Failed}
