@@ -9,8 +9,8 @@ use Rattle.command_answers.specs.Works.{ended}
 use Rattle.io_edges.specs.Files.{content}
 use Rattle.io_edges.specs.Sink.{GainsPart}
 use Rattle.command_answers.specs.Outputs.{Prints}
-use Rattle.command_answers.proofs.Prints.{prints_part, prints_all}
-use Rattle.command_answers.proofs.Reading.{of_read, with_output, is_err}
+use Rattle.command_answers.proofs.Prints.{prints_nothing, prints_part, prints_all}
+use Rattle.command_answers.proofs.Reading.{of_read, of_every, with_output, is_err}
 use Rattle.kernel_commands.proofs.Exits.{passed_on, steady_read, of_reading, read_not_output, steady_anyway, text_not, cut_loud, cut_not_file, cut_output, of_refusal, not_refused}
 use Rattle.kernel_commands.proofs.Expectations.{text_refused}
 use Rattle.kernel_commands.proofs.check.check.Goals as goal
@@ -121,3 +121,17 @@ returns-clause-steady g c = λ s. steady_anyway (g.F.Files.held c.args.files.now
 
 pub returns-clause-of_check : goal.returns-clause-of_check
 returns-clause-of_check g c = refl
+
+pub returns-in_err-text-clause-printed : goal.returns-in_err-text-clause-printed
+returns-in_err-text-clause-printed g c =
+    of_every (g.F.Files.held c.args.files.now) (λ h. AfterRead (file_of h c.args.from.now) CheckExpects)
+    (λ work. Prints (g.S.Sink.taken c.args.out.now) (g.S.Sink.taken c.args.out.now) (expected_text work) c.from_residual.result)
+    (λ work. subst (Prints (g.S.Sink.taken c.args.out.now) (g.S.Sink.taken c.args.out.now) (expected_text work)) (sym (is_err c.in_err-text.field-0.0 c.from_residual.result c.from_residual.ensures.1))
+    (prints_nothing (g.S.Sink.taken c.args.out.now) (expected_text work) c.in_err-text.field-0.0))
+
+pub returns-in_err-report-clause-printed : goal.returns-in_err-report-clause-printed
+returns-in_err-report-clause-printed g c =
+    of_every (g.F.Files.held c.args.files.now) (λ h. AfterRead (file_of h c.args.from.now) CheckExpects)
+    (λ work. Prints (g.S.Sink.taken c.args.out.now) (g.S.Sink.taken c.args.out.now) (expected_text work) c.from_residual-in_err-report.result)
+    (λ work. subst (Prints (g.S.Sink.taken c.args.out.now) (g.S.Sink.taken c.args.out.now) (expected_text work)) (sym (is_err c.in_err-report.field-0.0 c.from_residual-in_err-report.result c.from_residual-in_err-report.ensures.1))
+    (prints_nothing (g.S.Sink.taken c.args.out.now) (expected_text work) c.in_err-report.field-0.0))
