@@ -1,3 +1,4 @@
+pub mod Exits
 pub mod Expectations
 pub mod Verdicts
 pub mod Evaluations

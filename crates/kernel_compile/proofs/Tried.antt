@@ -1,17 +1,20 @@
 -- Classes of registers that are tried one after another.
-use Rattle.std.proofs.Common.{◌≡◌, Bool, true, false, cond, List, [], ◌∷◌, Some, None, refl, sym, ap, ◌∙◌, subst}
+use Rattle.std.proofs.Common.{◌≡◌, ◌<◌, ◌≤◌, ℕ, Bool, true, false, cond, List, [], ◌∷◌, Some, None, Result, Ok, Err, refl, sym, ap, ◌∙◌, subst, arith}
+use Rattle.std.specs.Prelude.{IsErrAnd, IfErr, nat_lt}
+use Rattle.std.proofs.lemmas.Bool.{lt-ltb, le-ltb}
 use Rattle.kernel_tree.specs.Plain.{Program}
 use Rattle.reg_assign.specs.declared.interval.RegClass.{RegClass}
 use Rattle.reg_assign.specs.declared.interval.RegClass.TheVariants.{Z, P, X}
 use Rattle.loop_form.specs.declared.need.Needs.{Needs}
-use Rattle.loop_form.specs.Needs.{needs_of}
+use Rattle.loop_form.specs.Needs.{need, needs_of}
+use Rattle.loop_form.specs.Registers.{counted_registers}
 use Rattle.dependence.specs.declared.reason.Class.{Class}
 use Rattle.dependence.specs.declared.reason.Class.TheVariants.{Vector, Scalar}
 use Rattle.dependence.specs.Bound.{is_vector}
 use Rattle.dependence.specs.Classes.{class_of}
 use Rattle.promises.specs.declared.fault.CompileFault.{CompileFault}
 use Rattle.promises.specs.declared.fault.CompileFault.TheVariants.{TooManyLive, Memory}
-use Rattle.promises.specs.Refusals.{tried, exceeds, exceeded, too_many, IsRefusalIn, IsRefusal}
+use Rattle.promises.specs.Refusals.{tried, need_in, exceeds, exceeded, too_many, IsRefusalIn, IsRefusal}
 
 none_of : (needs : Needs) (class : RegClass) (classes : List RegClass) → exceeded needs (class ∷ []) ≡ None → exceeded needs classes ≡ None → exceeded needs (class ∷ classes) ≡ None
 none_of needs class classes first rest = go (exceeds needs class) first
@@ -37,6 +40,42 @@ refused_later needs class classes (TooManyLive c n) none h = (go (exceeds needs 
     go true e = absurd cc
     go false e = refl
 refused_later needs class classes Memory none h = tt
+
+-- ---- one class
+
+need_is : (k : Program) (class : RegClass) → need_in (needs_of k) class ≡ need k class
+need_is k Z = refl
+need_is k P = refl
+need_is k X = refl
+
+pub some_registers : (class : RegClass) → 1 ≤ counted_registers class
+some_registers Z = omega arith
+some_registers P = omega arith
+some_registers X = omega arith
+
+-- intervals of a class that need no more registers than there are
+pub enough_in : (k : Program) (class : RegClass) (n wanted : ℕ) → n ≡ counted_registers class → wanted ≡ need k class → wanted ≤ n → exceeded (needs_of k) (class ∷ []) ≡ None
+enough_in k class n wanted count is h =
+    ap (λ over. cond over (Some class) None)
+    (ap (nat_lt (counted_registers class)) (need_is k class) ∙ le-ltb (counted_registers class) (need k class) (omega (arith, count, is, h)))
+
+pub refused_in : (k : Program) (class c : RegClass) (n wanted found : ℕ) → n ≡ counted_registers class → wanted ≡ need k class → c ≡ class → found ≡ wanted → n < found → IsRefusalIn (needs_of k) (class ∷ []) (TooManyLive c found)
+refused_in k class c n wanted found count is same e more = (
+  ap (λ over. cond over (Some class) None)
+      (ap (nat_lt (counted_registers class)) (need_is k class) ∙ lt-ltb (counted_registers class) (need k class) (omega (arith, count, is, e, more)))
+      ∙ ap (λ class. Some class) (sym same),
+  e ∙ is ∙ sym (need_is k class) ∙ ap (need_in (needs_of k)) (sym same),
+)
+
+-- ---- a call that failed
+
+pub on_fault : {T : Type 0} (Is : CompileFault → Type 0) (fault : CompileFault) (r : Result T CompileFault) → IsErrAnd r (λ e. e ≡ fault) → Is fault → IfErr r Is
+on_fault Is fault (Ok x) is h = tt
+on_fault Is fault (Err e) is h = subst Is (sym is) h
+
+pub on_fault_too : {T : Type 0} (Is Becomes : CompileFault → Type 0) (r : Result T CompileFault) → ((fault : CompileFault) → Is fault → Becomes fault) → IfErr r Is → IfErr r Becomes
+on_fault_too Is Becomes (Ok x) f h = tt
+on_fault_too Is Becomes (Err e) f h = f e h
 
 -- ---- of a kernel
 

@@ -50,6 +50,10 @@ some_label k = by (loop_index k) k.for_loop k.answer
 pub label_given : (k : Program) (scalar n3 n4 n5 n6 : ℕ) → scalar ≡ n3 → n4 ≡ n3 + scalar_labels k → n5 ≡ n4 → n6 ≡ guard_end k n5 → scalar < n6
 label_given k scalar n3 n4 n5 n6 s v u g = let h = grows_by (is_free (used_of k)) n5 (used_of k) in omega (arith, s, u, v, g, h, some_label k)
 
+-- and when the guard is
+pub label_placed : (k : Program) (scalar n3 n4 n5 : ℕ) → scalar ≡ n3 → n4 ≡ n3 + scalar_labels k → n5 ≡ n4 → scalar < n5
+label_placed k scalar n3 n4 n5 s v u = omega (arith, s, u, v, some_label k)
+
 module _ {R : ℕ → ℕ} {k : Program} {a b : Assignment} {vector scalar n0 n1 n2 n3 n4 n5 n6 : ℕ} {e0 e1 e2 e3 e4 e5 e6 e7 : List DraftEntry} (d : Emitted R k a b vector scalar n0 n1 n2 n3 n4 n5 n6 e0 e1 e2 e3 e4 e5 e6 e7) where
   zero_label : vector ≡ 0
   zero_label = d.label ∙ d.first

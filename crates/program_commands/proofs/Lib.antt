@@ -1,4 +1,6 @@
 pub mod Programs
 pub mod Listings
+pub mod Exits
+pub mod Writes
 pub mod Sessions
 pub mod Assemblies

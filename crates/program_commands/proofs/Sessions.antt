@@ -1,7 +1,6 @@
 -- What a debugging session comes to, by the files that were read, the program that was loaded, and what was answered.
 use Rattle.std.proofs.Common.{◌≡◌, ◌≢◌, ◌⊎◌, ℕ, List, Option, Some, None, Result, Ok, Err, inl, inr, refl, sym, ap, ◌∙◌, subst}
 use Rattle.std.specs.Prelude.{IfSome, IfOk, IsErrAnd}
-use Rattle.guest_types.specs.EarlyLoads.{StopList}
 use Rattle.guest_types.specs.Memory.{Memory as Pages}
 use Rattle.machine_model.specs.Load.{Image, load}
 use Rattle.machine_model.specs.Run.{start}
@@ -15,10 +14,10 @@ use Rattle.sve_debug.specs.Sessions.{Tells, AsItCame}
 use Rattle.refusals.specs.declared.refusal.Refusal.{Refusal}
 use Rattle.refusals.specs.declared.refusal.Refusal.TheVariants.{Elf, Map, Memory, File, Output}
 use Rattle.refusals.specs.declared.refusal.Done.TheVariants as done
-use Rattle.command_answers.specs.Answer.{HeldFiles, Expected, Answer, answer_of, expected_text, IsFileAnswer, IsAnswer}
+use Rattle.command_answers.specs.Answer.{HeldFiles, Expected, Answer, answer_of, expected_text, IsFileAnswer, IsAnswer, IsQuiet}
 use Rattle.refusals.specs.Statuses.{of_session}
 use Rattle.command_answers.specs.Reads.{and_then, task_files, IsOfRead}
-use Rattle.program_commands.specs.Commands.{expected_of_debug, expected_of_run, IsOfDebug}
+use Rattle.program_commands.specs.Commands.{expected_of_debug, IsOfDebug, IsOfRun}
 use Rattle.command_answers.specs.Works.{RefusesProgram}
 use Rattle.command_answers.specs.Outputs.{Prints}
 use Rattle.program_commands.specs.Ready.{AnswersAsItCame, DebugsAsItCame}
@@ -51,9 +50,12 @@ refused_answer x y rose wanted (Elf fault) result is h = inl (inl (is ∙ sym (a
 refused_answer x y rose wanted (Map fault) result is h = inl (inl (is ∙ sym (ap answer_of h)))
 refused_answer x y rose wanted other result is h = absurd h
 
+pub refused_work : (x y : ℕ) (rose : Type 0) (wanted : Expected) (refusal : Refusal) (result : Answer) → IsErrAnd result (λ r. r ≡ refusal) → RefusesProgram wanted refusal → IsAnswer x y rose (answer_of wanted) result
+refused_work x y rose wanted refusal result is h = refused_answer x y rose wanted refusal result (is_err refusal result is) h
+
 pub refused_program : (x y : ℕ) (rose : Type 0) (left : Option (List ℕ)) (wanted : List ℕ → Expected) (refusal : Refusal) (result : Answer) → IsErrAnd result (λ r. r ≡ refusal) → ((input : List ℕ) → RefusesProgram (wanted input) refusal) → IfSome left (λ input. IsAnswer x y rose (answer_of (wanted input)) result)
 refused_program x y rose None wanted refusal result is h = tt
-refused_program x y rose (Some input) wanted refusal result is h = refused_answer x y rose (wanted input) refusal result (is_err refusal result is) (h input)
+refused_program x y rose (Some input) wanted refusal result is h = refused_work x y rose (wanted input) refusal result is (h input)
 
 -- a refusal of a program or its map is none of another command, of a file or of an output
 refusal_of : (wanted : Expected) (refusal : Refusal) → RefusesProgram wanted refusal → IsOfDebug (Err refusal)
@@ -77,6 +79,15 @@ no_failed_output wanted other h e = absurd h
 pub program_of_debug : (wanted : Expected) (refusal : Refusal) (result : Answer) → IsErrAnd result (λ r. r ≡ refusal) → RefusesProgram wanted refusal → IsOfDebug result
 program_of_debug wanted refusal result is h = subst IsOfDebug (sym (is_err refusal result is)) (refusal_of wanted refusal h)
 
+pub program_of_run : (wanted : Expected) (refusal : Refusal) (result : Answer) → IsErrAnd result (λ r. r ≡ refusal) → RefusesProgram wanted refusal → IsOfRun result
+program_of_run wanted refusal result is h = subst IsOfRun (sym (is_err refusal result is)) (by refusal h)
+  where
+    by : (refusal : Refusal) → RefusesProgram wanted refusal → IsOfRun (Err refusal)
+    by Memory h = tt
+    by (Elf fault) h = tt
+    by (Map fault) h = tt
+    by other h = absurd h
+
 pub program_not_file : (wanted : Expected) (refusal : Refusal) (result : Answer) → IsErrAnd result (λ r. r ≡ refusal) → RefusesProgram wanted refusal → result ≢ Err File
 program_not_file wanted refusal result is h e = no_failed_file wanted refusal h (sym (is_err refusal result is) ∙ e)
 
@@ -94,6 +105,39 @@ pub failed_session : (x y a b i j : ℕ) (wanted : Answer) (fault : SessionFault
 failed_session x y a b i j wanted sessions.Memory result is input output = inl (inr (inl (is_err Memory result is)))
 failed_session x y a b i j wanted sessions.Input result is input output = inr (is_err Output result is, inr (input refl))
 failed_session x y a b i j wanted sessions.Output result is input output = inr (is_err Output result is, inl (output refl))
+
+pub session_output : (a b i j : ℕ) (fault : SessionFault) (result : Answer) → IsErrAnd result (λ r. r ≡ of_session fault) → (fault ≡ sessions.Input → Rose i j) → (fault ≡ sessions.Output → Rose a b) → result ≡ Err Output → Rose a b ⊎ Rose i j
+session_output a b i j sessions.Memory result is input output e = absurd (differ (sym (is_err Memory result is) ∙ e))
+  where
+    differ : ◌≡◌ {A = Answer} (Err Memory) (Err Output) → ⊥
+    differ e = absurd cc
+session_output a b i j sessions.Input result is input output e = inr (input refl)
+session_output a b i j sessions.Output result is input output e = inl (output refl)
+
+-- it has put something on the output, and no file failed
+pub session_loud : (P : Type 0) (fault : SessionFault) (result : Answer) → IsErrAnd result (λ r. r ≡ of_session fault) → IsQuiet result → P
+session_loud P fault result is quiet = absurd (by fault (subst IsQuiet (is_err (of_session fault) result is) quiet))
+  where
+    by : (fault : SessionFault) → IsQuiet (Err (of_session fault)) → ⊥
+    by sessions.Memory quiet = quiet
+    by sessions.Input quiet = quiet
+    by sessions.Output quiet = quiet
+
+pub session_not_file : (fault : SessionFault) (result : Answer) → IsErrAnd result (λ r. r ≡ of_session fault) → result ≢ Err File
+session_not_file fault result is e = by fault (sym (is_err (of_session fault) result is) ∙ e)
+  where
+    by : (fault : SessionFault) → ◌≡◌ {A = Answer} (Err (of_session fault)) (Err File) → ⊥
+    by sessions.Memory e = absurd cc
+    by sessions.Input e = absurd cc
+    by sessions.Output e = absurd cc
+
+pub of_failed_session : (fault : SessionFault) (result : Answer) → IsErrAnd result (λ r. r ≡ of_session fault) → IsOfDebug result
+of_failed_session fault result is = subst IsOfDebug (sym (is_err (of_session fault) result is)) (by fault)
+  where
+    by : (fault : SessionFault) → IsOfDebug (Err (of_session fault))
+    by sessions.Memory = tt
+    by sessions.Input = tt
+    by sessions.Output = tt
 
 -- Where no output failed, the input did, and the lines that were ended are answered.
 pub came_session : (x y a b : ℕ) (left rest : Option (List ℕ)) (held : Option HeldFiles) (vl : ℕ) (task : Task) (read : List ℕ × List ℕ) (found : Result (List ℕ × List ℕ) Refusal) (old new : Option (List ℕ)) (image : Image) (pages : Pages) (fault : SessionFault) (result : Answer) → found ≡ Ok read → IfSome held (λ h. IsFileAnswer x y (task_files h task) found)
@@ -127,11 +171,6 @@ pub untold_session : (left : Option (List ℕ)) (held : Option HeldFiles) (vl : 
 untold_session left held vl task printed refusal result is =
     whatever left held (λ input h. Prints printed printed (expected_text (expected_of_debug h input vl task)) result)
     (λ input h. subst (Prints printed printed (expected_text (expected_of_debug h input vl task))) (sym (is_err refusal result is)) (prints_nothing printed (expected_text (expected_of_debug h input vl task)) refusal))
-
--- nothing was put on the output of a run that was refused
-pub untold_run : (held : Option HeldFiles) (vl : ℕ) (stops : StopList) (task : Task) (printed : Option (List ℕ)) (refusal : Refusal) (result : Answer) → IsErrAnd result (λ r. r ≡ refusal) → IfSome held (λ h. Prints printed printed (expected_text (expected_of_run h vl stops task)) result)
-untold_run None vl stops task printed refusal result is = tt
-untold_run (Some h) vl stops task printed refusal result is = subst (Prints printed printed (expected_text (expected_of_run h vl stops task))) (sym (is_err refusal result is)) (prints_nothing printed (expected_text (expected_of_run h vl stops task)) refusal)
 
 all_told : (old new : Option (List ℕ)) (text : List ℕ) (told : Result (Unit {0}) SessionFault) → told ≡ Ok tt → Tells old new text told → Prints old new text (Ok done.Ended)
 all_told None new text (Ok all) is h = tt

@@ -1,4 +1,6 @@
 pub mod Lines
+pub mod Leaves
+pub mod Told
 pub mod SomeExpectedLaws
 pub mod OneExpectedLaws
 pub mod Completions

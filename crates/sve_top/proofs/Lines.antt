@@ -1,16 +1,12 @@
 -- What is told of a command by its line.
-use Rattle.std.proofs.Common.{◌≡◌, ◌≢◌, List, ℕ, Option, Some, None, Ok, Err, refl, sym, ap, ◌∙◌, subst}
+use Rattle.std.proofs.Common.{◌≡◌, ◌≢◌, List, ℕ, Option, Some, None, Ok, Err, sym, ap, ◌∙◌, subst}
 use Rattle.std.specs.Prelude.{IfSome, IsErrAnd}
 use Rattle.command_line.specs.Line.{Line, DebugLine, SweepLine}
 use Rattle.refusals.specs.declared.refusal.Refusal.TheVariants.{Memory, Output}
-use Rattle.refusals.specs.declared.refusal.Done.TheVariants as done
 use Rattle.command_answers.specs.Answer.{HeldFiles, Expected, Answer, status_of}
 use Rattle.sweep_command.proofs.Sweeps.{memory_swept}
+use Rattle.sve_top.proofs.Told.{is_output}
 use Rattle.sve_top.specs.Commands.{WhereTold, Swept, AsItComes}
-
--- what is told of a line is told of the same line by another name
-pub by_line : (held : Option HeldFiles) (left : Option (List ℕ)) (c d : Option Line) (P : Option Line → Expected → Type 0) → c ≡ d → WhereTold held left d (P d) → WhereTold held left c (P c)
-by_line held left c d P e h = subst (λ l. WhereTold held left l (P l)) (sym e) h
 
 -- what holds where the bytes of the input are told
 pub of_told : (left : Option (List ℕ)) (input : List ℕ) (P : List ℕ → Type 0) → left ≡ Some input → IfSome left P → P input
@@ -33,12 +29,6 @@ not_memory (Err r) is e = absurd (differ (ap (λ x. Err x) (sym is) ∙ e))
     differ : ◌≡◌ {A = Answer} (Err Memory) (Err Output) → ⊥
     differ e = absurd cc
 
--- only an output or an input that failed gives 9
-output_alone : (result : Answer) → status_of result ≡ 9 → result ≡ Err Output
-output_alone (Err Output) e = refl
-output_alone (Ok done.Ended) e = absurd cc
-output_alone other e = absurd cc
-
 -- want of memory before the words were read is no failure of an output
 pub no_session : (line : Option Line) (held : Option HeldFiles) (input left old new : Option (List ℕ)) (before now : ℕ) (result : Answer) → IsErrAnd result (λ r. r ≡ Memory) → AsItComes line held input left old new before now (result ≡ Err Output)
 no_session (Some (DebugLine vl task)) held input left old new before now result is = λ e. absurd (not_memory result is e)
@@ -46,5 +36,5 @@ no_session other held input left old new before now result is = tt
 
 -- the same by the status
 pub by_status : (line : Option Line) (held : Option HeldFiles) (input left old new : Option (List ℕ)) (before now s : ℕ) (result : Answer) → s ≡ status_of result → AsItComes line held input left old new before now (result ≡ Err Output) → AsItComes line held input left old new before now (s ≡ 9)
-by_status (Some (DebugLine vl task)) held input left old new before now s result is h = λ e. h (output_alone result (sym is ∙ e))
+by_status (Some (DebugLine vl task)) held input left old new before now s result is h = λ e. h (is_output s result is e)
 by_status other held input left old new before now s result is h = tt

@@ -1,15 +1,17 @@
-use Rattle.std.proofs.Common.{◌≡◌, ◌++◌, Some, Ok, refl, ap, sym, ◌∙◌, inl, subst}
-use Rattle.std.specs.Prelude.{IfSome}
+use Rattle.std.proofs.Common.{◌≡◌, ◌++◌, Some, Ok, refl, ap, sym, ◌∙◌, inl, inr, subst}
+use Rattle.std.specs.Prelude.{IfSome, IsSome}
 use Rattle.refusals.specs.declared.refusal.Done.TheVariants as done
-use Rattle.refusals.specs.declared.refusal.Refusal.TheVariants.{Output}
+use Rattle.refusals.specs.declared.refusal.Refusal.TheVariants.{File, Output}
 use Rattle.command_answers.specs.Answer.{expected_text}
 use Rattle.command_answers.specs.Reads.{AfterRead, file_of, bytes_in}
-use Rattle.kernel_commands.specs.Commands.{CheckExpects}
+use Rattle.kernel_commands.specs.Commands.{CheckExpects, IsOfCheck}
 use Rattle.command_answers.specs.Works.{ended}
+use Rattle.io_edges.specs.Files.{content}
 use Rattle.io_edges.specs.Sink.{GainsPart}
 use Rattle.command_answers.specs.Outputs.{Prints}
-use Rattle.command_answers.proofs.Prints.{prints_part, prints_all}
-use Rattle.command_answers.proofs.Reading.{of_read, with_output, is_err}
+use Rattle.command_answers.proofs.Prints.{prints_nothing, prints_part, prints_all}
+use Rattle.command_answers.proofs.Reading.{of_read, of_every, with_output, is_err}
+use Rattle.kernel_commands.proofs.Exits.{passed_on, steady_read, of_reading, read_not_output, steady_anyway, text_not, cut_loud, cut_not_file, cut_output, of_refusal, not_refused}
 use Rattle.kernel_commands.proofs.Expectations.{text_refused}
 use Rattle.kernel_commands.proofs.check.check.Goals as goal
 
@@ -47,3 +49,89 @@ returns-clause-printed g c =
     (prints_all (g.S.Sink.taken c.args.out.now) (g.S.Sink.taken c.put_all.new.sink) c.in_ok-report.report.items done.Ended
     (subst (λ t. IfSome (g.S.Sink.taken c.args.out.now) (λ b. g.S.Sink.taken c.put_all.new.sink ≡ Some (b ++ t))) c.deref-2.ensures.value c.in_ok-put_all.ensures.all)
     (subst (λ t. IfSome (g.S.Sink.taken c.args.out.now) (λ b. GainsPart b (g.S.Sink.taken c.put_all.new.sink) t)) c.deref-2.ensures.value c.put_all.ensures.prefix))
+
+pub returns-in_err-text-clause-held : goal.returns-in_err-text-clause-held
+returns-in_err-text-clause-held g c = c.read_file.ensures.held
+
+pub returns-in_err-text-clause-quiet : goal.returns-in_err-text-clause-quiet
+returns-in_err-text-clause-quiet g c = λ q. refl
+
+pub returns-in_err-text-clause-failed : goal.returns-in_err-text-clause-failed
+returns-in_err-text-clause-failed g c = λ e. c.read_file.ensures.failed (passed_on c.read_file.result c.in_err-text.field-0.0 File c.from_residual.result c.in_err-text.was c.from_residual.ensures.1 e)
+
+pub returns-in_err-text-clause-output : goal.returns-in_err-text-clause-output
+returns-in_err-text-clause-output g c = λ e. absurd (read_not_output c.read_file.result c.in_err-text.field-0.0 c.from_residual.result c.in_err-text.was c.from_residual.ensures.1 c.read_file.ensures.of_read e)
+
+pub returns-in_err-text-clause-steady : goal.returns-in_err-text-clause-steady
+returns-in_err-text-clause-steady g c = λ s. steady_read (g.F.Files.held c.args.files.now) (λ h. IsSome (content h c.args.from.now)) c.read_file.result c.in_err-text.field-0.0 c.from_residual.result c.in_err-text.was c.from_residual.ensures.1 (c.read_file.ensures.reads s)
+
+pub returns-in_err-text-clause-of_check : goal.returns-in_err-text-clause-of_check
+returns-in_err-text-clause-of_check g c = of_reading IsOfCheck c.read_file.result c.in_err-text.field-0.0 c.from_residual.result c.in_err-text.was c.from_residual.ensures.1 c.read_file.ensures.of_read tt tt tt
+
+pub returns-in_err-report-clause-held : goal.returns-in_err-report-clause-held
+returns-in_err-report-clause-held g c = c.read_file.ensures.held
+
+pub returns-in_err-report-clause-quiet : goal.returns-in_err-report-clause-quiet
+returns-in_err-report-clause-quiet g c = λ q. refl
+
+pub returns-in_err-report-clause-of_check : goal.returns-in_err-report-clause-of_check
+returns-in_err-report-clause-of_check g c = of_refusal IsOfCheck c.in_err-report.field-0.0 c.from_residual-in_err-report.result c.from_residual-in_err-report.ensures.1 c.in_err-report.ensures.of_check
+
+pub returns-in_err-report-clause-failed : goal.returns-in_err-report-clause-failed
+returns-in_err-report-clause-failed g c = λ e. absurd (text_not (CheckExpects c.deref.result.now) File c.in_err-report.field-0.0 c.from_residual-in_err-report.result (inl refl) c.from_residual-in_err-report.ensures.1 c.in_err-report.ensures.refusal e)
+
+pub returns-in_err-report-clause-output : goal.returns-in_err-report-clause-output
+returns-in_err-report-clause-output g c = λ e. absurd (text_not (CheckExpects c.deref.result.now) Output c.in_err-report.field-0.0 c.from_residual-in_err-report.result (inr refl) c.from_residual-in_err-report.ensures.1 c.in_err-report.ensures.refusal e)
+
+pub returns-in_err-report-clause-steady : goal.returns-in_err-report-clause-steady
+returns-in_err-report-clause-steady g c = λ s. steady_anyway (g.F.Files.held c.args.files.now) (λ h. IsSome (content h c.args.from.now)) c.from_residual-in_err-report.result (text_not (CheckExpects c.deref.result.now) File c.in_err-report.field-0.0 c.from_residual-in_err-report.result (inl refl) c.from_residual-in_err-report.ensures.1 c.in_err-report.ensures.refusal)
+
+pub returns-in_err-put_all-clause-held : goal.returns-in_err-put_all-clause-held
+returns-in_err-put_all-clause-held g c = c.read_file.ensures.held
+
+pub returns-in_err-put_all-clause-quiet : goal.returns-in_err-put_all-clause-quiet
+returns-in_err-put_all-clause-quiet g c = λ q. cut_loud _ c.from_residual-in_err-put_all.result c.from_residual-in_err-put_all.ensures.1 q
+
+pub returns-in_err-put_all-clause-failed : goal.returns-in_err-put_all-clause-failed
+returns-in_err-put_all-clause-failed g c = λ e. absurd (cut_not_file c.from_residual-in_err-put_all.result c.from_residual-in_err-put_all.ensures.1 e)
+
+pub returns-in_err-put_all-clause-output : goal.returns-in_err-put_all-clause-output
+returns-in_err-put_all-clause-output g c = λ e. cut_output (g.S.Sink.faults c.args.out.now) (g.S.Sink.faults c.put_all.new.sink) c.put_all.result c.in_err-put_all.field-0.0 c.from_residual-in_err-put_all.result c.in_err-put_all.was c.put_all.ensures.cause e
+
+pub returns-in_err-put_all-clause-steady : goal.returns-in_err-put_all-clause-steady
+returns-in_err-put_all-clause-steady g c = λ s. steady_anyway (g.F.Files.held c.args.files.now) (λ h. IsSome (content h c.args.from.now)) c.from_residual-in_err-put_all.result (cut_not_file c.from_residual-in_err-put_all.result c.from_residual-in_err-put_all.ensures.1)
+
+pub returns-in_err-put_all-clause-of_check : goal.returns-in_err-put_all-clause-of_check
+returns-in_err-put_all-clause-of_check g c = of_refusal IsOfCheck Output c.from_residual-in_err-put_all.result c.from_residual-in_err-put_all.ensures.1 tt
+
+pub returns-clause-held : goal.returns-clause-held
+returns-clause-held g c = c.read_file.ensures.held
+
+pub returns-clause-quiet : goal.returns-clause-quiet
+returns-clause-quiet g c = λ q. absurd q
+
+pub returns-clause-failed : goal.returns-clause-failed
+returns-clause-failed g c = λ e. absurd (not_refused done.Ended File e)
+
+pub returns-clause-output : goal.returns-clause-output
+returns-clause-output g c = λ e. absurd (not_refused done.Ended Output e)
+
+pub returns-clause-steady : goal.returns-clause-steady
+returns-clause-steady g c = λ s. steady_anyway (g.F.Files.held c.args.files.now) (λ h. IsSome (content h c.args.from.now)) (Ok done.Ended) (not_refused done.Ended File)
+
+pub returns-clause-of_check : goal.returns-clause-of_check
+returns-clause-of_check g c = refl
+
+pub returns-in_err-text-clause-printed : goal.returns-in_err-text-clause-printed
+returns-in_err-text-clause-printed g c =
+    of_every (g.F.Files.held c.args.files.now) (λ h. AfterRead (file_of h c.args.from.now) CheckExpects)
+    (λ work. Prints (g.S.Sink.taken c.args.out.now) (g.S.Sink.taken c.args.out.now) (expected_text work) c.from_residual.result)
+    (λ work. subst (Prints (g.S.Sink.taken c.args.out.now) (g.S.Sink.taken c.args.out.now) (expected_text work)) (sym (is_err c.in_err-text.field-0.0 c.from_residual.result c.from_residual.ensures.1))
+    (prints_nothing (g.S.Sink.taken c.args.out.now) (expected_text work) c.in_err-text.field-0.0))
+
+pub returns-in_err-report-clause-printed : goal.returns-in_err-report-clause-printed
+returns-in_err-report-clause-printed g c =
+    of_every (g.F.Files.held c.args.files.now) (λ h. AfterRead (file_of h c.args.from.now) CheckExpects)
+    (λ work. Prints (g.S.Sink.taken c.args.out.now) (g.S.Sink.taken c.args.out.now) (expected_text work) c.from_residual-in_err-report.result)
+    (λ work. subst (Prints (g.S.Sink.taken c.args.out.now) (g.S.Sink.taken c.args.out.now) (expected_text work)) (sym (is_err c.in_err-report.field-0.0 c.from_residual-in_err-report.result c.from_residual-in_err-report.ensures.1))
+    (prints_nothing (g.S.Sink.taken c.args.out.now) (expected_text work) c.in_err-report.field-0.0))

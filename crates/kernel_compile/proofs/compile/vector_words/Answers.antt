@@ -1,4 +1,12 @@
-use Rattle.std.proofs.Common.{ap, ◌∙◌, subst}
+use Rattle.std.proofs.Common.{◌≤◌, ◌+◌, ◌*◌, length, ap, sym, ◌∙◌, subst}
+use Rattle.std.proofs.lemmas.Result.{IfOk-from_err}
+use Rattle.kernel_tree.specs.Items.{size_of}
+use Rattle.loop_form.specs.Registers.{FitsKernel}
+use Rattle.reg_assign.specs.declared.interval.RegClass.TheVariants.{Z, P, X}
+use Rattle.promises.specs.declared.fault.CompileFault.TheVariants.{Memory}
+use Rattle.promises.specs.Refusals.{IsRefusal}
+use Rattle.scalar_words.proofs.Errors.{on_error}
+use Rattle.kernel_compile.proofs.Tried.{on_fault}
 use Rattle.kernel_tree.specs.declared.checked.Checked.{Checked}
 use Rattle.loop_form.specs.View.{program}
 use Rattle.machine_model.specs.Written.{file_of}
@@ -6,11 +14,56 @@ use Rattle.dependence.specs.Classes.{class_of}
 use Rattle.promises.specs.Faithful.{FreeEnds, CloseFaithful}
 use Rattle.kernel_compile.proofs.compile.vector_words.Goals as goal
 
-pub emit_lanes-requires-clause-class : goal.emit_lanes-requires-clause-class
-emit_lanes-requires-clause-class c = ap (λ (kernel : Checked). class_of (program kernel)) c.in_ok-facts.ensures ∙ c.requires
+pub emit_lanes-requires : goal.emit_lanes-requires
+emit_lanes-requires c = record {
+  class = ap (λ (kernel : Checked). class_of (program kernel)) c.in_ok-facts.ensures ∙ c.requires;
+  vectors = subst (λ (kernel : Checked). FitsKernel (program kernel) Z c.in_ok-regs.regs.z) (sym c.in_ok-facts.ensures) c.in_ok-regs.ensures.vectors;
+  predicates = subst (λ (kernel : Checked). FitsKernel (program kernel) P c.in_ok-regs.regs.p) (sym c.in_ok-facts.ensures) c.in_ok-regs.ensures.predicates;
+  scalars = subst (λ (kernel : Checked). FitsKernel (program kernel) X c.in_ok-regs.regs.x) (sym c.in_ok-facts.ensures) c.in_ok-regs.ensures.scalars;
+}
 
-pub returns-clause-close : goal.returns-clause-close
-returns-clause-close c = subst (λ (kernel : Checked). CloseFaithful (program kernel) (file_of c.in_ok-words.words.items)) c.in_ok-facts.ensures c.in_ok-words.ensures.close
+pub returns-in_err-regs : goal.returns-in_err-regs
+returns-in_err-regs c =
+    let failed = c.from_residual.ensures.0 in
+    record {
+      close = IfOk-from_err _ _ failed;
+      ends = IfOk-from_err _ _ failed;
+      short = IfOk-from_err _ _ failed;
+      reserved = IfOk-from_err _ _ failed;
+      enough = on_error _ _ failed;
+      refusal = on_fault (IsRefusal (program c.args.kernel.now)) (c.in_err-regs.field-0.0) _ c.from_residual.ensures.1 c.in_err-regs.ensures.refusal;
+    }
 
-pub returns-clause-ends : goal.returns-clause-ends
-returns-clause-ends c = subst (λ (kernel : Checked). FreeEnds (program kernel) (file_of c.in_ok-words.words.items)) c.in_ok-facts.ensures c.in_ok-words.ensures.ends
+pub returns-in_err-facts : goal.returns-in_err-facts
+returns-in_err-facts c =
+    let failed = c.from_residual-in_err-facts.ensures.0 in
+    record {
+      close = IfOk-from_err _ _ failed;
+      ends = IfOk-from_err _ _ failed;
+      short = IfOk-from_err _ _ failed;
+      reserved = IfOk-from_err _ _ failed;
+      enough = on_error _ _ failed;
+      refusal = on_fault (IsRefusal (program c.args.kernel.now)) (Memory) _ c.from_residual-in_err-facts.ensures.1 tt;
+    }
+
+pub returns-in_err-words : goal.returns-in_err-words
+returns-in_err-words c =
+    let failed = c.from_residual-in_err-words.ensures.0 in
+    record {
+      close = IfOk-from_err _ _ failed;
+      ends = IfOk-from_err _ _ failed;
+      short = IfOk-from_err _ _ failed;
+      reserved = IfOk-from_err _ _ failed;
+      enough = on_error _ _ failed;
+      refusal = on_fault (IsRefusal (program c.args.kernel.now)) (Memory) _ c.from_residual-in_err-words.ensures.1 tt;
+    }
+
+pub returns : goal.returns
+returns c = record {
+  close = subst (λ (kernel : Checked). CloseFaithful (program kernel) (file_of c.in_ok-words.words.items)) c.in_ok-facts.ensures c.in_ok-words.ensures.close;
+  ends = subst (λ (kernel : Checked). FreeEnds (program kernel) (file_of c.in_ok-words.words.items)) c.in_ok-facts.ensures c.in_ok-words.ensures.ends;
+  short = subst (λ (kernel : Checked). length c.in_ok-words.words.items ≤ 1000 + 60 * size_of (program kernel)) c.in_ok-facts.ensures c.in_ok-words.ensures.short;
+  reserved = c.in_ok-words.ensures.reserved;
+  enough = c.in_ok-regs.ensures.enough;
+  refusal = tt;
+}

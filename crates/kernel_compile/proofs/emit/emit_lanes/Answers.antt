@@ -1,4 +1,5 @@
-use Rattle.std.proofs.Common.{◌∙◌, ◌≡◌, None, ◌<◌, ◌^◌, All, length, sym, ap, subst, arith}
+use Rattle.std.proofs.Common.{◌∙◌, ◌≡◌, None, refl, ◌<◌, ◌^◌, All, length, sym, ap, subst, arith}
+use Rattle.std.proofs.lemmas.Result.{IfOk-from_err}
 use Rattle.kernel_tree.specs.declared.checked.Checked.{Checked}
 use Rattle.kernel_tree.specs.Grammar.{IsTree}
 use Rattle.kernel_tree.specs.Typing.{check_fault}
@@ -12,7 +13,7 @@ use Rattle.promises.specs.Reserved.{LeavesReserved}
 use Rattle.kernel_compile.proofs.ReservedWords.{lanes_alone}
 use Rattle.kernel_compile.proofs.VectorJoin.{IsJoined}
 use Rattle.kernel_compile.proofs.VectorFiles.{Promised, vector_file}
-use Rattle.kernel_compile.proofs.VectorEmitted.{Emitted, is_whole, label_given, few_words}
+use Rattle.kernel_compile.proofs.VectorEmitted.{Emitted, is_whole, label_given, label_placed, few_words}
 use Rattle.kernel_compile.proofs.emit.emit_lanes.Goals as goal
 
 sound : (kernel : Checked) → check_fault (program kernel) ≡ None
@@ -23,17 +24,50 @@ spelled : (kernel : Checked) → ∥ IsTree (program kernel) ∥₁
 unfolding program
 spelled kernel = kernel.tree
 
--- the listing that is handed on
-pub emit_begin-requires-clause-listed : goal.emit_begin-requires-clause-listed
-unfolding program
-emit_begin-requires-clause-listed c = c.deref.ensures.value ∙ c.args.facts.now.listed
+-- ---- what a call takes
 
-pub emit_scalar-requires-clause-listed : goal.emit_scalar-requires-clause-listed
-unfolding program
-emit_scalar-requires-clause-listed c = c.deref-2.ensures.value ∙ c.args.facts.now.listed
+pub begin_runs-requires : goal.begin_runs-requires
+begin_runs-requires c = record { fits = c.requires.scalars }
 
-pub emit_vector-requires-clause-given : goal.emit_vector-requires-clause-given
-emit_vector-requires-clause-given c = label_given (program c.args.facts.now.kernel.now) _ _ _ _ _ c.in_ok-scalar.ensures.entry c.in_ok-scalar.ensures.emits.labels c.in_ok-place.ensures.labels c.in_ok-guard.ensures.labels
+pub scalar_runs-requires : goal.scalar_runs-requires
+scalar_runs-requires c = record { fits = c.requires.scalars }
+
+pub scalar_code_leaves-requires : goal.scalar_code_leaves-requires
+scalar_code_leaves-requires c = record { fits = c.requires.scalars }
+
+pub vector_code_leaves-requires : goal.vector_code_leaves-requires
+vector_code_leaves-requires c = record { fits = c.requires.scalars }
+
+pub emit_begin-requires : goal.emit_begin-requires
+unfolding program
+emit_begin-requires c = record { fits = c.requires.scalars; listed = c.deref.ensures.value ∙ c.args.facts.now.listed }
+
+pub branch-draft-requires : goal.branch-draft-requires
+branch-draft-requires c = record {
+  register = refl;
+  given = omega (arith, c.in_ok-vector.ensures.next, c.in_ok-vector.ensures.count, c.in_ok-emit_begin.ensures.emits.labels);
+}
+
+pub emit_scalar-requires : goal.emit_scalar-requires
+unfolding program
+emit_scalar-requires c = record { fits = c.requires.scalars; listed = c.deref-2.ensures.value ∙ c.args.facts.now.listed }
+
+pub place-requires : goal.place-requires
+place-requires c = record {
+  given = omega (arith, c.in_ok-vector.ensures.next, c.in_ok-vector.ensures.count, c.in_ok-emit_begin.ensures.emits.labels, c.in_ok-branch.ensures.labels, c.in_ok-scalar.ensures.emits.labels);
+}
+
+pub guard-requires : goal.guard-requires
+guard-requires c = record { failed = label_placed (program c.args.facts.now.kernel.now) _ _ _ _ c.in_ok-scalar.ensures.entry c.in_ok-scalar.ensures.emits.labels c.in_ok-place.ensures.labels }
+
+pub emit_vector-requires : goal.emit_vector-requires
+emit_vector-requires c = record {
+  class = c.requires.class;
+  vectors = c.requires.vectors;
+  predicates = c.requires.predicates;
+  scalars = c.requires.scalars;
+  given = label_given (program c.args.facts.now.kernel.now) _ _ _ _ _ c.in_ok-scalar.ensures.entry c.in_ok-scalar.ensures.emits.labels c.in_ok-place.ensures.labels c.in_ok-guard.ensures.labels;
+}
 
 pub finish-requires : goal.finish-requires
 finish-requires c =
@@ -129,3 +163,45 @@ returns-clause-reserved c =
     let scalar = c.in_ok-scalar.field-0.at_iteration in
     let alone = lanes_alone (drafts c) (c.scalar_code_leaves.ensures.begin c.label.new.self.labels) (c.scalar_code_leaves.ensures.scalar c.branch-draft.new.self.labels) (c.guard_leaves.ensures k scalar c.place.new.self.labels) (c.vector_code_leaves.ensures c.args.regs.now.z c.args.regs.now.p scalar c.guard.new.draft.labels) in
     subst (λ ws. All LeavesReserved ws) (sym c.in_ok-words.ensures.words) (c.words_leave.ensures c.emit_vector.new.draft.labels c.emit_vector.new.draft.entries c.in_ok-words.ensures.fit alone)
+
+-- ---- where a call fails
+
+pub returns-in_err-vector : goal.returns-in_err-vector
+returns-in_err-vector c =
+    let failed = c.from_residual.ensures.0 in
+    record { close = IfOk-from_err _ _ failed; ends = IfOk-from_err _ _ failed; short = IfOk-from_err _ _ failed; reserved = IfOk-from_err _ _ failed }
+
+pub returns-in_err-emit_begin : goal.returns-in_err-emit_begin
+returns-in_err-emit_begin c =
+    let failed = c.from_residual-in_err-emit_begin.ensures.0 in
+    record { close = IfOk-from_err _ _ failed; ends = IfOk-from_err _ _ failed; short = IfOk-from_err _ _ failed; reserved = IfOk-from_err _ _ failed }
+
+pub returns-in_err-branch : goal.returns-in_err-branch
+returns-in_err-branch c =
+    let failed = c.from_residual-in_err-branch.ensures.0 in
+    record { close = IfOk-from_err _ _ failed; ends = IfOk-from_err _ _ failed; short = IfOk-from_err _ _ failed; reserved = IfOk-from_err _ _ failed }
+
+pub returns-in_err-scalar : goal.returns-in_err-scalar
+returns-in_err-scalar c =
+    let failed = c.from_residual-in_err-scalar.ensures.0 in
+    record { close = IfOk-from_err _ _ failed; ends = IfOk-from_err _ _ failed; short = IfOk-from_err _ _ failed; reserved = IfOk-from_err _ _ failed }
+
+pub returns-in_err-place : goal.returns-in_err-place
+returns-in_err-place c =
+    let failed = c.from_residual-in_err-place.ensures.0 in
+    record { close = IfOk-from_err _ _ failed; ends = IfOk-from_err _ _ failed; short = IfOk-from_err _ _ failed; reserved = IfOk-from_err _ _ failed }
+
+pub returns-in_err-guard : goal.returns-in_err-guard
+returns-in_err-guard c =
+    let failed = c.from_residual-in_err-guard.ensures.0 in
+    record { close = IfOk-from_err _ _ failed; ends = IfOk-from_err _ _ failed; short = IfOk-from_err _ _ failed; reserved = IfOk-from_err _ _ failed }
+
+pub returns-in_err-emit_vector : goal.returns-in_err-emit_vector
+returns-in_err-emit_vector c =
+    let failed = c.from_residual-in_err-emit_vector.ensures.0 in
+    record { close = IfOk-from_err _ _ failed; ends = IfOk-from_err _ _ failed; short = IfOk-from_err _ _ failed; reserved = IfOk-from_err _ _ failed }
+
+pub returns-in_err-words : goal.returns-in_err-words
+returns-in_err-words c =
+    let failed = c.from_residual-in_err-words.ensures.0 in
+    record { close = IfOk-from_err _ _ failed; ends = IfOk-from_err _ _ failed; short = IfOk-from_err _ _ failed; reserved = IfOk-from_err _ _ failed }

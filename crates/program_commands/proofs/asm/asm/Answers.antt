@@ -1,44 +1,95 @@
-use Rattle.std.proofs.Common.{Ok, ap, sym, ◌∙◌, inl, subst}
+use Rattle.std.proofs.Common.{Ok, refl, ap, sym, ◌∙◌, inl, subst}
+use Rattle.std.specs.Prelude.{IsSome}
+use Rattle.io_edges.specs.Files.{content}
+use Rattle.refusals.specs.declared.refusal.Refusal.TheVariants.{File}
+use Rattle.refusals.specs.Statuses.{of_files}
 use Rattle.refusals.specs.declared.refusal.Done.TheVariants as done
 use Rattle.command_answers.specs.Answer.{answer_of, IsFileAnswer, Unwritten}
 use Rattle.command_answers.specs.Reads.{file_of, bytes_in}
 use Rattle.command_answers.proofs.Reading.{of_what_follows, is_err, written_file}
-use Rattle.program_commands.specs.Commands.{assemble_text, AssemblesTo}
+use Rattle.program_commands.specs.Commands.{assemble_text, expected_of_asm, AssemblesTo, IsOfAsm}
 use Rattle.program_commands.proofs.Assemblies.{asm_refused}
+use Rattle.program_commands.proofs.Exits.{passed_on, steady_read, of_reading, not_refused}
+use Rattle.program_commands.proofs.Sessions.{steady_anyway}
+use Rattle.program_commands.proofs.Writes.{file_not_read, not_done, in_any, same_others, of_text, text_not_file, written_others, write_answer, write_failed, write_kept, write_steady, of_write}
 use Rattle.program_commands.proofs.asm.asm.Goals as goal
 
-pub returns-in_err-file-clause-answer : goal.returns-in_err-file-clause-answer
-returns-in_err-file-clause-answer g c =
-    of_what_follows (g.F.Files.faults c.args.files.now) (g.F.Files.faults c.read_file.new.files) (g.F.Files.held c.args.files.now) (λ h. file_of h c.args.from.now) c.deref.result.now (bytes_in c.read_file.result) assemble_text
-    (λ work. IsFileAnswer (g.F.Files.faults c.args.files.now) (g.F.Files.faults c.read_file.new.files) (answer_of work) c.from_residual-in_err-file.result)
-    (ap bytes_in c.in_ok-text.was ∙ ap (λ b. Ok b) (sym c.deref.ensures.value)) c.read_file.ensures.answer
-    (asm_refused _ _ _ c.in_err-file.field-0.0 c.from_residual-in_err-file.result (is_err c.in_err-file.field-0.0 c.from_residual-in_err-file.result c.from_residual-in_err-file.ensures.1) c.in_err-file.ensures.refusal)
+pub returns-in_err-text : goal.returns-in_err-text
+returns-in_err-text g c =
+    let refusal = c.in_err-text.field-0.0 in
+    let result = c.from_residual.result in
+    let is = c.from_residual.ensures.1 in
+    let was = c.in_err-text.was in
+    record {
+      answer = file_not_read (g.F.Files.faults c.args.files.now) (g.F.Files.faults c.read_file.new.files) (g.F.Files.held c.args.files.now) (λ h. file_of h c.args.from.now) (bytes_in c.read_file.result) assemble_text refusal result (ap bytes_in was) (is_err refusal result is) c.read_file.ensures.answer;
+      file = not_done _ refusal result is;
+      others = same_others (g.F.Files.held c.args.files.now) (g.F.Files.held c.read_file.new.files) c.args.to.now c.read_file.ensures.held;
+      kept = λ k. c.read_file.ensures.held;
+      failed = λ e. c.read_file.ensures.failed (passed_on c.read_file.result refusal File result was is e);
+      steady = λ s. steady_read (g.F.Files.held c.args.files.now) (λ h. IsSome (content h c.args.from.now)) c.read_file.result refusal result was is (c.read_file.ensures.reads s);
+      unwritten = in_any (g.F.Files.held c.args.files.now) (λ h. Unwritten (expected_of_asm h c.args.from.now) (g.F.Files.held c.args.files.now) (g.F.Files.held c.read_file.new.files)) (λ h r. c.read_file.ensures.held);
+      of_asm = of_reading IsOfAsm c.read_file.result refusal result was is c.read_file.ensures.of_read tt tt tt;
+    }
 
-pub returns-in_err-write-clause-unwritten : goal.returns-in_err-write-clause-unwritten
-returns-in_err-write-clause-unwritten g c =
-    of_what_follows (g.F.Files.faults c.args.files.now) (g.F.Files.faults c.read_file.new.files) (g.F.Files.held c.args.files.now) (λ h. file_of h c.args.from.now) c.deref.result.now (bytes_in c.read_file.result) assemble_text
-    (λ work. Unwritten work (g.F.Files.held c.args.files.now) (g.F.Files.held c.write.new.self))
-    (ap bytes_in c.in_ok-text.was ∙ ap (λ b. Ok b) (sym c.deref.ensures.value)) c.read_file.ensures.answer
-    (subst (λ work. Unwritten work (g.F.Files.held c.args.files.now) (g.F.Files.held c.write.new.self)) (sym c.in_ok-file.ensures.wanted) (λ r. absurd r))
+pub returns-in_err-file : goal.returns-in_err-file
+returns-in_err-file g c =
+    let work = assemble_text c.deref.result.now in
+    let refusal = c.in_err-file.field-0.0 in
+    let result = c.from_residual-in_err-file.result in
+    let is = c.from_residual-in_err-file.ensures.1 in
+    record {
+      answer = of_what_follows (g.F.Files.faults c.args.files.now) (g.F.Files.faults c.read_file.new.files) (g.F.Files.held c.args.files.now) (λ h. file_of h c.args.from.now) c.deref.result.now (bytes_in c.read_file.result) assemble_text
+          (λ work. IsFileAnswer (g.F.Files.faults c.args.files.now) (g.F.Files.faults c.read_file.new.files) (answer_of work) c.from_residual-in_err-file.result)
+          (ap bytes_in c.in_ok-text.was ∙ ap (λ b. Ok b) (sym c.deref.ensures.value)) c.read_file.ensures.answer
+          (asm_refused _ _ _ c.in_err-file.field-0.0 c.from_residual-in_err-file.result (is_err c.in_err-file.field-0.0 c.from_residual-in_err-file.result c.from_residual-in_err-file.ensures.1) c.in_err-file.ensures.refusal);
+      file = not_done _ refusal result is;
+      others = same_others (g.F.Files.held c.args.files.now) (g.F.Files.held c.read_file.new.files) c.args.to.now c.read_file.ensures.held;
+      kept = λ k. c.read_file.ensures.held;
+      failed = λ e. absurd (text_not_file work refusal result is c.in_err-file.ensures.refusal e);
+      steady = λ s. steady_anyway (g.F.Files.held c.args.files.now) (λ h. IsSome (content h c.args.from.now)) result (text_not_file work refusal result is c.in_err-file.ensures.refusal);
+      unwritten = in_any (g.F.Files.held c.args.files.now) (λ h. Unwritten (expected_of_asm h c.args.from.now) (g.F.Files.held c.args.files.now) (g.F.Files.held c.read_file.new.files)) (λ h r. c.read_file.ensures.held);
+      of_asm = of_text work refusal result is c.in_err-file.ensures.refusal;
+    }
 
-pub returns-clause-unwritten : goal.returns-clause-unwritten
-returns-clause-unwritten g c =
-    of_what_follows (g.F.Files.faults c.args.files.now) (g.F.Files.faults c.read_file.new.files) (g.F.Files.held c.args.files.now) (λ h. file_of h c.args.from.now) c.deref.result.now (bytes_in c.read_file.result) assemble_text
-    (λ work. Unwritten work (g.F.Files.held c.args.files.now) (g.F.Files.held c.write.new.self))
-    (ap bytes_in c.in_ok-text.was ∙ ap (λ b. Ok b) (sym c.deref.ensures.value)) c.read_file.ensures.answer
-    (subst (λ work. Unwritten work (g.F.Files.held c.args.files.now) (g.F.Files.held c.write.new.self)) (sym c.in_ok-file.ensures.wanted) (λ r. absurd r))
+pub returns-in_err-write : goal.returns-in_err-write
+returns-in_err-write g c =
+    let fault = c.in_err-write.field-0.0 in
+    let result = c.from_residual-in_err-write.result in
+    let is = c.from_residual-in_err-write.ensures.1 in
+    let was = c.in_err-write.was in
+    record {
+      answer = in_any (g.F.Files.held c.args.files.now) _ (λ h. write_answer (g.F.Files.faults c.args.files.now) (g.F.Files.faults c.read_file.new.files) (g.F.Files.faults c.write.new.self) (answer_of (expected_of_asm h c.args.from.now)) c.write.result fault result was is c.write.ensures.not_long c.write.ensures.cause c.read_file.ensures.later);
+      file = not_done _ (of_files fault) result is;
+      others = written_others (g.F.Files.held c.args.files.now) (g.F.Files.held c.read_file.new.files) (g.F.Files.held c.write.new.self) c.args.to.now c.deref-2.result.now c.write.result c.read_file.ensures.held c.write.ensures.bytes;
+      kept = λ k. write_kept _ c.write.result fault result was is c.write.ensures.not_long k;
+      failed = λ e. write_failed (g.F.Files.faults c.args.files.now) (g.F.Files.faults c.read_file.new.files) (g.F.Files.faults c.write.new.self) c.write.result fault result was is c.write.ensures.not_long c.write.ensures.cause c.read_file.ensures.later e;
+      steady = λ s. steady_anyway (g.F.Files.held c.args.files.now) (λ h. IsSome (content h c.args.from.now)) result (write_steady c.write.result fault result was is (c.write.ensures.steady (c.read_file.ensures.steady s)).1);
+      unwritten = of_what_follows (g.F.Files.faults c.args.files.now) (g.F.Files.faults c.read_file.new.files) (g.F.Files.held c.args.files.now) (λ h. file_of h c.args.from.now) c.deref.result.now (bytes_in c.read_file.result) assemble_text
+          (λ work. Unwritten work (g.F.Files.held c.args.files.now) (g.F.Files.held c.write.new.self))
+          (ap bytes_in c.in_ok-text.was ∙ ap (λ b. Ok b) (sym c.deref.ensures.value)) c.read_file.ensures.answer
+          (subst (λ work. Unwritten work (g.F.Files.held c.args.files.now) (g.F.Files.held c.write.new.self)) (sym c.in_ok-file.ensures.wanted) (λ r. absurd r));
+      of_asm = of_write fault result is;
+    }
 
-pub returns-clause-answer : goal.returns-clause-answer
-returns-clause-answer g c =
-    of_what_follows (g.F.Files.faults c.args.files.now) (g.F.Files.faults c.read_file.new.files) (g.F.Files.held c.args.files.now) (λ h. file_of h c.args.from.now) c.deref.result.now (bytes_in c.read_file.result) assemble_text
-    (λ work. IsFileAnswer (g.F.Files.faults c.args.files.now) (g.F.Files.faults c.write.new.self) (answer_of work) (Ok done.Ended))
-    (ap bytes_in c.in_ok-text.was ∙ ap (λ b. Ok b) (sym c.deref.ensures.value)) c.read_file.ensures.answer
-    (inl (sym (ap answer_of c.in_ok-file.ensures.wanted)))
-
-pub returns-clause-file : goal.returns-clause-file
-returns-clause-file g c =
-    written_file (g.F.Files.faults c.args.files.now) (g.F.Files.faults c.read_file.new.files)
-    (g.F.Files.held c.args.files.now) (g.F.Files.held c.read_file.new.files) (g.F.Files.held c.write.new.self) c.args.from.now c.args.to.now
-    c.deref.result.now c.deref-2.result.now c.in_ok-file.file.items (bytes_in c.read_file.result) c.write.result AssemblesTo
-    (ap bytes_in c.in_ok-text.was ∙ ap (λ b. Ok b) (sym c.deref.ensures.value)) c.read_file.ensures.answer c.read_file.ensures.held c.write.ensures.bytes
-    c.in_ok-write.was c.deref-2.ensures.value c.in_ok-file.ensures.file
+pub returns : goal.returns
+returns g c =
+    record {
+      answer = of_what_follows (g.F.Files.faults c.args.files.now) (g.F.Files.faults c.read_file.new.files) (g.F.Files.held c.args.files.now) (λ h. file_of h c.args.from.now) c.deref.result.now (bytes_in c.read_file.result) assemble_text
+          (λ work. IsFileAnswer (g.F.Files.faults c.args.files.now) (g.F.Files.faults c.write.new.self) (answer_of work) (Ok done.Ended))
+          (ap bytes_in c.in_ok-text.was ∙ ap (λ b. Ok b) (sym c.deref.ensures.value)) c.read_file.ensures.answer
+          (inl (sym (ap answer_of c.in_ok-file.ensures.wanted)));
+      file = written_file (g.F.Files.faults c.args.files.now) (g.F.Files.faults c.read_file.new.files)
+          (g.F.Files.held c.args.files.now) (g.F.Files.held c.read_file.new.files) (g.F.Files.held c.write.new.self) c.args.from.now c.args.to.now
+          c.deref.result.now c.deref-2.result.now c.in_ok-file.file.items (bytes_in c.read_file.result) c.write.result AssemblesTo
+          (ap bytes_in c.in_ok-text.was ∙ ap (λ b. Ok b) (sym c.deref.ensures.value)) c.read_file.ensures.answer c.read_file.ensures.held c.write.ensures.bytes
+          c.in_ok-write.was c.deref-2.ensures.value c.in_ok-file.ensures.file;
+      others = written_others (g.F.Files.held c.args.files.now) (g.F.Files.held c.read_file.new.files) (g.F.Files.held c.write.new.self) c.args.to.now c.deref-2.result.now c.write.result c.read_file.ensures.held c.write.ensures.bytes;
+      kept = λ k. absurd k;
+      failed = λ e. absurd (not_refused done.Ended File e);
+      steady = λ s. steady_anyway (g.F.Files.held c.args.files.now) (λ h. IsSome (content h c.args.from.now)) (Ok done.Ended) (not_refused done.Ended File);
+      unwritten = of_what_follows (g.F.Files.faults c.args.files.now) (g.F.Files.faults c.read_file.new.files) (g.F.Files.held c.args.files.now) (λ h. file_of h c.args.from.now) c.deref.result.now (bytes_in c.read_file.result) assemble_text
+          (λ work. Unwritten work (g.F.Files.held c.args.files.now) (g.F.Files.held c.write.new.self))
+          (ap bytes_in c.in_ok-text.was ∙ ap (λ b. Ok b) (sym c.deref.ensures.value)) c.read_file.ensures.answer
+          (subst (λ work. Unwritten work (g.F.Files.held c.args.files.now) (g.F.Files.held c.write.new.self)) (sym c.in_ok-file.ensures.wanted) (λ r. absurd r));
+      of_asm = refl;
+    }

@@ -1,191 +1,330 @@
-use Rattle.std.proofs.Common.{◌≡◌, ◌⊎◌, Some, Err, ap, sym, ◌∙◌, subst}
+use Rattle.std.proofs.Common.{◌≡◌, ◌⊎◌, Some, refl, ap, sym, ◌∙◌}
 use Rattle.io_edges.specs.Files.{Rose}
-use Rattle.std.specs.Prelude.{IfSome, OnOk, string_bytes}
-use Rattle.command_line.specs.Line.{CompileLine, CheckLine, EvalLine, ListLine, RunLine, DebugLine, SweepLine, AsmLine, PipeLine}
+use Rattle.std.specs.Prelude.{IfSome, IsTrue, string_bytes}
+use Rattle.command_line.specs.Line.{Line, CompileLine, CheckLine, EvalLine, ListLine, RunLine, DebugLine, SweepLine, AsmLine, PipeLine}
 use Rattle.command_line.specs.View.{command_view, task_view}
-use Rattle.refusals.specs.declared.refusal.Refusal.TheVariants.{Output}
-use Rattle.command_answers.specs.Answer.{answer_of, expected_text, status_of, IsAnswer, Unwritten}
-use Rattle.sve_top.specs.Commands.{Compiled, StreamRose, Swept, AsItComes}
-use Rattle.program_commands.specs.Commands.{expected_of_list, expected_of_run, expected_of_debug, expected_of_asm, stops_of}
+use Rattle.command_answers.specs.Answer.{answer_of, expected_text, IsAnswer}
+use Rattle.program_commands.specs.Commands.{expected_of_list, expected_of_run, expected_of_debug, expected_of_asm, stops_of, IsOfAsm}
 use Rattle.command_answers.specs.Outputs.{Prints}
-use Rattle.sve_top.proofs.Lines.{by_line, of_told, of_every_line}
+use Rattle.sve_top.proofs.Lines.{of_told}
+use Rattle.sve_top.proofs.Leaves.{seen, by_name, reader, not_wanted, in_any, no_output}
 use Rattle.compile_command.proofs.Expectations.{prints_silent}
-use Rattle.compile_command.specs.Compiles.{ExpectsCompile}
+use Rattle.compile_command.specs.Compiles.{ExpectsCompile, IsOfCompile}
 use Rattle.pipe_command.specs.Pipes.{expected_of_pipe}
 use Rattle.command_answers.proofs.Reading.{of_one, with_output}
 use Rattle.program_commands.proofs.Assemblies.{asm_prints}
 use Rattle.sve_top.proofs.top.do_command.Goals as goal
 
-pub returns-in-Compile-clause-answer : goal.returns-in-Compile-clause-answer
-returns-in-Compile-clause-answer g c =
-    by_line (g.F.Files.held c.args.files.now) (g.I.Source.left c.args.input.now) (Some (command_view c.args.command.now)) (Some (CompileLine c.as_str.result.now c.as_str-in-Compile.result.now))
-    (λ line work. IsAnswer (g.F.Files.faults c.args.files.now) (g.F.Files.faults c.compile.new.files) (StreamRose line (g.S.Sink.faults c.args.out.now) (g.S.Sink.faults c.args.out.now) (g.I.Source.faults c.args.input.now) (g.I.Source.faults c.args.input.now)) (answer_of work) c.compile.result)
+pub returns-in-Compile : goal.returns-in-Compile
+returns-in-Compile g c =
+    let line : Line = CompileLine c.as_str.result.now c.as_str-in-Compile.result.now in
+    let before = (seen (g.F.Files.held c.args.files.now) (g.F.Files.faults c.args.files.now) (g.S.Sink.taken c.args.out.now) (g.S.Sink.faults c.args.out.now) (g.I.Source.left c.args.input.now) (g.I.Source.faults c.args.input.now)) in
+    let after = (seen (g.F.Files.held c.compile.new.files) (g.F.Files.faults c.compile.new.files) (g.S.Sink.taken c.args.out.now) (g.S.Sink.faults c.args.out.now) (g.I.Source.left c.args.input.now) (g.I.Source.faults c.args.input.now)) in
+    let l = by_name (Some line) (Some (command_view c.args.command.now)) before after (IsTrue (g.F.Files.steady c.args.files.now)) (c.args.out.now ≡ c.args.out.now) (c.args.input.now ≡ c.args.input.now) c.compile.result
     (ap (λ l. Some l) (ap command_view c.in-Compile.is ∙ ap (λ a. CompileLine a (string_bytes c.in-Compile.to)) (sym c.as_str.ensures.value) ∙ ap (λ b. CompileLine c.as_str.result.now b) (sym c.as_str-in-Compile.ensures.value)))
-    (λ input taken. with_output _ _ _ (g.F.Files.held c.args.files.now) (λ h. ExpectsCompile h c.as_str.result.now) c.compile.result c.compile.ensures.answer)
+    (record {
+      answer = λ input taken. with_output _ _ _ (g.F.Files.held c.args.files.now) (λ h. ExpectsCompile h c.as_str.result.now) c.compile.result c.compile.ensures.answer;
+      listed = c.compile.ensures.of_compile;
+      file = c.compile.ensures.file;
+      others = c.compile.ensures.others;
+      swept = tt;
+      kept = c.compile.ensures.kept;
+      reads = λ r. absurd r;
+      failed = c.compile.ensures.failed;
+      output = no_output IsOfCompile _ c.compile.result (λ o. o) c.compile.ensures.of_compile;
+      steady = c.compile.ensures.steady;
+      as_it_comes = tt;
+      printed = λ input taken. prints_silent (g.F.Files.held c.args.files.now) c.as_str.result.now (g.S.Sink.taken c.args.out.now) c.compile.result;
+      quiet = λ q. refl;
+      unwritten = λ input taken. c.compile.ensures.unwritten;
+      silent = λ s. refl;
+      unread = λ u. refl;
+    }) in
+    record {
+      answer = l.answer;
+      listed = l.listed;
+      file = l.file;
+      others = l.others;
+      swept = l.swept;
+      kept = l.kept;
+      reads = l.reads;
+      failed = l.failed;
+      output = l.output;
+      steady = l.steady;
+      as_it_comes = l.as_it_comes;
+      printed = l.printed;
+      quiet = l.quiet;
+      unwritten = l.unwritten;
+      silent = l.silent;
+      unread = l.unread;
+    }
 
-pub returns-in-Compile-clause-printed : goal.returns-in-Compile-clause-printed
-returns-in-Compile-clause-printed g c =
-    by_line (g.F.Files.held c.args.files.now) (g.I.Source.left c.args.input.now) (Some (command_view c.args.command.now)) (Some (CompileLine (string_bytes c.in-Compile.from) (string_bytes c.in-Compile.to)))
-    (λ line work. Prints (g.S.Sink.taken c.args.out.now) (g.S.Sink.taken c.args.out.now) (expected_text work) c.compile.result)
-    (ap (λ l. Some l) (ap command_view c.in-Compile.is))
-    (λ input taken. prints_silent (g.F.Files.held c.args.files.now) (string_bytes c.in-Compile.from) (g.S.Sink.taken c.args.out.now) c.compile.result)
-
-pub returns-in-Compile-clause-unwritten : goal.returns-in-Compile-clause-unwritten
-returns-in-Compile-clause-unwritten g c =
-    by_line (g.F.Files.held c.args.files.now) (g.I.Source.left c.args.input.now) (Some (command_view c.args.command.now)) (Some (CompileLine c.as_str.result.now c.as_str-in-Compile.result.now))
-    (λ line work. Unwritten work (g.F.Files.held c.args.files.now) (g.F.Files.held c.compile.new.files))
-    (ap (λ l. Some l) (ap command_view c.in-Compile.is ∙ ap (λ a. CompileLine a (string_bytes c.in-Compile.to)) (sym c.as_str.ensures.value) ∙ ap (λ b. CompileLine c.as_str.result.now b) (sym c.as_str-in-Compile.ensures.value)))
-    (λ input taken. c.compile.ensures.unwritten)
-
-pub returns-in-Check-clause-answer : goal.returns-in-Check-clause-answer
-returns-in-Check-clause-answer g c =
-    by_line (g.F.Files.held c.args.files.now) (g.I.Source.left c.args.input.now) (Some (command_view c.args.command.now)) (Some (CheckLine c.as_str-in-Check.result.now))
-    (λ line work. IsAnswer (g.F.Files.faults c.args.files.now) (g.F.Files.faults c.check.new.files) (StreamRose line (g.S.Sink.faults c.args.out.now) (g.S.Sink.faults c.check.new.out) (g.I.Source.faults c.args.input.now) (g.I.Source.faults c.args.input.now)) (answer_of work) c.check.result)
+pub returns-in-Check : goal.returns-in-Check
+returns-in-Check g c =
+    let line : Line = CheckLine c.as_str-in-Check.result.now in
+    let before = (seen (g.F.Files.held c.args.files.now) (g.F.Files.faults c.args.files.now) (g.S.Sink.taken c.args.out.now) (g.S.Sink.faults c.args.out.now) (g.I.Source.left c.args.input.now) (g.I.Source.faults c.args.input.now)) in
+    let after = (seen (g.F.Files.held c.check.new.files) (g.F.Files.faults c.check.new.files) (g.S.Sink.taken c.check.new.out) (g.S.Sink.faults c.check.new.out) (g.I.Source.left c.args.input.now) (g.I.Source.faults c.args.input.now)) in
+    let l = by_name (Some line) (Some (command_view c.args.command.now)) before after (IsTrue (g.F.Files.steady c.args.files.now)) (c.check.new.out ≡ c.args.out.now) (c.args.input.now ≡ c.args.input.now) c.check.result
     (ap (λ l. Some l) (ap command_view c.in-Check.is ∙ ap CheckLine (sym c.as_str-in-Check.ensures.value)))
+    (reader line before after (IsTrue (g.F.Files.steady c.args.files.now)) (c.check.new.out ≡ c.args.out.now) (c.args.input.now ≡ c.args.input.now) c.check.result tt (λ s. s) c.check.ensures.held
     (λ input taken. c.check.ensures.answer)
-
-pub returns-in-Check-clause-printed : goal.returns-in-Check-clause-printed
-returns-in-Check-clause-printed g c =
-    by_line (g.F.Files.held c.args.files.now) (g.I.Source.left c.args.input.now) (Some (command_view c.args.command.now)) (Some (CheckLine c.as_str-in-Check.result.now))
-    (λ line work. Prints (g.S.Sink.taken c.args.out.now) (g.S.Sink.taken c.check.new.out) (expected_text work) c.check.result)
-    (ap (λ l. Some l) (ap command_view c.in-Check.is ∙ ap CheckLine (sym c.as_str-in-Check.ensures.value)))
     (λ input taken. c.check.ensures.printed)
+    c.check.ensures.of_check c.check.ensures.failed c.check.ensures.output c.check.ensures.steady c.check.ensures.quiet tt (λ u. refl)) in
+    record {
+      answer = l.answer;
+      listed = l.listed;
+      file = l.file;
+      others = l.others;
+      swept = l.swept;
+      kept = l.kept;
+      reads = l.reads;
+      failed = l.failed;
+      output = l.output;
+      steady = l.steady;
+      as_it_comes = l.as_it_comes;
+      printed = l.printed;
+      quiet = l.quiet;
+      unwritten = l.unwritten;
+      silent = l.silent;
+      unread = l.unread;
+    }
 
-pub returns-in-Check-clause-unwritten : goal.returns-in-Check-clause-unwritten
-returns-in-Check-clause-unwritten g c =
-    of_every_line (g.F.Files.held c.args.files.now) (g.I.Source.left c.args.input.now) (Some (command_view c.args.command.now)) (λ work. Unwritten work (g.F.Files.held c.args.files.now) (g.F.Files.held c.check.new.files)) (λ work r. c.check.ensures.held)
-
-pub returns-in-Eval-clause-answer : goal.returns-in-Eval-clause-answer
-returns-in-Eval-clause-answer g c =
-    by_line (g.F.Files.held c.args.files.now) (g.I.Source.left c.args.input.now) (Some (command_view c.args.command.now)) (Some (EvalLine (task_view c.in-Eval.task)))
-    (λ line work. IsAnswer (g.F.Files.faults c.args.files.now) (g.F.Files.faults c.eval.new.files) (StreamRose line (g.S.Sink.faults c.args.out.now) (g.S.Sink.faults c.eval.new.out) (g.I.Source.faults c.args.input.now) (g.I.Source.faults c.args.input.now)) (answer_of work) c.eval.result)
+pub returns-in-Eval : goal.returns-in-Eval
+returns-in-Eval g c =
+    let line : Line = EvalLine (task_view c.in-Eval.task) in
+    let before = (seen (g.F.Files.held c.args.files.now) (g.F.Files.faults c.args.files.now) (g.S.Sink.taken c.args.out.now) (g.S.Sink.faults c.args.out.now) (g.I.Source.left c.args.input.now) (g.I.Source.faults c.args.input.now)) in
+    let after = (seen (g.F.Files.held c.eval.new.files) (g.F.Files.faults c.eval.new.files) (g.S.Sink.taken c.eval.new.out) (g.S.Sink.faults c.eval.new.out) (g.I.Source.left c.args.input.now) (g.I.Source.faults c.args.input.now)) in
+    let l = by_name (Some line) (Some (command_view c.args.command.now)) before after (IsTrue (g.F.Files.steady c.args.files.now)) (c.eval.new.out ≡ c.args.out.now) (c.args.input.now ≡ c.args.input.now) c.eval.result
     (ap (λ l. Some l) (ap command_view c.in-Eval.is))
+    (reader line before after (IsTrue (g.F.Files.steady c.args.files.now)) (c.eval.new.out ≡ c.args.out.now) (c.args.input.now ≡ c.args.input.now) c.eval.result tt (λ s. s) c.eval.ensures.held
     (λ input taken. c.eval.ensures.answer)
-
-pub returns-in-Eval-clause-printed : goal.returns-in-Eval-clause-printed
-returns-in-Eval-clause-printed g c =
-    by_line (g.F.Files.held c.args.files.now) (g.I.Source.left c.args.input.now) (Some (command_view c.args.command.now)) (Some (EvalLine (task_view c.in-Eval.task)))
-    (λ line work. Prints (g.S.Sink.taken c.args.out.now) (g.S.Sink.taken c.eval.new.out) (expected_text work) c.eval.result)
-    (ap (λ l. Some l) (ap command_view c.in-Eval.is))
     (λ input taken. c.eval.ensures.printed)
+    c.eval.ensures.of_eval c.eval.ensures.failed c.eval.ensures.output c.eval.ensures.steady c.eval.ensures.quiet tt (λ u. refl)) in
+    record {
+      answer = l.answer;
+      listed = l.listed;
+      file = l.file;
+      others = l.others;
+      swept = l.swept;
+      kept = l.kept;
+      reads = l.reads;
+      failed = l.failed;
+      output = l.output;
+      steady = l.steady;
+      as_it_comes = l.as_it_comes;
+      printed = l.printed;
+      quiet = l.quiet;
+      unwritten = l.unwritten;
+      silent = l.silent;
+      unread = l.unread;
+    }
 
-pub returns-in-Eval-clause-unwritten : goal.returns-in-Eval-clause-unwritten
-returns-in-Eval-clause-unwritten g c =
-    of_every_line (g.F.Files.held c.args.files.now) (g.I.Source.left c.args.input.now) (Some (command_view c.args.command.now)) (λ work. Unwritten work (g.F.Files.held c.args.files.now) (g.F.Files.held c.eval.new.files)) (λ work r. c.eval.ensures.held)
-
-pub returns-in-List-clause-answer : goal.returns-in-List-clause-answer
-returns-in-List-clause-answer g c =
-    by_line (g.F.Files.held c.args.files.now) (g.I.Source.left c.args.input.now) (Some (command_view c.args.command.now)) (Some (ListLine c.as_str-in-List.result.now))
-    (λ line work. IsAnswer (g.F.Files.faults c.args.files.now) (g.F.Files.faults c.list.new.files) (StreamRose line (g.S.Sink.faults c.args.out.now) (g.S.Sink.faults c.list.new.out) (g.I.Source.faults c.args.input.now) (g.I.Source.faults c.args.input.now)) (answer_of work) c.list.result)
+pub returns-in-List : goal.returns-in-List
+returns-in-List g c =
+    let line : Line = ListLine c.as_str-in-List.result.now in
+    let before = (seen (g.F.Files.held c.args.files.now) (g.F.Files.faults c.args.files.now) (g.S.Sink.taken c.args.out.now) (g.S.Sink.faults c.args.out.now) (g.I.Source.left c.args.input.now) (g.I.Source.faults c.args.input.now)) in
+    let after = (seen (g.F.Files.held c.list.new.files) (g.F.Files.faults c.list.new.files) (g.S.Sink.taken c.list.new.out) (g.S.Sink.faults c.list.new.out) (g.I.Source.left c.args.input.now) (g.I.Source.faults c.args.input.now)) in
+    let l = by_name (Some line) (Some (command_view c.args.command.now)) before after (IsTrue (g.F.Files.steady c.args.files.now)) (c.list.new.out ≡ c.args.out.now) (c.args.input.now ≡ c.args.input.now) c.list.result
     (ap (λ l. Some l) (ap command_view c.in-List.is ∙ ap ListLine (sym c.as_str-in-List.ensures.value)))
+    (reader line before after (IsTrue (g.F.Files.steady c.args.files.now)) (c.list.new.out ≡ c.args.out.now) (c.args.input.now ≡ c.args.input.now) c.list.result tt (λ s. s) c.list.ensures.held
     (λ input taken. of_one (g.F.Files.held c.args.files.now) (λ h. expected_of_list h c.as_str-in-List.result.now) _ c.list.ensures.answer)
-
-pub returns-in-List-clause-printed : goal.returns-in-List-clause-printed
-returns-in-List-clause-printed g c =
-    by_line (g.F.Files.held c.args.files.now) (g.I.Source.left c.args.input.now) (Some (command_view c.args.command.now)) (Some (ListLine c.as_str-in-List.result.now))
-    (λ line work. Prints (g.S.Sink.taken c.args.out.now) (g.S.Sink.taken c.list.new.out) (expected_text work) c.list.result)
-    (ap (λ l. Some l) (ap command_view c.in-List.is ∙ ap ListLine (sym c.as_str-in-List.ensures.value)))
     (λ input taken. of_one (g.F.Files.held c.args.files.now) (λ h. expected_of_list h c.as_str-in-List.result.now) _ c.list.ensures.printed)
+    c.list.ensures.of_list c.list.ensures.failed c.list.ensures.output c.list.ensures.steady c.list.ensures.quiet tt (λ u. refl)) in
+    record {
+      answer = l.answer;
+      listed = l.listed;
+      file = l.file;
+      others = l.others;
+      swept = l.swept;
+      kept = l.kept;
+      reads = l.reads;
+      failed = l.failed;
+      output = l.output;
+      steady = l.steady;
+      as_it_comes = l.as_it_comes;
+      printed = l.printed;
+      quiet = l.quiet;
+      unwritten = l.unwritten;
+      silent = l.silent;
+      unread = l.unread;
+    }
 
-pub returns-in-List-clause-unwritten : goal.returns-in-List-clause-unwritten
-returns-in-List-clause-unwritten g c =
-    of_every_line (g.F.Files.held c.args.files.now) (g.I.Source.left c.args.input.now) (Some (command_view c.args.command.now)) (λ work. Unwritten work (g.F.Files.held c.args.files.now) (g.F.Files.held c.list.new.files)) (λ work r. c.list.ensures.held)
-
-pub returns-in-Run-clause-answer : goal.returns-in-Run-clause-answer
-returns-in-Run-clause-answer g c =
-    by_line (g.F.Files.held c.args.files.now) (g.I.Source.left c.args.input.now) (Some (command_view c.args.command.now)) (Some (RunLine c.in-Run.vl c.in-Run.suppress (task_view c.in-Run.task)))
-    (λ line work. IsAnswer (g.F.Files.faults c.args.files.now) (g.F.Files.faults c.run.new.files) (StreamRose line (g.S.Sink.faults c.args.out.now) (g.S.Sink.faults c.run.new.out) (g.I.Source.faults c.args.input.now) (g.I.Source.faults c.args.input.now)) (answer_of work) c.run.result)
+pub returns-in-Run : goal.returns-in-Run
+returns-in-Run g c =
+    let line : Line = RunLine c.in-Run.vl c.in-Run.suppress (task_view c.in-Run.task) in
+    let before = (seen (g.F.Files.held c.args.files.now) (g.F.Files.faults c.args.files.now) (g.S.Sink.taken c.args.out.now) (g.S.Sink.faults c.args.out.now) (g.I.Source.left c.args.input.now) (g.I.Source.faults c.args.input.now)) in
+    let after = (seen (g.F.Files.held c.run.new.files) (g.F.Files.faults c.run.new.files) (g.S.Sink.taken c.run.new.out) (g.S.Sink.faults c.run.new.out) (g.I.Source.left c.args.input.now) (g.I.Source.faults c.args.input.now)) in
+    let l = by_name (Some line) (Some (command_view c.args.command.now)) before after (IsTrue (g.F.Files.steady c.args.files.now)) (c.run.new.out ≡ c.args.out.now) (c.args.input.now ≡ c.args.input.now) c.run.result
     (ap (λ l. Some l) (ap command_view c.in-Run.is))
+    (reader line before after (IsTrue (g.F.Files.steady c.args.files.now)) (c.run.new.out ≡ c.args.out.now) (c.args.input.now ≡ c.args.input.now) c.run.result tt (λ s. s) c.run.ensures.held
     (λ input taken. of_one (g.F.Files.held c.args.files.now) (λ h. expected_of_run h c.in-Run.vl (stops_of c.in-Run.suppress) (task_view c.in-Run.task)) _ c.run.ensures.answer)
-
-pub returns-in-Run-clause-printed : goal.returns-in-Run-clause-printed
-returns-in-Run-clause-printed g c =
-    by_line (g.F.Files.held c.args.files.now) (g.I.Source.left c.args.input.now) (Some (command_view c.args.command.now)) (Some (RunLine c.in-Run.vl c.in-Run.suppress (task_view c.in-Run.task)))
-    (λ line work. Prints (g.S.Sink.taken c.args.out.now) (g.S.Sink.taken c.run.new.out) (expected_text work) c.run.result)
-    (ap (λ l. Some l) (ap command_view c.in-Run.is))
     (λ input taken. of_one (g.F.Files.held c.args.files.now) (λ h. expected_of_run h c.in-Run.vl (stops_of c.in-Run.suppress) (task_view c.in-Run.task)) _ c.run.ensures.printed)
+    c.run.ensures.of_run c.run.ensures.failed c.run.ensures.output c.run.ensures.steady c.run.ensures.quiet tt (λ u. refl)) in
+    record {
+      answer = l.answer;
+      listed = l.listed;
+      file = l.file;
+      others = l.others;
+      swept = l.swept;
+      kept = l.kept;
+      reads = l.reads;
+      failed = l.failed;
+      output = l.output;
+      steady = l.steady;
+      as_it_comes = l.as_it_comes;
+      printed = l.printed;
+      quiet = l.quiet;
+      unwritten = l.unwritten;
+      silent = l.silent;
+      unread = l.unread;
+    }
 
-pub returns-in-Run-clause-unwritten : goal.returns-in-Run-clause-unwritten
-returns-in-Run-clause-unwritten g c =
-    of_every_line (g.F.Files.held c.args.files.now) (g.I.Source.left c.args.input.now) (Some (command_view c.args.command.now)) (λ work. Unwritten work (g.F.Files.held c.args.files.now) (g.F.Files.held c.run.new.files)) (λ work r. c.run.ensures.held)
-
-pub returns-in-Debug-clause-answer : goal.returns-in-Debug-clause-answer
-returns-in-Debug-clause-answer g c =
-    by_line (g.F.Files.held c.args.files.now) (g.I.Source.left c.args.input.now) (Some (command_view c.args.command.now)) (Some (DebugLine c.in-Debug.vl (task_view c.in-Debug.task)))
-    (λ line work. IsAnswer (g.F.Files.faults c.args.files.now) (g.F.Files.faults c.debug.new.files) (StreamRose line (g.S.Sink.faults c.args.out.now) (g.S.Sink.faults c.debug.new.out) (g.I.Source.faults c.args.input.now) (g.I.Source.faults c.debug.new.input)) (answer_of work) c.debug.result)
+pub returns-in-Debug : goal.returns-in-Debug
+returns-in-Debug g c =
+    let line : Line = DebugLine c.in-Debug.vl (task_view c.in-Debug.task) in
+    let before = (seen (g.F.Files.held c.args.files.now) (g.F.Files.faults c.args.files.now) (g.S.Sink.taken c.args.out.now) (g.S.Sink.faults c.args.out.now) (g.I.Source.left c.args.input.now) (g.I.Source.faults c.args.input.now)) in
+    let after = (seen (g.F.Files.held c.debug.new.files) (g.F.Files.faults c.debug.new.files) (g.S.Sink.taken c.debug.new.out) (g.S.Sink.faults c.debug.new.out) (g.I.Source.left c.debug.new.input) (g.I.Source.faults c.debug.new.input)) in
+    let l = by_name (Some line) (Some (command_view c.args.command.now)) before after (IsTrue (g.F.Files.steady c.args.files.now)) (c.debug.new.out ≡ c.args.out.now) (c.debug.new.input ≡ c.args.input.now) c.debug.result
     (ap (λ l. Some l) (ap command_view c.in-Debug.is))
+    (reader line before after (IsTrue (g.F.Files.steady c.args.files.now)) (c.debug.new.out ≡ c.args.out.now) (c.debug.new.input ≡ c.args.input.now) c.debug.result tt (λ s. s) c.debug.ensures.held
     (λ input taken. of_one (g.F.Files.held c.args.files.now) (λ h. expected_of_debug h input c.in-Debug.vl (task_view c.in-Debug.task)) _
-    (of_told (g.I.Source.left c.args.input.now) input
-    (λ bytes. IfSome (g.F.Files.held c.args.files.now) (λ h. IsAnswer (g.F.Files.faults c.args.files.now) (g.F.Files.faults c.debug.new.files) (Rose (g.S.Sink.faults c.args.out.now) (g.S.Sink.faults c.debug.new.out) ⊎ Rose (g.I.Source.faults c.args.input.now) (g.I.Source.faults c.debug.new.input)) (answer_of (expected_of_debug h bytes c.in-Debug.vl (task_view c.in-Debug.task))) c.debug.result))
-    taken c.debug.ensures.answer))
-
-pub returns-in-Debug-clause-printed : goal.returns-in-Debug-clause-printed
-returns-in-Debug-clause-printed g c =
-    by_line (g.F.Files.held c.args.files.now) (g.I.Source.left c.args.input.now) (Some (command_view c.args.command.now)) (Some (DebugLine c.in-Debug.vl (task_view c.in-Debug.task)))
-    (λ line work. Prints (g.S.Sink.taken c.args.out.now) (g.S.Sink.taken c.debug.new.out) (expected_text work) c.debug.result)
-    (ap (λ l. Some l) (ap command_view c.in-Debug.is))
+    (of_told (g.I.Source.left c.args.input.now) input (λ bytes. IfSome (g.F.Files.held c.args.files.now) (λ h. IsAnswer (g.F.Files.faults c.args.files.now) (g.F.Files.faults c.debug.new.files) (Rose (g.S.Sink.faults c.args.out.now) (g.S.Sink.faults c.debug.new.out) ⊎ Rose (g.I.Source.faults c.args.input.now) (g.I.Source.faults c.debug.new.input)) (answer_of (expected_of_debug h bytes c.in-Debug.vl (task_view c.in-Debug.task))) c.debug.result)) taken c.debug.ensures.answer))
     (λ input taken. of_one (g.F.Files.held c.args.files.now) (λ h. expected_of_debug h input c.in-Debug.vl (task_view c.in-Debug.task)) _
-    (of_told (g.I.Source.left c.args.input.now) input
-    (λ bytes. IfSome (g.F.Files.held c.args.files.now) (λ h. Prints (g.S.Sink.taken c.args.out.now) (g.S.Sink.taken c.debug.new.out) (expected_text (expected_of_debug h bytes c.in-Debug.vl (task_view c.in-Debug.task))) c.debug.result))
-    taken c.debug.ensures.printed))
+    (of_told (g.I.Source.left c.args.input.now) input (λ bytes. IfSome (g.F.Files.held c.args.files.now) (λ h. Prints (g.S.Sink.taken c.args.out.now) (g.S.Sink.taken c.debug.new.out) (expected_text (expected_of_debug h bytes c.in-Debug.vl (task_view c.in-Debug.task))) c.debug.result)) taken c.debug.ensures.printed))
+    c.debug.ensures.of_debug c.debug.ensures.failed c.debug.ensures.output c.debug.ensures.steady c.debug.ensures.quiet c.debug.ensures.as_it_comes (λ u. absurd u)) in
+    record {
+      answer = l.answer;
+      listed = l.listed;
+      file = l.file;
+      others = l.others;
+      swept = l.swept;
+      kept = l.kept;
+      reads = l.reads;
+      failed = l.failed;
+      output = l.output;
+      steady = l.steady;
+      as_it_comes = l.as_it_comes;
+      printed = l.printed;
+      quiet = l.quiet;
+      unwritten = l.unwritten;
+      silent = l.silent;
+      unread = l.unread;
+    }
 
-pub returns-in-Debug-clause-unwritten : goal.returns-in-Debug-clause-unwritten
-returns-in-Debug-clause-unwritten g c =
-    of_every_line (g.F.Files.held c.args.files.now) (g.I.Source.left c.args.input.now) (Some (command_view c.args.command.now)) (λ work. Unwritten work (g.F.Files.held c.args.files.now) (g.F.Files.held c.debug.new.files)) (λ work r. c.debug.ensures.held)
+pub returns-in-Sweep : goal.returns-in-Sweep
+returns-in-Sweep g c =
+    let line : Line = SweepLine c.in-Sweep.number c.as_str-in-Sweep.result.now in
+    let before = (seen (g.F.Files.held c.args.files.now) (g.F.Files.faults c.args.files.now) (g.S.Sink.taken c.args.out.now) (g.S.Sink.faults c.args.out.now) (g.I.Source.left c.args.input.now) (g.I.Source.faults c.args.input.now)) in
+    let after = (seen (g.F.Files.held c.sweep.new.files) (g.F.Files.faults c.sweep.new.files) (g.S.Sink.taken c.sweep.new.out) (g.S.Sink.faults c.sweep.new.out) (g.I.Source.left c.args.input.now) (g.I.Source.faults c.args.input.now)) in
+    let l = by_name (Some line) (Some (command_view c.args.command.now)) before after (IsTrue (g.F.Files.steady c.args.files.now)) (c.sweep.new.out ≡ c.args.out.now) (c.args.input.now ≡ c.args.input.now) c.sweep.result
+    (ap (λ l. Some l) (ap command_view c.in-Sweep.is ∙ ap (SweepLine c.in-Sweep.number) (sym c.as_str-in-Sweep.ensures.value)))
+    (record {
+      answer = not_wanted (g.F.Files.held c.args.files.now) (g.I.Source.left c.args.input.now) c.in-Sweep.number c.as_str-in-Sweep.result.now _;
+      listed = c.sweep.ensures.of_sweep;
+      file = c.sweep.ensures.file;
+      others = c.sweep.ensures.others;
+      swept = c.sweep.ensures.swept;
+      kept = c.sweep.ensures.kept;
+      reads = λ r. absurd r;
+      failed = c.sweep.ensures.failed;
+      output = c.sweep.ensures.output;
+      steady = λ s. in_any (g.F.Files.held c.args.files.now) _ (λ h held. c.sweep.ensures.steady s);
+      as_it_comes = tt;
+      printed = not_wanted (g.F.Files.held c.args.files.now) (g.I.Source.left c.args.input.now) c.in-Sweep.number c.as_str-in-Sweep.result.now _;
+      quiet = c.sweep.ensures.quiet;
+      unwritten = not_wanted (g.F.Files.held c.args.files.now) (g.I.Source.left c.args.input.now) c.in-Sweep.number c.as_str-in-Sweep.result.now _;
+      silent = λ s. absurd s;
+      unread = λ u. refl;
+    }) in
+    record {
+      answer = l.answer;
+      listed = l.listed;
+      file = l.file;
+      others = l.others;
+      swept = l.swept;
+      kept = l.kept;
+      reads = l.reads;
+      failed = l.failed;
+      output = l.output;
+      steady = l.steady;
+      as_it_comes = l.as_it_comes;
+      printed = l.printed;
+      quiet = l.quiet;
+      unwritten = l.unwritten;
+      silent = l.silent;
+      unread = l.unread;
+    }
 
-pub returns-in-Sweep-clause-file : goal.returns-in-Sweep-clause-file
-returns-in-Sweep-clause-file g c =
-    subst (λ line. OnOk c.sweep.result (IfSome (g.F.Files.held c.args.files.now) (λ old. IfSome (g.F.Files.held c.sweep.new.files) (λ new. Compiled old new line))))
-    (sym (ap command_view c.in-Sweep.is ∙ ap (SweepLine c.in-Sweep.number) (sym c.as_str-in-Sweep.ensures.value)))
-    c.sweep.ensures.file
-
-pub returns-in-Sweep-clause-swept : goal.returns-in-Sweep-clause-swept
-returns-in-Sweep-clause-swept g c =
-    subst (λ line. Swept (Some line) (g.F.Files.held c.sweep.new.files) (g.S.Sink.taken c.args.out.now) (g.S.Sink.taken c.sweep.new.out) (status_of c.sweep.result))
-    (sym (ap command_view c.in-Sweep.is ∙ ap (SweepLine c.in-Sweep.number) (sym c.as_str-in-Sweep.ensures.value)))
-    c.sweep.ensures.swept
-
-pub returns-in-Asm-clause-answer : goal.returns-in-Asm-clause-answer
-returns-in-Asm-clause-answer g c =
-    by_line (g.F.Files.held c.args.files.now) (g.I.Source.left c.args.input.now) (Some (command_view c.args.command.now)) (Some (AsmLine c.as_str-in-Asm.result.now c.as_str-in-Asm-2.result.now))
-    (λ line work. IsAnswer (g.F.Files.faults c.args.files.now) (g.F.Files.faults c.asm.new.files) (StreamRose line (g.S.Sink.faults c.args.out.now) (g.S.Sink.faults c.args.out.now) (g.I.Source.faults c.args.input.now) (g.I.Source.faults c.args.input.now)) (answer_of work) c.asm.result)
+pub returns-in-Asm : goal.returns-in-Asm
+returns-in-Asm g c =
+    let line : Line = AsmLine c.as_str-in-Asm.result.now c.as_str-in-Asm-2.result.now in
+    let before = (seen (g.F.Files.held c.args.files.now) (g.F.Files.faults c.args.files.now) (g.S.Sink.taken c.args.out.now) (g.S.Sink.faults c.args.out.now) (g.I.Source.left c.args.input.now) (g.I.Source.faults c.args.input.now)) in
+    let after = (seen (g.F.Files.held c.asm.new.files) (g.F.Files.faults c.asm.new.files) (g.S.Sink.taken c.args.out.now) (g.S.Sink.faults c.args.out.now) (g.I.Source.left c.args.input.now) (g.I.Source.faults c.args.input.now)) in
+    let l = by_name (Some line) (Some (command_view c.args.command.now)) before after (IsTrue (g.F.Files.steady c.args.files.now)) (c.args.out.now ≡ c.args.out.now) (c.args.input.now ≡ c.args.input.now) c.asm.result
     (ap (λ l. Some l) (ap command_view c.in-Asm.is ∙ ap (λ a. AsmLine a (string_bytes c.in-Asm.to)) (sym c.as_str-in-Asm.ensures.value) ∙ ap (λ b. AsmLine c.as_str-in-Asm.result.now b) (sym c.as_str-in-Asm-2.ensures.value)))
-    (λ input taken. with_output _ _ _ (g.F.Files.held c.args.files.now) (λ h work. work ≡ expected_of_asm h c.as_str-in-Asm.result.now) c.asm.result
-    (of_one (g.F.Files.held c.args.files.now) (λ h. expected_of_asm h c.as_str-in-Asm.result.now) _ c.asm.ensures.answer))
+    (record {
+      answer = λ input taken. with_output _ _ _ (g.F.Files.held c.args.files.now) (λ h work. work ≡ expected_of_asm h c.as_str-in-Asm.result.now) c.asm.result (of_one (g.F.Files.held c.args.files.now) (λ h. expected_of_asm h c.as_str-in-Asm.result.now) _ c.asm.ensures.answer);
+      listed = c.asm.ensures.of_asm;
+      file = c.asm.ensures.file;
+      others = c.asm.ensures.others;
+      swept = tt;
+      kept = c.asm.ensures.kept;
+      reads = λ r. absurd r;
+      failed = c.asm.ensures.failed;
+      output = no_output IsOfAsm _ c.asm.result (λ o. o) c.asm.ensures.of_asm;
+      steady = c.asm.ensures.steady;
+      as_it_comes = tt;
+      printed = λ input taken. of_one (g.F.Files.held c.args.files.now) (λ h. expected_of_asm h c.as_str-in-Asm.result.now) _ (asm_prints (g.F.Files.held c.args.files.now) c.as_str-in-Asm.result.now (g.S.Sink.taken c.args.out.now) c.asm.result);
+      quiet = λ q. refl;
+      unwritten = λ input taken. of_one (g.F.Files.held c.args.files.now) (λ h. expected_of_asm h c.as_str-in-Asm.result.now) _ c.asm.ensures.unwritten;
+      silent = λ s. refl;
+      unread = λ u. refl;
+    }) in
+    record {
+      answer = l.answer;
+      listed = l.listed;
+      file = l.file;
+      others = l.others;
+      swept = l.swept;
+      kept = l.kept;
+      reads = l.reads;
+      failed = l.failed;
+      output = l.output;
+      steady = l.steady;
+      as_it_comes = l.as_it_comes;
+      printed = l.printed;
+      quiet = l.quiet;
+      unwritten = l.unwritten;
+      silent = l.silent;
+      unread = l.unread;
+    }
 
-pub returns-in-Asm-clause-printed : goal.returns-in-Asm-clause-printed
-returns-in-Asm-clause-printed g c =
-    by_line (g.F.Files.held c.args.files.now) (g.I.Source.left c.args.input.now) (Some (command_view c.args.command.now)) (Some (AsmLine (string_bytes c.in-Asm.from) (string_bytes c.in-Asm.to)))
-    (λ line work. Prints (g.S.Sink.taken c.args.out.now) (g.S.Sink.taken c.args.out.now) (expected_text work) c.asm.result)
-    (ap (λ l. Some l) (ap command_view c.in-Asm.is))
-    (λ input taken. of_one (g.F.Files.held c.args.files.now) (λ h. expected_of_asm h (string_bytes c.in-Asm.from)) _ (asm_prints (g.F.Files.held c.args.files.now) (string_bytes c.in-Asm.from) (g.S.Sink.taken c.args.out.now) c.asm.result))
-
-pub returns-in-Asm-clause-unwritten : goal.returns-in-Asm-clause-unwritten
-returns-in-Asm-clause-unwritten g c =
-    by_line (g.F.Files.held c.args.files.now) (g.I.Source.left c.args.input.now) (Some (command_view c.args.command.now)) (Some (AsmLine c.as_str-in-Asm.result.now c.as_str-in-Asm-2.result.now))
-    (λ line work. Unwritten work (g.F.Files.held c.args.files.now) (g.F.Files.held c.asm.new.files))
-    (ap (λ l. Some l) (ap command_view c.in-Asm.is ∙ ap (λ a. AsmLine a (string_bytes c.in-Asm.to)) (sym c.as_str-in-Asm.ensures.value) ∙ ap (λ b. AsmLine c.as_str-in-Asm.result.now b) (sym c.as_str-in-Asm-2.ensures.value)))
-    (λ input taken. of_one (g.F.Files.held c.args.files.now) (λ h. expected_of_asm h c.as_str-in-Asm.result.now) _ c.asm.ensures.unwritten)
-
-pub returns-in-Pipe-clause-answer : goal.returns-in-Pipe-clause-answer
-returns-in-Pipe-clause-answer g c =
-    by_line (g.F.Files.held c.args.files.now) (g.I.Source.left c.args.input.now) (Some (command_view c.args.command.now)) (Some (PipeLine c.in-Pipe.vl (task_view c.in-Pipe.task)))
-    (λ line work. IsAnswer (g.F.Files.faults c.args.files.now) (g.F.Files.faults c.pipe.new.files) (StreamRose line (g.S.Sink.faults c.args.out.now) (g.S.Sink.faults c.pipe.new.out) (g.I.Source.faults c.args.input.now) (g.I.Source.faults c.args.input.now)) (answer_of work) c.pipe.result)
+pub returns-in-Pipe : goal.returns-in-Pipe
+returns-in-Pipe g c =
+    let line : Line = PipeLine c.in-Pipe.vl (task_view c.in-Pipe.task) in
+    let before = (seen (g.F.Files.held c.args.files.now) (g.F.Files.faults c.args.files.now) (g.S.Sink.taken c.args.out.now) (g.S.Sink.faults c.args.out.now) (g.I.Source.left c.args.input.now) (g.I.Source.faults c.args.input.now)) in
+    let after = (seen (g.F.Files.held c.pipe.new.files) (g.F.Files.faults c.pipe.new.files) (g.S.Sink.taken c.pipe.new.out) (g.S.Sink.faults c.pipe.new.out) (g.I.Source.left c.args.input.now) (g.I.Source.faults c.args.input.now)) in
+    let l = by_name (Some line) (Some (command_view c.args.command.now)) before after (IsTrue (g.F.Files.steady c.args.files.now)) (c.pipe.new.out ≡ c.args.out.now) (c.args.input.now ≡ c.args.input.now) c.pipe.result
     (ap (λ l. Some l) (ap command_view c.in-Pipe.is))
+    (reader line before after (IsTrue (g.F.Files.steady c.args.files.now)) (c.pipe.new.out ≡ c.args.out.now) (c.args.input.now ≡ c.args.input.now) c.pipe.result tt (λ s. s) c.pipe.ensures.held
     (λ input taken. of_one (g.F.Files.held c.args.files.now) (λ h. expected_of_pipe h c.in-Pipe.vl (task_view c.in-Pipe.task)) _ c.pipe.ensures.answer)
-
-pub returns-in-Pipe-clause-printed : goal.returns-in-Pipe-clause-printed
-returns-in-Pipe-clause-printed g c =
-    by_line (g.F.Files.held c.args.files.now) (g.I.Source.left c.args.input.now) (Some (command_view c.args.command.now)) (Some (PipeLine c.in-Pipe.vl (task_view c.in-Pipe.task)))
-    (λ line work. Prints (g.S.Sink.taken c.args.out.now) (g.S.Sink.taken c.pipe.new.out) (expected_text work) c.pipe.result)
-    (ap (λ l. Some l) (ap command_view c.in-Pipe.is))
     (λ input taken. of_one (g.F.Files.held c.args.files.now) (λ h. expected_of_pipe h c.in-Pipe.vl (task_view c.in-Pipe.task)) _ c.pipe.ensures.printed)
-
-pub returns-in-Pipe-clause-unwritten : goal.returns-in-Pipe-clause-unwritten
-returns-in-Pipe-clause-unwritten g c =
-    of_every_line (g.F.Files.held c.args.files.now) (g.I.Source.left c.args.input.now) (Some (command_view c.args.command.now)) (λ work. Unwritten work (g.F.Files.held c.args.files.now) (g.F.Files.held c.pipe.new.files)) (λ work r. c.pipe.ensures.held)
-
-pub returns-in-Debug-clause-as_it_comes : goal.returns-in-Debug-clause-as_it_comes
-returns-in-Debug-clause-as_it_comes g c =
-    subst (λ l. AsItComes l (g.F.Files.held c.args.files.now) (g.I.Source.left c.args.input.now) (g.I.Source.left c.debug.new.input) (g.S.Sink.taken c.args.out.now) (g.S.Sink.taken c.debug.new.out) (g.S.Sink.faults c.args.out.now) (g.S.Sink.faults c.debug.new.out) (c.debug.result ≡ Err Output))
-    (sym (ap (λ l. Some l) (ap command_view c.in-Debug.is))) c.debug.ensures.as_it_comes
+    c.pipe.ensures.of_pipe c.pipe.ensures.failed c.pipe.ensures.output c.pipe.ensures.steady c.pipe.ensures.quiet tt (λ u. refl)) in
+    record {
+      answer = l.answer;
+      listed = l.listed;
+      file = l.file;
+      others = l.others;
+      swept = l.swept;
+      kept = l.kept;
+      reads = l.reads;
+      failed = l.failed;
+      output = l.output;
+      steady = l.steady;
+      as_it_comes = l.as_it_comes;
+      printed = l.printed;
+      quiet = l.quiet;
+      unwritten = l.unwritten;
+      silent = l.silent;
+      unread = l.unread;
+    }

@@ -1,4 +1,4 @@
-use Rattle.std.proofs.Common.{ap, sym, ◌∙◌, subst}
+use Rattle.std.proofs.Common.{[], refl, ap, sym, ◌∙◌, subst}
 use Rattle.command_line.specs.Line.{line_of}
 use Rattle.command_line.specs.View.{texts}
 use Rattle.command_answers.specs.Answer.{answer_of, status_of, IsAnswer}
@@ -8,66 +8,92 @@ use Rattle.command_answers.specs.Outputs.{error_line}
 use Rattle.sve_top.proofs.OneExpectedLaws.{does_of}
 use Rattle.sve_top.proofs.Completions.{completes}
 use Rattle.sve_top.proofs.Lines.{by_status}
+use Rattle.refusals.specs.Lines.{line_of_refusal}
+use Rattle.sve_top.proofs.Told.{is_file, is_output, no_line, at_zero, is_kept, is_quiet, not_failed, not_done, no_own_line, line_alike, gains_line}
 use Rattle.command_answers.proofs.Statuses.{line_done, line_refused}
 use Rattle.sve_top.proofs.top.top.Goals as goal
 
-pub returns-in-Ok-clause-does : goal.returns-in-Ok-clause-does
-returns-in-Ok-clause-does g c =
-    does_of (g.F.Files.held c.args.files.now) (g.I.Source.left c.args.input.now) (line_of (texts c.args.words.now))
-    (outside (g.F.Files.held c.args.files.now) (g.F.Files.faults c.args.files.now) (g.S.Sink.taken c.args.out.now) (g.S.Sink.faults c.args.out.now) (g.E.Sink.taken c.args.err.now) (g.E.Sink.faults c.args.err.now) (g.I.Source.faults c.args.input.now))
-    (outside (g.F.Files.held c.do_words.new.files) (g.F.Files.faults c.do_words.new.files) (g.S.Sink.taken c.do_words.new.out) (g.S.Sink.faults c.do_words.new.out) (g.E.Sink.taken c.args.err.now) (g.E.Sink.faults c.args.err.now) (g.I.Source.faults c.do_words.new.input))
-    c.status.result c.do_words.result (c.status.ensures ∙ sym (ap status_of c.in-Ok.is)) c.do_words.ensures.answer c.do_words.ensures.printed c.do_words.ensures.unwritten
-    (λ work p. line_done (g.E.Sink.taken c.args.err.now) (g.E.Sink.faults c.args.err.now) c.status.result (error_line (answer_of work)) c.in-Ok.done c.status.ensures)
+pub returns-in-Ok : goal.returns-in-Ok
+returns-in-Ok g c =
+    let line = line_of (texts c.args.words.now) in
+    let is = c.status.ensures ∙ sym (ap status_of c.in-Ok.is) in
+    let before = (outside (g.F.Files.held c.args.files.now) (g.F.Files.faults c.args.files.now) (g.S.Sink.taken c.args.out.now) (g.S.Sink.faults c.args.out.now) (g.E.Sink.taken c.args.err.now) (g.E.Sink.faults c.args.err.now) (g.I.Source.faults c.args.input.now)) in
+    let after = (outside (g.F.Files.held c.do_words.new.files) (g.F.Files.faults c.do_words.new.files) (g.S.Sink.taken c.do_words.new.out) (g.S.Sink.faults c.do_words.new.out) (g.E.Sink.taken c.args.err.now) (g.E.Sink.faults c.args.err.now) (g.I.Source.faults c.do_words.new.input)) in
+    let does =
+    does_of (g.F.Files.held c.args.files.now) (g.I.Source.left c.args.input.now) line
+    before
+    after
+    c.status.result c.do_words.result is c.do_words.ensures.answer c.do_words.ensures.printed c.do_words.ensures.unwritten
+    (λ work p. line_done (g.E.Sink.taken c.args.err.now) (g.E.Sink.faults c.args.err.now) c.status.result (error_line (answer_of work)) c.in-Ok.done c.status.ensures) in
+    record {
+      does = does;
+      complete = λ bytes taken steady none.
+          completes (g.F.Files.held c.args.files.now) (g.I.Source.left c.args.input.now) line
+          before
+          after
+          c.status.result c.do_words.result is c.do_words.ensures.listed (c.do_words.ensures.steady steady) c.do_words.ensures.output
+          does bytes taken none;
+      usage = no_line line c.status.result c.do_words.result is c.do_words.ensures.listed;
+      listed = (c.do_words.result, c.do_words.ensures.listed, is);
+      file = at_zero _ c.status.result c.do_words.result is c.do_words.ensures.file;
+      others = c.do_words.ensures.others;
+      swept = subst (Swept line (g.F.Files.held c.do_words.new.files) (g.S.Sink.taken c.args.out.now) (g.S.Sink.taken c.do_words.new.out))
+          (sym is) c.do_words.ensures.swept;
+      kept = λ k. c.do_words.ensures.kept (is_kept c.status.result c.do_words.result is k);
+      reads = c.do_words.ensures.reads;
+      failed = λ f. c.do_words.ensures.failed (is_file c.status.result c.do_words.result is f);
+      output = λ o. c.do_words.ensures.output (is_output c.status.result c.do_words.result is o);
+      steady = λ s. not_failed line (g.F.Files.held c.args.files.now) c.status.result c.do_words.result is (c.do_words.ensures.steady s);
+      as_it_comes = by_status line (g.F.Files.held c.args.files.now) (g.I.Source.left c.args.input.now) (g.I.Source.left c.do_words.new.input) (g.S.Sink.taken c.args.out.now) (g.S.Sink.taken c.do_words.new.out) (g.S.Sink.faults c.args.out.now) (g.S.Sink.faults c.do_words.new.out)
+          c.status.result c.do_words.result is c.do_words.ensures.as_it_comes;
+      quiet = λ q. c.do_words.ensures.quiet (is_quiet c.status.result c.do_words.result is q);
+      silent = c.do_words.ensures.silent;
+      untold = λ u. refl;
+      unread = c.do_words.ensures.unread;
+      error_line_alike = λ three four. line_done (g.E.Sink.taken c.args.err.now) (g.E.Sink.faults c.args.err.now) c.status.result [] c.in-Ok.done c.status.ensures;
+      error_line_some = no_own_line (g.E.Sink.taken c.args.err.now) (g.E.Sink.taken c.args.err.now) (g.E.Sink.faults c.args.err.now) (g.E.Sink.faults c.args.err.now) c.status.result c.in-Ok.done c.status.ensures;
+    }
 
-pub returns-in-Err-clause-does : goal.returns-in-Err-clause-does
-returns-in-Err-clause-does g c =
-    does_of (g.F.Files.held c.args.files.now) (g.I.Source.left c.args.input.now) (line_of (texts c.args.words.now))
-    (outside (g.F.Files.held c.args.files.now) (g.F.Files.faults c.args.files.now) (g.S.Sink.taken c.args.out.now) (g.S.Sink.faults c.args.out.now) (g.E.Sink.taken c.args.err.now) (g.E.Sink.faults c.args.err.now) (g.I.Source.faults c.args.input.now))
-    (outside (g.F.Files.held c.do_words.new.files) (g.F.Files.faults c.do_words.new.files) (g.S.Sink.taken c.do_words.new.out) (g.S.Sink.faults c.do_words.new.out) (g.E.Sink.taken c.put_refusal.new.sink) (g.E.Sink.faults c.put_refusal.new.sink) (g.I.Source.faults c.do_words.new.input))
-    c.status-in-Err.result c.do_words.result (c.status-in-Err.ensures ∙ sym (ap status_of c.in-Err.is)) c.do_words.ensures.answer c.do_words.ensures.printed c.do_words.ensures.unwritten
+pub returns-in-Err : goal.returns-in-Err
+returns-in-Err g c =
+    let line = line_of (texts c.args.words.now) in
+    let is = c.status-in-Err.ensures ∙ sym (ap status_of c.in-Err.is) in
+    let before = (outside (g.F.Files.held c.args.files.now) (g.F.Files.faults c.args.files.now) (g.S.Sink.taken c.args.out.now) (g.S.Sink.faults c.args.out.now) (g.E.Sink.taken c.args.err.now) (g.E.Sink.faults c.args.err.now) (g.I.Source.faults c.args.input.now)) in
+    let after = (outside (g.F.Files.held c.do_words.new.files) (g.F.Files.faults c.do_words.new.files) (g.S.Sink.taken c.do_words.new.out) (g.S.Sink.faults c.do_words.new.out) (g.E.Sink.taken c.put_refusal.new.sink) (g.E.Sink.faults c.put_refusal.new.sink) (g.I.Source.faults c.do_words.new.input)) in
+    let does =
+    does_of (g.F.Files.held c.args.files.now) (g.I.Source.left c.args.input.now) line
+    before
+    after
+    c.status-in-Err.result c.do_words.result is c.do_words.ensures.answer c.do_words.ensures.printed c.do_words.ensures.unwritten
     (λ work p. line_refused (g.F.Files.faults c.args.files.now) (g.F.Files.faults c.do_words.new.files) c.status-in-Err.result _ _
-    (StreamRose (line_of (texts c.args.words.now)) (g.S.Sink.faults c.args.out.now) (g.S.Sink.faults c.do_words.new.out) (g.I.Source.faults c.args.input.now) (g.I.Source.faults c.do_words.new.input))
+    (StreamRose line (g.S.Sink.faults c.args.out.now) (g.S.Sink.faults c.do_words.new.out) (g.I.Source.faults c.args.input.now) (g.I.Source.faults c.do_words.new.input))
     (g.E.Sink.taken c.args.err.now) (g.E.Sink.taken c.put_refusal.new.sink) c.in-Err.refusal (answer_of work) c.put_refusal.result c.status-in-Err.ensures
-    (subst (IsAnswer (g.F.Files.faults c.args.files.now) (g.F.Files.faults c.do_words.new.files) (StreamRose (line_of (texts c.args.words.now)) (g.S.Sink.faults c.args.out.now) (g.S.Sink.faults c.do_words.new.out) (g.I.Source.faults c.args.input.now) (g.I.Source.faults c.do_words.new.input)) (answer_of work)) c.in-Err.is p) c.put_refusal.ensures)
-
-pub returns-in-Ok-clause-listed : goal.returns-in-Ok-clause-listed
-returns-in-Ok-clause-listed g c = (c.do_words.result, c.do_words.ensures.listed, c.status.ensures ∙ sym (ap status_of c.in-Ok.is))
-
-pub returns-in-Err-clause-listed : goal.returns-in-Err-clause-listed
-returns-in-Err-clause-listed g c = (c.do_words.result, c.do_words.ensures.listed, c.status-in-Err.ensures ∙ sym (ap status_of c.in-Err.is))
-
-pub returns-in-Ok-clause-complete : goal.returns-in-Ok-clause-complete
-returns-in-Ok-clause-complete g c = λ bytes taken steady none.
-    completes (g.F.Files.held c.args.files.now) (g.I.Source.left c.args.input.now) (line_of (texts c.args.words.now))
-    (outside (g.F.Files.held c.args.files.now) (g.F.Files.faults c.args.files.now) (g.S.Sink.taken c.args.out.now) (g.S.Sink.faults c.args.out.now) (g.E.Sink.taken c.args.err.now) (g.E.Sink.faults c.args.err.now) (g.I.Source.faults c.args.input.now))
-    (outside (g.F.Files.held c.do_words.new.files) (g.F.Files.faults c.do_words.new.files) (g.S.Sink.taken c.do_words.new.out) (g.S.Sink.faults c.do_words.new.out) (g.E.Sink.taken c.args.err.now) (g.E.Sink.faults c.args.err.now) (g.I.Source.faults c.do_words.new.input))
-    c.status.result c.do_words.result (c.status.ensures ∙ sym (ap status_of c.in-Ok.is)) c.do_words.ensures.listed (c.do_words.ensures.steady steady) c.do_words.ensures.output
-    (returns-in-Ok-clause-does g c) bytes taken none
-
-pub returns-in-Err-clause-complete : goal.returns-in-Err-clause-complete
-returns-in-Err-clause-complete g c = λ bytes taken steady none.
-    completes (g.F.Files.held c.args.files.now) (g.I.Source.left c.args.input.now) (line_of (texts c.args.words.now))
-    (outside (g.F.Files.held c.args.files.now) (g.F.Files.faults c.args.files.now) (g.S.Sink.taken c.args.out.now) (g.S.Sink.faults c.args.out.now) (g.E.Sink.taken c.args.err.now) (g.E.Sink.faults c.args.err.now) (g.I.Source.faults c.args.input.now))
-    (outside (g.F.Files.held c.do_words.new.files) (g.F.Files.faults c.do_words.new.files) (g.S.Sink.taken c.do_words.new.out) (g.S.Sink.faults c.do_words.new.out) (g.E.Sink.taken c.put_refusal.new.sink) (g.E.Sink.faults c.put_refusal.new.sink) (g.I.Source.faults c.do_words.new.input))
-    c.status-in-Err.result c.do_words.result (c.status-in-Err.ensures ∙ sym (ap status_of c.in-Err.is)) c.do_words.ensures.listed (c.do_words.ensures.steady steady) c.do_words.ensures.output
-    (returns-in-Err-clause-does g c) bytes taken none
-
-pub returns-in-Ok-clause-swept : goal.returns-in-Ok-clause-swept
-returns-in-Ok-clause-swept g c =
-    subst (Swept (line_of (texts c.args.words.now)) (g.F.Files.held c.do_words.new.files) (g.S.Sink.taken c.args.out.now) (g.S.Sink.taken c.do_words.new.out))
-    (sym (c.status.ensures ∙ sym (ap status_of c.in-Ok.is))) c.do_words.ensures.swept
-
-pub returns-in-Err-clause-swept : goal.returns-in-Err-clause-swept
-returns-in-Err-clause-swept g c =
-    subst (Swept (line_of (texts c.args.words.now)) (g.F.Files.held c.do_words.new.files) (g.S.Sink.taken c.args.out.now) (g.S.Sink.taken c.do_words.new.out))
-    (sym (c.status-in-Err.ensures ∙ sym (ap status_of c.in-Err.is))) c.do_words.ensures.swept
-
-pub returns-in-Ok-clause-as_it_comes : goal.returns-in-Ok-clause-as_it_comes
-returns-in-Ok-clause-as_it_comes g c =
-    by_status (line_of (texts c.args.words.now)) (g.F.Files.held c.args.files.now) (g.I.Source.left c.args.input.now) (g.I.Source.left c.do_words.new.input) (g.S.Sink.taken c.args.out.now) (g.S.Sink.taken c.do_words.new.out) (g.S.Sink.faults c.args.out.now) (g.S.Sink.faults c.do_words.new.out)
-    c.status.result c.do_words.result (c.status.ensures ∙ sym (ap status_of c.in-Ok.is)) c.do_words.ensures.as_it_comes
-
-pub returns-in-Err-clause-as_it_comes : goal.returns-in-Err-clause-as_it_comes
-returns-in-Err-clause-as_it_comes g c =
-    by_status (line_of (texts c.args.words.now)) (g.F.Files.held c.args.files.now) (g.I.Source.left c.args.input.now) (g.I.Source.left c.do_words.new.input) (g.S.Sink.taken c.args.out.now) (g.S.Sink.taken c.do_words.new.out) (g.S.Sink.faults c.args.out.now) (g.S.Sink.faults c.do_words.new.out)
-    c.status-in-Err.result c.do_words.result (c.status-in-Err.ensures ∙ sym (ap status_of c.in-Err.is)) c.do_words.ensures.as_it_comes
+    (subst (IsAnswer (g.F.Files.faults c.args.files.now) (g.F.Files.faults c.do_words.new.files) (StreamRose line (g.S.Sink.faults c.args.out.now) (g.S.Sink.faults c.do_words.new.out) (g.I.Source.faults c.args.input.now) (g.I.Source.faults c.do_words.new.input)) (answer_of work)) c.in-Err.is p) c.put_refusal.ensures) in
+    record {
+      does = does;
+      complete = λ bytes taken steady none.
+          completes (g.F.Files.held c.args.files.now) (g.I.Source.left c.args.input.now) line
+          before
+          after
+          c.status-in-Err.result c.do_words.result is c.do_words.ensures.listed (c.do_words.ensures.steady steady) c.do_words.ensures.output
+          does bytes taken none;
+      usage = no_line line c.status-in-Err.result c.do_words.result is c.do_words.ensures.listed;
+      listed = (c.do_words.result, c.do_words.ensures.listed, is);
+      file = at_zero _ c.status-in-Err.result c.do_words.result is c.do_words.ensures.file;
+      others = c.do_words.ensures.others;
+      swept = subst (Swept line (g.F.Files.held c.do_words.new.files) (g.S.Sink.taken c.args.out.now) (g.S.Sink.taken c.do_words.new.out))
+          (sym is) c.do_words.ensures.swept;
+      kept = λ k. c.do_words.ensures.kept (is_kept c.status-in-Err.result c.do_words.result is k);
+      reads = c.do_words.ensures.reads;
+      failed = λ f. c.do_words.ensures.failed (is_file c.status-in-Err.result c.do_words.result is f);
+      output = λ o. c.do_words.ensures.output (is_output c.status-in-Err.result c.do_words.result is o);
+      steady = λ s. not_failed line (g.F.Files.held c.args.files.now) c.status-in-Err.result c.do_words.result is (c.do_words.ensures.steady s);
+      as_it_comes = by_status line (g.F.Files.held c.args.files.now) (g.I.Source.left c.args.input.now) (g.I.Source.left c.do_words.new.input) (g.S.Sink.taken c.args.out.now) (g.S.Sink.taken c.do_words.new.out) (g.S.Sink.faults c.args.out.now) (g.S.Sink.faults c.do_words.new.out)
+          c.status-in-Err.result c.do_words.result is c.do_words.ensures.as_it_comes;
+      quiet = λ q. c.do_words.ensures.quiet (is_quiet c.status-in-Err.result c.do_words.result is q);
+      silent = c.do_words.ensures.silent;
+      untold = λ u. absurd (not_done c.status-in-Err.result c.in-Err.refusal c.status-in-Err.ensures u);
+      unread = c.do_words.ensures.unread;
+      error_line_alike = line_alike (g.E.Sink.taken c.args.err.now) (g.E.Sink.taken c.put_refusal.new.sink) (g.E.Sink.faults c.args.err.now) (g.E.Sink.faults c.put_refusal.new.sink) c.status-in-Err.result c.in-Err.refusal c.put_refusal.result c.status-in-Err.ensures c.put_refusal.ensures;
+      error_line_some = λ refused. (c.in-Err.refusal, sym c.status-in-Err.ensures, gains_line (g.E.Sink.taken c.args.err.now) (g.E.Sink.taken c.put_refusal.new.sink) (g.E.Sink.faults c.args.err.now) (g.E.Sink.faults c.put_refusal.new.sink) (line_of_refusal c.in-Err.refusal) c.put_refusal.result c.put_refusal.ensures);
+    }
