@@ -5,6 +5,8 @@ use Rattle.command_answers.specs.Reads.{file_of, bytes_in}
 use Rattle.command_answers.proofs.Reading.{stops_there, is_err}
 use Rattle.pipe_command.specs.Pipes.{image_in}
 use Rattle.pipe_command.specs.View.{plain_in}
+use Rattle.pipe_command.proofs.Passed.{file_before, never_file, ok_not_file, by_files, of_content, content_not_file}
+use Rattle.std.proofs.lemmas.Result.{IfOk-from_err}
 use Rattle.pipe_command.proofs.lines.image_of.Goals as goal
 
 pub returns-in_err-bytes-clause-answer : goal.returns-in_err-bytes-clause-answer
@@ -14,3 +16,60 @@ returns-in_err-bytes-clause-answer g c =
     (λ h. image_in c.args.map.now.pages.items c.args.line.now.line) c.in_err-bytes.field-0.0 (plain_in c.from_residual.result)
     (ap bytes_in c.in_err-bytes.was) (ap plain_in (is_err c.in_err-bytes.field-0.0 c.from_residual.result c.from_residual.ensures.1))
     (subst (λ n. IfSome (g.F.Files.held c.args.files.now) (λ h. IsFileAnswer (g.F.Files.faults c.args.files.now) (g.F.Files.faults c.read_file.new.files) (file_of h n) (bytes_in c.read_file.result))) c.as_str.ensures.value c.read_file.ensures.answer)
+
+pub returns-in_err-bytes-clause-held : goal.returns-in_err-bytes-clause-held
+returns-in_err-bytes-clause-held g c = c.read_file.ensures.held
+
+pub returns-in_err-bytes-clause-later : goal.returns-in_err-bytes-clause-later
+returns-in_err-bytes-clause-later g c = c.read_file.ensures.later
+
+pub returns-in_err-bytes-clause-failed : goal.returns-in_err-bytes-clause-failed
+returns-in_err-bytes-clause-failed g c = λ e. c.read_file.ensures.failed (file_before c.in_err-bytes.field-0.0 c.read_file.result c.from_residual.result c.in_err-bytes.was (is_err c.in_err-bytes.field-0.0 c.from_residual.result c.from_residual.ensures.1) e)
+
+pub returns-in_err-bytes-clause-steady : goal.returns-in_err-bytes-clause-steady
+returns-in_err-bytes-clause-steady g c = c.read_file.ensures.steady
+
+pub returns-in_err-bytes-clause-fits : goal.returns-in_err-bytes-clause-fits
+returns-in_err-bytes-clause-fits g c = IfOk-from_err _ _ c.from_residual.ensures.0
+
+pub returns-in_err-image-clause-held : goal.returns-in_err-image-clause-held
+returns-in_err-image-clause-held g c = c.read_file.ensures.held
+
+pub returns-in_err-image-clause-later : goal.returns-in_err-image-clause-later
+returns-in_err-image-clause-later g c = c.read_file.ensures.later
+
+pub returns-in_err-image-clause-steady : goal.returns-in_err-image-clause-steady
+returns-in_err-image-clause-steady g c = c.read_file.ensures.steady
+
+pub returns-in_err-image-clause-failed : goal.returns-in_err-image-clause-failed
+returns-in_err-image-clause-failed g c = λ e. absurd (content_not_file c.in_err-image.field-0.0 c.from_residual-in_err-image.result (is_err c.in_err-image.field-0.0 c.from_residual-in_err-image.result c.from_residual-in_err-image.ensures.1) c.in_err-image.ensures.content e)
+
+pub returns-in_err-image-clause-reads : goal.returns-in_err-image-clause-reads
+returns-in_err-image-clause-reads g c = λ s. never_file (g.F.Files.held c.args.files.now) _ c.from_residual-in_err-image.result (content_not_file c.in_err-image.field-0.0 c.from_residual-in_err-image.result (is_err c.in_err-image.field-0.0 c.from_residual-in_err-image.result c.from_residual-in_err-image.ensures.1) c.in_err-image.ensures.content)
+
+pub returns-in_err-image-clause-fits : goal.returns-in_err-image-clause-fits
+returns-in_err-image-clause-fits g c = IfOk-from_err _ _ c.from_residual-in_err-image.ensures.0
+
+pub returns-in_err-image-clause-of_files : goal.returns-in_err-image-clause-of_files
+returns-in_err-image-clause-of_files g c = by_files c.in_err-image.field-0.0 c.from_residual-in_err-image.result c.from_residual-in_err-image.ensures.1 (of_content c.in_err-image.field-0.0 c.in_err-image.ensures.content)
+
+pub returns-clause-held : goal.returns-clause-held
+returns-clause-held g c = c.read_file.ensures.held
+
+pub returns-clause-later : goal.returns-clause-later
+returns-clause-later g c = c.read_file.ensures.later
+
+pub returns-clause-steady : goal.returns-clause-steady
+returns-clause-steady g c = c.read_file.ensures.steady
+
+pub returns-clause-failed : goal.returns-clause-failed
+returns-clause-failed g c = λ e. absurd (ok_not_file _ e)
+
+pub returns-clause-reads : goal.returns-clause-reads
+returns-clause-reads g c = λ s. never_file (g.F.Files.held c.args.files.now) _ _ (ok_not_file _)
+
+pub returns-clause-fits : goal.returns-clause-fits
+returns-clause-fits g c = c.in_ok-image.ensures.fits
+
+pub returns-clause-of_files : goal.returns-clause-of_files
+returns-clause-of_files g c = tt
