@@ -1,11 +1,16 @@
 -- What a call that failed, or one that came to its end, owes of the files.
-use Rattle.std.proofs.Common.{◌≡◌, ◌≢◌, Option, Some, None, Result, Ok, Err, ◌∙◌, sym, subst}
+use Rattle.std.proofs.Common.{◌≡◌, ◌≢◌, ℕ, List, [], ◌∷◌, ◌++◌, Option, Some, None, Result, Ok, Err, ◌∙◌, sym, subst}
 use Rattle.std.specs.Prelude.{IfSome, IfErr, IsErrAnd, IsErr, OnOk}
+use Rattle.std.specs.List.{AllByRecursion}
 use Rattle.std.proofs.lemmas.Result.{IfOk-from_err}
+use Rattle.guest_types.specs.Memory.{Memory as Pages}
 use Rattle.refusals.specs.declared.refusal.Refusal.{Refusal}
 use Rattle.refusals.specs.declared.refusal.Refusal.TheVariants.{Memory, File, TooLong, Elf, Map, Pipe}
-use Rattle.command_answers.specs.Answer.{HeldFiles}
-use Rattle.pipe_command.specs.View.{IsOfContent, IsOfFiles}
+use Rattle.command_answers.specs.Answer.{HeldFiles, Expected, Answer, answer_of, IsFileAnswer, IsAnswer}
+use Rattle.command_answers.specs.Reads.{and_then, IsOfRead}
+use Rattle.command_answers.proofs.Reading.{read_is, not_read}
+use Rattle.pipe_command.specs.declared.loaded.LoadedLine.{LoadedLine}
+use Rattle.pipe_command.specs.View.{line_view, lines_view, IsOfContent, IsOfFiles, IsFitting}
 use Rattle.pipe_command.proofs.Causes.{not_file_either, whatever_held}
 use Rattle.pipe_command.proofs.LoadedLines.{held_map}
 
@@ -52,3 +57,29 @@ content_not_file {T = T} refusal result is h e = subst IsOfContent (same refusal
   where
     same : (a b : Refusal) → ◌≡◌ {A = Result T Refusal} (Err a) (Err b) → a ≡ b
     same a b e = cc
+
+-- ---- by a read
+
+of_read_files : (T : Type 0) (refusal : Refusal) → IsOfRead {T = T} (Err refusal) → IsOfFiles refusal
+of_read_files T TooLong h = tt
+of_read_files T Memory h = tt
+of_read_files T File h = tt
+of_read_files T other h = absurd h
+
+pub read_files : {T : Type 0} (found : Result T Refusal) (refusal : Refusal) → found ≡ Err refusal → IsOfRead found → IsOfFiles refusal
+read_files {T = T} found refusal is h = of_read_files T refusal (subst IsOfRead is h)
+
+pub read_refused : {T : Type 0} (x y : ℕ) (rose : Type 0) (held : Option HeldFiles) (wanted : HeldFiles → Result T Refusal) (found : Result T Refusal) (next : HeldFiles → T → Expected) (refusal : Refusal) (result : Answer) → found ≡ Err refusal → result ≡ Err refusal → IfSome held (λ h. IsFileAnswer x y (wanted h) found) → IfSome held (λ h. IsAnswer x y rose (answer_of (and_then (wanted h) (next h))) result)
+read_refused x y rose None wanted found next refusal result is e answer = tt
+read_refused x y rose (Some h) wanted found next refusal result is e answer = not_read x y rose (Some h) wanted found (next h) refusal result is e answer
+
+pub after_read : {T U : Type 0} (x y : ℕ) (held : Option HeldFiles) (wanted : HeldFiles → Result T Refusal) (read : T) (found : Result T Refusal) (next : T → Result U Refusal) (result : Result U Refusal) → found ≡ Ok read → IfSome held (λ h. IsFileAnswer x y (wanted h) found) → IsFileAnswer x y (next read) result → IfSome held (λ h. IsFileAnswer x y (and_then (wanted h) next) result)
+after_read x y None wanted read found next result is answer p = tt
+after_read x y (Some h) wanted read found next result is answer p =
+    subst (λ r. IsFileAnswer x y (and_then r next) result) (read_is x y (wanted h) read (subst (IsFileAnswer x y (wanted h)) is answer)) p
+
+-- ---- one line more that the map fits beside
+
+pub fits_more : (pages : Pages) (lines : List LoadedLine) (line : LoadedLine) → IsFitting pages (line_view line) → AllByRecursion (IsFitting pages) (lines_view lines) → AllByRecursion (IsFitting pages) (lines_view (lines ++ line ∷ []))
+fits_more pages [] line f h = (f, tt)
+fits_more pages (first ∷ lines) line f h = (h.0, fits_more pages lines line f h.1)
