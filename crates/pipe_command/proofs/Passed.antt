@@ -1,5 +1,5 @@
 -- What a call that failed, or one that came to its end, owes of the files.
-use Rattle.std.proofs.Common.{◌≡◌, ◌≢◌, ℕ, List, [], ◌∷◌, ◌++◌, Option, Some, None, Result, Ok, Err, ◌∙◌, sym, subst}
+use Rattle.std.proofs.Common.{◌≡◌, ◌≢◌, ℕ, List, [], ◌∷◌, ◌++◌, Option, Some, None, Result, Ok, Err, inl, inr, ⊎_elim, ap, ◌∙◌, sym, subst}
 use Rattle.std.specs.Prelude.{IfSome, IfErr, IsErrAnd, IsErr, OnOk}
 use Rattle.std.specs.List.{AllByRecursion}
 use Rattle.std.proofs.lemmas.Result.{IfOk-from_err}
@@ -10,7 +10,7 @@ use Rattle.command_answers.specs.Answer.{HeldFiles, Expected, Answer, answer_of,
 use Rattle.command_answers.specs.Reads.{and_then, IsOfRead}
 use Rattle.command_answers.proofs.Reading.{read_is, not_read}
 use Rattle.pipe_command.specs.declared.loaded.LoadedLine.{LoadedLine}
-use Rattle.pipe_command.specs.View.{line_view, lines_view, IsOfContent, IsOfFiles, IsFitting}
+use Rattle.pipe_command.specs.View.{line_view, lines_view, Refuses, IsOfContent, IsOfFiles, IsFitting}
 use Rattle.pipe_command.proofs.Causes.{not_file_either, whatever_held}
 use Rattle.pipe_command.proofs.LoadedLines.{held_map}
 
@@ -83,3 +83,11 @@ after_read x y (Some h) wanted read found next result is answer p =
 pub fits_more : (pages : Pages) (lines : List LoadedLine) (line : LoadedLine) → IsFitting pages (line_view line) → AllByRecursion (IsFitting pages) (lines_view lines) → AllByRecursion (IsFitting pages) (lines_view (lines ++ line ∷ []))
 fits_more pages [] line f h = (f, tt)
 fits_more pages (first ∷ lines) line f h = (h.0, fits_more pages lines line f h.1)
+
+-- ---- what is refused first is refused in all that follows it
+
+pub refuses_then : {T U : Type 0} (wanted : Result T Refusal) (next : T → Result U Refusal) (refusal : Refusal) → Refuses wanted refusal → Refuses (and_then wanted next) refusal
+refuses_then wanted next refusal h = ⊎_elim (λ m. inl m) (λ e. inr (ap (λ w. and_then w next) e)) h
+
+pub refuses_as : {T U : Type 0} (wanted : Result T Refusal) (read : T) (next : T → Result U Refusal) (refusal : Refusal) → wanted ≡ Ok read → Refuses (next read) refusal → Refuses (and_then wanted next) refusal
+refuses_as wanted read next refusal e h = subst (λ w. Refuses (and_then w next) refusal) (sym e) h

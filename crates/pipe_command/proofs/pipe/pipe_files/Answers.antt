@@ -1,5 +1,10 @@
-use Rattle.command_answers.proofs.Reading.{is_err}
-use Rattle.pipe_command.proofs.Passed.{file_before, reads_before, never_file, ok_not_file, by_files}
+use Rattle.command_answers.proofs.Reading.{is_err, stops_there}
+use Rattle.pipe_command.proofs.Passed.{file_before, reads_before, never_file, ok_not_file, by_files, after_read}
+use Rattle.std.proofs.Common.{ap, inl}
+use Rattle.command_line.specs.View.{task_view}
+use Rattle.pipe_run.specs.PipeRun.{runs_of}
+use Rattle.pipe_command.specs.Pipes.{script_loaded, piped}
+use Rattle.pipe_command.specs.View.{script_in, report_in}
 use Rattle.pipe_command.proofs.pipe.pipe_files.Goals as goal
 
 pub returns-in_err-loaded-clause-held : goal.returns-in_err-loaded-clause-held
@@ -43,3 +48,15 @@ run_script-requires-clause-few g c = c.in_ok-loaded.ensures.few
 
 pub run_script-requires-clause-fits : goal.run_script-requires-clause-fits
 run_script-requires-clause-fits g c = c.in_ok-loaded.ensures.fits
+
+pub returns-in_err-loaded-clause-answer : goal.returns-in_err-loaded-clause-answer
+returns-in_err-loaded-clause-answer g c =
+    let task = task_view c.args.task.now in
+    stops_there (g.F.Files.faults c.args.files.now) (g.F.Files.faults c.load_script.new.files) (g.F.Files.held c.args.files.now) (λ h. script_loaded h c.args.script.now c.args.map.now) (script_in c.load_script.result) (λ h loaded. piped task.dump (runs_of loaded.0 loaded.1 c.args.vl task.steps)) c.in_err-loaded.field-0.0 (report_in c.from_residual.result)
+    (ap script_in c.in_err-loaded.was) (ap report_in (is_err c.in_err-loaded.field-0.0 c.from_residual.result c.from_residual.ensures.1)) c.load_script.ensures.answer
+
+pub returns-clause-answer : goal.returns-clause-answer
+returns-clause-answer g c =
+    let task = task_view c.args.task.now in
+    after_read (g.F.Files.faults c.args.files.now) (g.F.Files.faults c.load_script.new.files) (g.F.Files.held c.args.files.now) (λ h. script_loaded h c.args.script.now c.args.map.now) _ (script_in c.load_script.result) (λ loaded. piped task.dump (runs_of loaded.0 loaded.1 c.args.vl task.steps)) _
+    (ap script_in c.in_ok-loaded.was) c.load_script.ensures.answer (inl c.in_ok-report.ensures)

@@ -1,7 +1,11 @@
-use Rattle.std.proofs.Common.{refl}
+use Rattle.std.proofs.Common.{refl, ap, le_refl}
 use Rattle.std.proofs.lemmas.Result.{IfOk-from_err}
 use Rattle.command_answers.proofs.Reading.{is_err}
-use Rattle.pipe_command.proofs.Passed.{file_before, never_file, ok_not_file, by_files, of_content, content_not_file}
+use Rattle.pipe_command.proofs.Passed.{file_before, never_file, ok_not_file, by_files, of_content, content_not_file, refuses_then, refuses_as}
+use Rattle.pipe_command.proofs.Causes.{whatever_held, refusal_answers}
+use Rattle.command_answers.specs.Answer.{IsFileAnswer}
+use Rattle.pipe_command.specs.Pipes.{entries_of, map_alone, script_loaded, read_as}
+use Rattle.pipe_command.specs.View.{script_in}
 use Rattle.pipe_command.proofs.script.load_script.Goals as goal
 
 pub returns-in_err-entries-clause-failed : goal.returns-in_err-entries-clause-failed
@@ -75,3 +79,21 @@ returns-clause-of_files g c = tt
 
 pub returns-clause-few : goal.returns-clause-few
 returns-clause-few g c = c.in_ok-map.ensures.few
+
+pub returns-in_err-entries-clause-later : goal.returns-in_err-entries-clause-later
+returns-in_err-entries-clause-later g c = le_refl (g.F.Files.faults c.args.files.now)
+
+pub returns-in_err-map-clause-later : goal.returns-in_err-map-clause-later
+returns-in_err-map-clause-later g c = le_refl (g.F.Files.faults c.args.files.now)
+
+pub returns-in_err-entries-clause-answer : goal.returns-in_err-entries-clause-answer
+returns-in_err-entries-clause-answer g c =
+    whatever_held (g.F.Files.held c.args.files.now) (λ h. IsFileAnswer (g.F.Files.faults c.args.files.now) (g.F.Files.faults c.args.files.now) (script_loaded h c.args.script.now c.args.map.now) (script_in c.from_residual.result))
+    (λ h. refusal_answers (g.F.Files.faults c.args.files.now) (g.F.Files.faults c.args.files.now) (script_loaded h c.args.script.now c.args.map.now) (script_in c.from_residual.result) c.in_err-entries.field-0.0 (ap script_in (is_err c.in_err-entries.field-0.0 c.from_residual.result c.from_residual.ensures.1))
+    (refuses_then (entries_of c.args.script.now) _ c.in_err-entries.field-0.0 c.in_err-entries.ensures.refusal))
+
+pub returns-in_err-map-clause-answer : goal.returns-in_err-map-clause-answer
+returns-in_err-map-clause-answer g c =
+    whatever_held (g.F.Files.held c.args.files.now) (λ h. IsFileAnswer (g.F.Files.faults c.args.files.now) (g.F.Files.faults c.args.files.now) (script_loaded h c.args.script.now c.args.map.now) (script_in c.from_residual-in_err-map.result))
+    (λ h. refusal_answers (g.F.Files.faults c.args.files.now) (g.F.Files.faults c.args.files.now) (script_loaded h c.args.script.now c.args.map.now) (script_in c.from_residual-in_err-map.result) c.in_err-map.field-0.0 (ap script_in (is_err c.in_err-map.field-0.0 c.from_residual-in_err-map.result c.from_residual-in_err-map.ensures.1))
+    (refuses_as (entries_of c.args.script.now) _ _ c.in_err-map.field-0.0 (ap read_as c.in_ok-entries.ensures.entries) (refuses_then (map_alone c.args.map.now) _ c.in_err-map.field-0.0 c.in_err-map.ensures.refusal)))
