@@ -18,9 +18,6 @@ on_error P r e = IfOk-from_err r (λ _. P) e
 pub adds_as : (old new : List Sve) (made wanted : List VectorInstruction) → made ≡ wanted → Adds made old new → Adds wanted old new
 adds_as old new made wanted e p = p ∙ ap (λ l. words_of old ++ l) e
 
-pub adds_nothing : (old : List Sve) (wanted : List VectorInstruction) → [] ≡ wanted → Adds wanted old old
-adds_nothing old wanted e = sym (append-nil (words_of old)) ∙ ap (λ l. words_of old ++ l) e
-
 pub adds_word : (old new : List Sve) (v : Sve) (wanted : List VectorInstruction) → new ≡ old ++ v ∷ [] → instruction_view v ∷ [] ≡ wanted → Adds wanted old new
 adds_word old new v wanted e is = ap words_of e ∙ map_push instruction_view old v ∙ ap (λ l. words_of old ++ l) is
 

@@ -1,5 +1,4 @@
 use Rattle.std.proofs.Common.{[], ◌∷◌, sym, ap, ◌∙◌}
-use Rattle.kernel_tree.specs.declared.ops.BinaryOp.TheVariants as binary
 use Rattle.sve_code.specs.Table.{z_add, z_sub, z_and, z_orr, z_eor, m_mul}
 use Rattle.lane_emit.specs.Stretch.{word}
 use Rattle.lane_emit.specs.LaneCode.{size_of, z_settle, merged, binary_code, binary_leaves}
