@@ -1,3 +1,4 @@
+pub mod Appended
 pub mod DraftVectors
 pub mod StepCode
 pub mod ItemLanes

@@ -3,6 +3,7 @@ pub mod Residues
 pub mod Orders
 pub mod ExtendedLanes
 pub mod BitwiseLanes
+pub mod Appended
 pub mod Stretches
 pub mod CopyCode
 pub mod Shifts
@@ -11,7 +12,9 @@ pub mod Truths
 pub mod ItemRuns
 pub mod Throughout
 pub mod PlacesWithin
+pub mod Parameters
 pub mod PlaceMoved
+pub mod Looked
 pub mod JoinLaws
 pub mod FoldOrders
 pub mod FoldShares

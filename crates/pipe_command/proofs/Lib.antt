@@ -1,3 +1,4 @@
 pub mod Causes
 pub mod LoadedLines
 pub mod LineRuns
+pub mod Passed
