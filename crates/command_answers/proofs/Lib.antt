@@ -3,3 +3,4 @@ pub mod Statuses
 pub mod Reading
 pub mod Loading
 pub mod Outcomes
+pub mod Exits

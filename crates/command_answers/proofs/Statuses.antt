@@ -9,6 +9,7 @@ use Rattle.refusals.specs.declared.refusal.Refusal.TheVariants.{Usage, Memory, F
 use Rattle.refusals.specs.declared.refusal.Done.{Done}
 use Rattle.refusals.specs.declared.refusal.Done.TheVariants as done
 use Rattle.refusals.specs.Lines.{line_of_refusal}
+use Rattle.command_answers.proofs.Exits.{same_refusal}
 use Rattle.command_answers.specs.Answer.{Answer, status_of, IsAnswer, IsStatus}
 use Rattle.refusals.specs.Statuses.{status_of_done, status_of_refusal}
 use Rattle.command_answers.specs.Outputs.{Prints, PrintsBy, is_done, error_line, error_line_by, Gains}
@@ -50,9 +51,6 @@ own_line : (refusal : Refusal) → error_line_by (line_of_refusal refusal) (stat
 own_line Usage = refl
 own_line other = refl
 
-same_refusal : (a b : Refusal) → ◌≡◌ {A = Answer} (Err a) (Err b) → a ≡ b
-same_refusal a b e = cc
-
 line_is : (x y : ℕ) (rose : Type 0) (refusal : Refusal) (wanted : Answer) → IsAnswer x y rose wanted (Err refusal) → error_line_by (error_line wanted) (status_of_refusal refusal) ≡ line_of_refusal refusal
 line_is x y rose refusal wanted h =
     ⊎_elim
@@ -64,7 +62,7 @@ line_is x y rose refusal wanted h =
     fixed : (other : Refusal) → refusal ≡ other → error_line_by (error_line wanted) (status_of_refusal other) ≡ line_of_refusal other → error_line_by (error_line wanted) (status_of_refusal refusal) ≡ line_of_refusal refusal
     fixed other e h = subst (λ r. error_line_by (error_line wanted) (status_of_refusal r) ≡ line_of_refusal r) (sym e) h
 
-gains_line : (old new : Option (List ℕ)) (x y : ℕ) (text : List ℕ) (result : Result (Unit {0}) Failed) → PutsText old new x y text result → Gains old new x y text
+pub gains_line : (old new : Option (List ℕ)) (x y : ℕ) (text : List ℕ) (result : Result (Unit {0}) Failed) → PutsText old new x y text result → Gains old new x y text
 gains_line None new x y text result p = tt
 gains_line (Some bytes) new x y text (Ok all) p = inl p.all
 gains_line (Some bytes) new x y text (Err failed) p = inr (p.part, p.cause.failed)

@@ -14,3 +14,4 @@ pub mod AfterStores
 pub mod Ascending
 pub mod Merges
 pub mod EarlyLoads
+pub mod Errors

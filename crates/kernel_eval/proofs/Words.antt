@@ -1,26 +1,13 @@
 -- The words of results of 128 bits, and the address of an element.
-use Rattle.std.proofs.Common.{◌≡◌, ℕ, ◌+◌, ◌-◌, ◌*◌, ◌%◌, ◌^◌, ◌<◌, Bool, true, false, refl, sym, ap, ◌∙◌, arith, ltb}
-use Rattle.std.specs.Prelude.{ℤ, pos, negsuc, ◌+ℤ◌, ◌-ℤ◌, ◌*ℤ◌, FitsSigned}
-use Rattle.std.specs.Int.{w128, cast_signed, int_wrap, int_wrapping_add, int_wrapping_sub}
-use Rattle.std.proofs.lemmas.Bool.{ltb-false}
+use Rattle.std.proofs.Common.{◌≡◌, ◌+◌, ◌-◌, ◌*◌, ◌%◌, ◌^◌, refl, sym, ap, ◌∙◌}
+use Rattle.std.specs.Prelude.{ℤ, pos, ◌+ℤ◌, ◌-ℤ◌, ◌*ℤ◌, FitsSigned}
+use Rattle.std.specs.Int.{w128, int_wrapping_add, int_wrapping_sub}
 use Rattle.std.proofs.lemmas.Int.{wrapping_add_is, wrapping_sub_is}
 use Rattle.kernel_tree.specs.declared.ops.Ty.{Ty}
 use Rattle.kernel_tree.specs.declared.ops.Ty.TheVariants as ty
 use Rattle.kernel_meaning.specs.Operators.{word}
 use Rattle.kernel_meaning.specs.Eval.{byte_count, address}
-use Rattle.kernel_meaning.proofs.Residues.{word-add, word-mul}
-
-word-signed : (m : ℕ) → m < 2 ^ 128 → word (cast_signed w128 m) ≡ m % 2 ^ 64
-word-signed m h = by_half (ltb m (2 ^ 127)) refl
-  where
-    by_half : (b : Bool) → ltb m (2 ^ 127) ≡ b → word (cast_signed w128 m) ≡ m % 2 ^ 64
-    by_half true e = rw e refl
-    by_half false e = rw e (omega (arith, ltb-false m (2 ^ 127) e, h))
-
-word-wide : (z : ℤ) → word (int_wrap w128 z) ≡ word z
-unfolding int_wrap
-word-wide (pos n) = word-signed (n % 2 ^ 128) (omega arith) ∙ omega arith
-word-wide (negsuc n) = word-signed (2 ^ 128 - 1 - n % 2 ^ 128) (omega arith) ∙ omega arith
+use Rattle.kernel_meaning.proofs.Residues.{word-wide, word-add, word-mul}
 
 pub word-wrapping_add : (a b : ℤ) → FitsSigned w128 a → FitsSigned w128 b → word (int_wrapping_add w128 a b) ≡ word (a +ℤ b)
 word-wrapping_add a b f g = ap word (wrapping_add_is w128 a b f g) ∙ word-wide (a +ℤ b)

@@ -58,7 +58,7 @@ word-signed m h = by_half (ltb m (2 ^ 127)) refl
     by_half true e = rw e refl
     by_half false e = rw e (omega (arith, ltb-false m (2 ^ 127) e, h))
 
-word-wide : (z : ℤ) → word (int_wrap w128 z) ≡ word z
+pub word-wide : (z : ℤ) → word (int_wrap w128 z) ≡ word z
 unfolding int_wrap
 word-wide (pos n) = word-signed (n % 2 ^ 128) (omega arith) ∙ omega arith
 word-wide (negsuc n) = word-signed (2 ^ 128 - 1 - n % 2 ^ 128) (omega arith) ∙ omega arith

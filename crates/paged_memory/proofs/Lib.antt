@@ -7,7 +7,6 @@ pub mod Merging
 pub mod Parts
 pub mod Places
 pub mod PageLaws
-mod Failures
 mod FirstEpochs
 pub mod Puts
 pub mod RunLaws

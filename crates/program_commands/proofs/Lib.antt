@@ -1,6 +1,5 @@
 pub mod Programs
 pub mod Listings
-pub mod Exits
 pub mod Writes
 pub mod Sessions
 pub mod Assemblies

@@ -22,4 +22,3 @@ pub mod HalfWords
 pub mod NameSteps
 pub mod ItemSteps
 mod OperatorWords
-pub mod Errors

@@ -11,6 +11,7 @@ use Rattle.refusals.specs.declared.refusal.Done.{Done}
 use Rattle.refusals.specs.declared.refusal.Done.TheVariants as done
 use Rattle.refusals.specs.Lines.{line_of_refusal}
 use Rattle.refusals.specs.Statuses.{status_of_done, status_of_refusal}
+use Rattle.command_answers.proofs.Statuses.{gains_line}
 use Rattle.command_answers.specs.Answer.{HeldFiles, Answer, status_of, IsKept, IsQuiet}
 use Rattle.command_answers.specs.Outputs.{Gains, error_line_by}
 use Rattle.sve_top.specs.Commands.{IsOf, IsHeld}
@@ -109,11 +110,6 @@ alike s (Map fault) is three four = absurd (four is)
 alike s (Asm fault) is three four = absurd (four is)
 alike s (Pipe fault) is three four = absurd (four is)
 alike s other is three four = refl
-
-pub gains_line : (old new : Option (List ℕ)) (x y : ℕ) (text : List ℕ) (result : Result (Unit {0}) Failed) → PutsText old new x y text result → Gains old new x y text
-gains_line None new x y text result p = tt
-gains_line (Some bytes) new x y text (Ok all) p = inl p.all
-gains_line (Some bytes) new x y text (Err failed) p = inr (p.part, p.cause.failed)
 
 pub line_alike : (old new : Option (List ℕ)) (x y s : ℕ) (refusal : Refusal) (result : Result (Unit {0}) Failed) → s ≡ status_of_refusal refusal → PutsText old new x y (line_of_refusal refusal) result → s ≢ 3 → s ≢ 4 → Gains old new x y (error_line_by [] s)
 line_alike old new x y s refusal result is p three four =

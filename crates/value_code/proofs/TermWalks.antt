@@ -1,7 +1,6 @@
 -- What the walks over expressions ask of a call: an expression below the one at hand.
 use Rattle.std.proofs.Common.{◌≡◌, ◌⊎◌, inl, inr, ⊎_elim, ℤ, Bool, Box, Global, ℕ, ◌+◌, ◌*◌, ◌<◌, ap, subst, arith}
-use Rattle.std.specs.Prelude.{max, Result, IsErr, OnOk}
-use Rattle.std.proofs.lemmas.Result.{IfOk-from_err}
+use Rattle.std.specs.Prelude.{max}
 use Rattle.kernel_tree.specs.declared.ops.Ty.{Ty}
 use Rattle.kernel_tree.specs.declared.ops.UnaryOp.{UnaryOp}
 use Rattle.kernel_tree.specs.declared.ast.Expr.{Expr}
@@ -65,7 +64,3 @@ step_left t n m is = omega (arith, is)
 
 pub step_right : (t n m : ℕ) → 2 * max n m + 1 ≡ t → 2 * m < t
 step_right t n m is = omega (arith, is)
-
--- a call that failed owes nothing
-pub on_error : {T E : Type 0} (P : Type 0) (r : Result T E) → IsErr r → OnOk r P
-on_error P r e = IfOk-from_err r (λ _. P) e

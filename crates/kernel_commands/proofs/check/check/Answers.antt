@@ -11,7 +11,8 @@ use Rattle.io_edges.specs.Sink.{GainsPart}
 use Rattle.command_answers.specs.Outputs.{Prints}
 use Rattle.command_answers.proofs.Prints.{prints_nothing, prints_part, prints_all}
 use Rattle.command_answers.proofs.Reading.{of_read, of_every, with_output, is_err}
-use Rattle.kernel_commands.proofs.Exits.{passed_on, steady_read, of_reading, read_not_output, steady_anyway, text_not, cut_loud, cut_not_file, cut_output, of_refusal, not_refused}
+use Rattle.command_answers.proofs.Exits.{passed_on, steady_read, of_reading, cut_loud, cut_not_file, cut_output, of_refusal, not_refused}
+use Rattle.kernel_commands.proofs.Exits.{read_not_output, steady_anyway, text_not}
 use Rattle.kernel_commands.proofs.Expectations.{text_refused}
 use Rattle.kernel_commands.proofs.check.check.Goals as goal
 

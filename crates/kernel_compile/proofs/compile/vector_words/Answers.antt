@@ -5,7 +5,7 @@ use Rattle.loop_form.specs.Registers.{FitsKernel}
 use Rattle.reg_assign.specs.declared.interval.RegClass.TheVariants.{Z, P, X}
 use Rattle.promises.specs.declared.fault.CompileFault.TheVariants.{Memory}
 use Rattle.promises.specs.Refusals.{IsRefusal}
-use Rattle.scalar_words.proofs.Errors.{on_error}
+use Rattle.guest_types.proofs.Errors.{on_error}
 use Rattle.kernel_compile.proofs.Tried.{on_fault}
 use Rattle.kernel_tree.specs.declared.checked.Checked.{Checked}
 use Rattle.loop_form.specs.View.{program}

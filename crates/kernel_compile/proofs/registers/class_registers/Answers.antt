@@ -6,7 +6,7 @@ use Rattle.loop_form.specs.Needs.{needs_of}
 use Rattle.loop_form.specs.View.{program}
 use Rattle.promises.specs.declared.fault.CompileFault.TheVariants.{Memory}
 use Rattle.promises.specs.Refusals.{IsRefusalIn}
-use Rattle.scalar_words.proofs.Errors.{on_error}
+use Rattle.guest_types.proofs.Errors.{on_error}
 use Rattle.kernel_compile.proofs.Tried.{some_registers, enough_in, refused_in, on_fault}
 use Rattle.kernel_compile.proofs.registers.class_registers.Goals as goal
 

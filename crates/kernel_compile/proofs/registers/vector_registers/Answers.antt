@@ -1,7 +1,7 @@
 use Rattle.std.proofs.lemmas.Result.{IfOk-from_err}
 use Rattle.loop_form.specs.View.{program}
 use Rattle.promises.specs.Refusals.{IsRefusal}
-use Rattle.scalar_words.proofs.Errors.{on_error}
+use Rattle.guest_types.proofs.Errors.{on_error}
 use Rattle.kernel_compile.proofs.Tried.{on_fault, vector_enough, refused_at_z, refused_at_p, refused_at_x}
 use Rattle.kernel_compile.proofs.registers.vector_registers.Goals as goal
 

@@ -6,7 +6,7 @@ use Rattle.kernel_tree.specs.Limits.{block_depth}
 use Rattle.kernel_scope.specs.Scopes.{scope_of}
 use Rattle.scalar_words.specs.View.{looses_of}
 use Rattle.loop_code.specs.Loosening.{with_array, action_arrays, block_arrays}
-use Rattle.scalar_words.proofs.Errors.{on_error}
+use Rattle.guest_types.proofs.Errors.{on_error}
 use Rattle.loop_code.proofs.StatementWalks.{next_statement, arrays_one, arrays_two, arrays_on}
 use Rattle.loop_code.proofs.WalkParts.{no_statement, statement_below, less_deep, same_depth, if_below, first_below, second_below}
 use Rattle.loop_code.proofs.arrays.+statements.Goals as goal

@@ -10,7 +10,7 @@ use Rattle.label_fix.specs.Draft.{word_view}
 use Rattle.scalar_words.specs.View.{looses_of}
 use Rattle.loop_code.specs.Loosening.{with_array, term_arrays}
 use Rattle.loop_code.proofs.ArrayWalk.{element_streamed, element_computed}
-use Rattle.scalar_words.proofs.Errors.{on_error}
+use Rattle.guest_types.proofs.Errors.{on_error}
 use Rattle.loop_code.proofs.TermWalks.{one_operand, two_operands, one_below, two_below, element_below, cond_below, choice_below, no_operand}
 use Rattle.loop_code.proofs.WalkParts.{left_below, right_below, index_below}
 use Rattle.loop_code.proofs.arrays.+terms.Goals as goal

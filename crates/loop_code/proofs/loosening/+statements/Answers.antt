@@ -9,7 +9,7 @@ use Rattle.kernel_scope.specs.Scopes.{scope_of, kept}
 use Rattle.kernel_scope.proofs.Growth.{kept-block}
 use Rattle.scalar_words.specs.View.{looses_of}
 use Rattle.loop_code.specs.Loosening.{covers_block}
-use Rattle.scalar_words.proofs.Errors.{on_error}
+use Rattle.guest_types.proofs.Errors.{on_error}
 use Rattle.loop_code.proofs.StatementWalks.{next_statement, covers_one, covers_two}
 use Rattle.loop_code.proofs.WalkParts.{no_statement, less_deep, same_depth, inner_statement_below, inner_if_below, inner_first_below, inner_second_below, inner_below, and_true, covers_on, after_as, covers_as}
 use Rattle.loop_code.proofs.loosening.+statements.Goals as goal

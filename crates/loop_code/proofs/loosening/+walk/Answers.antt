@@ -6,7 +6,7 @@ use Rattle.kernel_tree.specs.Limits.{block_depth}
 use Rattle.kernel_scope.specs.Scopes.{scope_of, in_body}
 use Rattle.scalar_words.specs.View.{looses_of}
 use Rattle.loop_code.specs.Loosening.{loosen_action, loosen_block}
-use Rattle.scalar_words.proofs.Errors.{on_error}
+use Rattle.guest_types.proofs.Errors.{on_error}
 use Rattle.loop_code.proofs.StatementWalks.{next_statement, loosen_two, loosen_on}
 use Rattle.loop_code.proofs.WalkParts.{no_statement, statement_below, less_deep, same_depth, if_below, first_below, second_below, loosen_other, loosen_as}
 use Rattle.loop_code.proofs.loosening.+walk.Goals as goal

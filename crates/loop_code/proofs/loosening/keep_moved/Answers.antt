@@ -1,4 +1,4 @@
-use Rattle.scalar_words.proofs.Errors.{on_error}
+use Rattle.guest_types.proofs.Errors.{on_error}
 use Rattle.loop_code.proofs.loosening.keep_moved.Goals as goal
 
 pub returns-in_err-answered : goal.returns-in_err-answered

@@ -3,7 +3,7 @@ use Rattle.kernel_tree.specs.Plain.{name_of, block_of}
 use Rattle.kernel_scope.specs.Scopes.{scope_of, in_body}
 use Rattle.scalar_words.specs.Layout.{LowBits}
 use Rattle.loop_code.proofs.Emission.{loosened_kept, loosened_left}
-use Rattle.scalar_words.proofs.Errors.{on_error}
+use Rattle.guest_types.proofs.Errors.{on_error}
 use Rattle.loop_code.proofs.loosening.loosen_name.Goals as goal
 
 pub returns-then-branch-clause-loose : goal.returns-then-branch-clause-loose

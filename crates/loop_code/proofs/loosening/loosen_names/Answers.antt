@@ -5,7 +5,7 @@ use Rattle.kernel_tree.specs.Typing.{Scope}
 use Rattle.kernel_tree.proofs.Scopes.{scope_outside}
 use Rattle.kernel_scope.specs.Scopes.{scope_of, closed}
 use Rattle.loop_code.proofs.Emission.{undeclared}
-use Rattle.scalar_words.proofs.Errors.{on_error}
+use Rattle.guest_types.proofs.Errors.{on_error}
 use Rattle.loop_code.proofs.loosening.loosen_names.Goals as goal
 
 pub returns-clause-scope : goal.returns-clause-scope

@@ -5,7 +5,7 @@ use Rattle.kernel_scope.specs.Scopes.{scope_of, in_body}
 use Rattle.scalar_words.specs.View.{looses_of}
 use Rattle.scalar_words.specs.Layout.{Behind}
 use Rattle.loop_code.specs.Loosening.{block_arrays}
-use Rattle.scalar_words.proofs.Errors.{on_error}
+use Rattle.guest_types.proofs.Errors.{on_error}
 use Rattle.loop_code.proofs.LooseSteps.{pushed}
 use Rattle.loop_code.proofs.loosening.moved_names.Goals as goal
 

@@ -8,7 +8,7 @@ use Rattle.kernel_scope.specs.Scopes.{scope_of}
 use Rattle.scalar_words.specs.View.{constants_of, homes_of}
 use Rattle.value_code.specs.HeldNumbers.{hold_element}
 use Rattle.loop_code.specs.LoopNumbers.{hold_action, hold_block}
-use Rattle.scalar_words.proofs.Errors.{on_error}
+use Rattle.guest_types.proofs.Errors.{on_error}
 use Rattle.loop_code.proofs.StatementWalks.{next_statement, hold_one, hold_two, hold_on}
 use Rattle.loop_code.proofs.WalkParts.{no_statement, statement_below, less_deep, same_depth, if_below, first_below, second_below}
 use Rattle.loop_code.proofs.numbers.+statements.Goals as goal

@@ -9,7 +9,7 @@ use Rattle.command_answers.specs.Reads.{file_of, bytes_in}
 use Rattle.command_answers.proofs.Reading.{of_what_follows, is_err, written_file}
 use Rattle.program_commands.specs.Commands.{assemble_text, expected_of_asm, AssemblesTo, IsOfAsm}
 use Rattle.program_commands.proofs.Assemblies.{asm_refused}
-use Rattle.program_commands.proofs.Exits.{passed_on, steady_read, of_reading, not_refused}
+use Rattle.command_answers.proofs.Exits.{passed_on, steady_read, of_reading, not_refused}
 use Rattle.program_commands.proofs.Sessions.{steady_anyway}
 use Rattle.program_commands.proofs.Writes.{file_not_read, not_done, in_any, same_others, of_text, text_not_file, written_others, write_answer, write_failed, write_kept, write_steady, of_write}
 use Rattle.program_commands.proofs.asm.asm.Goals as goal

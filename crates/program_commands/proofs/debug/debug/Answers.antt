@@ -13,7 +13,7 @@ use Rattle.command_answers.specs.Reads.{task_files, files_in, IsTaskHeld}
 use Rattle.command_answers.proofs.Reading.{is_err}
 use Rattle.program_commands.specs.Commands.{debug_program, IsOfDebug}
 use Rattle.program_commands.proofs.Sessions.{not_begun, debugged_is, refused_program, program_of_debug, program_not_file, program_not_output, steady_anyway, failed_session, answered_session, untold_session, told_session, cut_session, came_session, read_not_output, session_output, session_loud, session_not_file, of_failed_session}
-use Rattle.program_commands.proofs.Exits.{passed_on, steady_read, of_reading, not_refused}
+use Rattle.command_answers.proofs.Exits.{passed_on, steady_read, of_reading, not_refused}
 use Rattle.program_commands.proofs.debug.debug.Goals as goal
 
 pub returns-in_err-read : goal.returns-in_err-read

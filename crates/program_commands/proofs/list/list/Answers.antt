@@ -9,7 +9,7 @@ use Rattle.command_answers.specs.Reads.{file_of, bytes_in}
 use Rattle.command_answers.proofs.Reading.{is_err, not_read, of_what_follows}
 use Rattle.program_commands.specs.Commands.{list_program, expected_of_list, IsOfList}
 use Rattle.program_commands.specs.Listing.{lines_from}
-use Rattle.program_commands.proofs.Exits.{passed_on, steady_read, of_reading, untold, cut_answer, cut_output, cut_print, cut_loud, cut_not_file, of_refusal, not_refused, done_print}
+use Rattle.command_answers.proofs.Exits.{passed_on, steady_read, of_reading, untold, cut_answer, cut_output, cut_print, cut_loud, cut_not_file, of_refusal, not_refused, done_print}
 use Rattle.program_commands.proofs.Sessions.{refused_work, program_not_file, program_not_output, steady_anyway, read_not_output}
 use Rattle.program_commands.proofs.list.list.Goals as goal
 

@@ -8,7 +8,7 @@ use Rattle.command_answers.specs.Outputs.{Prints}
 use Rattle.command_answers.specs.Reads.{task_files, files_in, IsTaskHeld}
 use Rattle.command_answers.proofs.Reading.{is_err, not_read, of_what_follows}
 use Rattle.program_commands.specs.Commands.{run_program, stops_of, expected_of_run, IsOfRun}
-use Rattle.program_commands.proofs.Exits.{passed_on, steady_read, of_reading, untold, cut_answer, cut_output, cut_print, cut_loud, cut_not_file, of_refusal, not_refused, done_print}
+use Rattle.command_answers.proofs.Exits.{passed_on, steady_read, of_reading, untold, cut_answer, cut_output, cut_print, cut_loud, cut_not_file, of_refusal, not_refused, done_print}
 use Rattle.program_commands.proofs.Sessions.{refused_work, program_not_file, program_not_output, program_of_run, steady_anyway, read_not_output}
 use Rattle.program_commands.proofs.run.run.Goals as goal
 

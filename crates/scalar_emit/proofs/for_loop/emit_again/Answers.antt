@@ -8,7 +8,7 @@ use Rattle.label_fix.specs.Finished.{is_plain}
 use Rattle.scalar_words.specs.Layout.{loose_in}
 use Rattle.scalar_words.specs.View.{form_of, homes_of, looses_of}
 use Rattle.scalar_emit.proofs.LoopCode.{again_is, top_given, later, exit_placed}
-use Rattle.scalar_words.proofs.Errors.{on_error}
+use Rattle.guest_types.proofs.Errors.{on_error}
 use Rattle.scalar_emit.proofs.for_loop.emit_again.Goals as goal
 
 pub returns : goal.returns

@@ -1,4 +1,4 @@
-use Rattle.scalar_words.proofs.Errors.{on_error}
+use Rattle.guest_types.proofs.Errors.{on_error}
 use Rattle.scalar_emit.proofs.for_loop.emit_back.Goals as goal
 
 pub returns-in_err-put-in_default : goal.returns-in_err-put-in_default

@@ -5,7 +5,7 @@ use Rattle.label_fix.specs.Finished.{is_plain}
 use Rattle.label_fix.specs.DraftRun.{DraftEntry}
 use Rattle.scalar_words.specs.View.{constants_of, homes_of, looses_of}
 use Rattle.scalar_emit.proofs.LoopCode.{entry_is, entry_top, entry_last, entry_count}
-use Rattle.scalar_words.proofs.Errors.{on_error}
+use Rattle.guest_types.proofs.Errors.{on_error}
 use Rattle.scalar_emit.proofs.for_loop.emit_entry.Goals as goal
 
 pub returns-in_err-head : goal.returns-in_err-head

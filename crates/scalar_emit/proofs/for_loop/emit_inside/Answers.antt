@@ -10,7 +10,7 @@ use Rattle.scalar_words.specs.View.{homes_of}
 use Rattle.loop_code.specs.Statements.{block_homes, block_labels, block_code}
 use Rattle.loop_code.specs.Loop.{inside_of}
 use Rattle.loop_code.proofs.Emission.{homes_back, restored}
-use Rattle.scalar_words.proofs.Errors.{on_error}
+use Rattle.guest_types.proofs.Errors.{on_error}
 use Rattle.scalar_emit.proofs.for_loop.emit_inside.Goals as goal
 
 pub returns-in_err-emit_block : goal.returns-in_err-emit_block

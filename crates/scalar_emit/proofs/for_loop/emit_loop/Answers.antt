@@ -8,7 +8,7 @@ use Rattle.scalar_words.specs.View.{homes_of}
 use Rattle.loop_code.specs.Statements.{block_labels}
 use Rattle.loop_code.proofs.Emission.{index_named}
 use Rattle.scalar_emit.proofs.LoopCode.{loop_is, loop_items, loop_more, inside_room, last_given, last_placed}
-use Rattle.scalar_words.proofs.Errors.{on_error}
+use Rattle.guest_types.proofs.Errors.{on_error}
 use Rattle.scalar_emit.proofs.for_loop.emit_loop.Goals as goal
 
 pub returns-in_err-push : goal.returns-in_err-push

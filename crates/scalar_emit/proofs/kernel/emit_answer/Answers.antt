@@ -11,7 +11,7 @@ use Rattle.label_fix.specs.Draft.{word_view}
 use Rattle.label_fix.specs.DraftRun.{DraftEntry}
 use Rattle.scalar_words.specs.View.{homes_of}
 use Rattle.loop_code.specs.Loop.{answer_labels}
-use Rattle.scalar_words.proofs.Errors.{on_error}
+use Rattle.guest_types.proofs.Errors.{on_error}
 use Rattle.scalar_emit.proofs.KernelCalls.{answer_none, none_counted, answer_some}
 use Rattle.scalar_emit.proofs.kernel.emit_answer.Goals as goal
 

@@ -13,7 +13,7 @@ use Rattle.scalar_words.specs.View.{homes_of}
 use Rattle.scalar_words.proofs.Layouts.{count_params}
 use Rattle.loop_code.specs.Kernel.{zero_index}
 use Rattle.loop_code.proofs.Emission.{begin_is, begin_count}
-use Rattle.scalar_words.proofs.Errors.{on_error}
+use Rattle.guest_types.proofs.Errors.{on_error}
 use Rattle.scalar_emit.proofs.KernelCalls.{few_given, few_vars, vars_room}
 use Rattle.scalar_emit.proofs.kernel.emit_first.Goals as goal
 

@@ -11,7 +11,7 @@ use Rattle.scalar_words.proofs.Layouts.{count_params}
 use Rattle.scalar_words.specs.View.{homes_of}
 use Rattle.loop_code.specs.Loop.{bare}
 use Rattle.loop_code.proofs.Emission.{known_index, numbers_are, for_loop_is, for_loop_count, held_is, loop_ends, loop_room, answer_room, at_end}
-use Rattle.scalar_words.proofs.Errors.{on_error}
+use Rattle.guest_types.proofs.Errors.{on_error}
 use Rattle.scalar_emit.proofs.KernelCalls.{few_given}
 use Rattle.scalar_emit.proofs.kernel.emit_for_loop.Goals as goal
 

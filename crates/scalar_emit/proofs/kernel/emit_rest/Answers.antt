@@ -8,7 +8,7 @@ use Rattle.label_fix.specs.DraftRun.{DraftEntry}
 use Rattle.scalar_words.specs.KernelRegisters.{register_in}
 use Rattle.scalar_words.specs.View.{homes_of}
 use Rattle.loop_code.proofs.Emission.{bare_code, bare_count, answer_room, at_start}
-use Rattle.scalar_words.proofs.Errors.{on_error}
+use Rattle.guest_types.proofs.Errors.{on_error}
 use Rattle.scalar_emit.proofs.kernel.emit_rest.Goals as goal
 
 pub emit_answer-requires : goal.emit_answer-requires

@@ -8,7 +8,7 @@ use Rattle.scalar_words.specs.KernelRegisters.{register_in}
 use Rattle.scalar_words.specs.View.{homes_of}
 use Rattle.loop_code.specs.Kernel.{vars_labels, vars_code}
 use Rattle.scalar_emit.proofs.LoopCode.{vars_on}
-use Rattle.scalar_words.proofs.Errors.{on_error}
+use Rattle.guest_types.proofs.Errors.{on_error}
 use Rattle.scalar_emit.proofs.KernelCalls.{no_var}
 use Rattle.scalar_emit.proofs.kernel.emit_vars.Goals as goal
 

@@ -12,7 +12,7 @@ use Rattle.scalar_words.specs.View.{homes_of}
 use Rattle.loop_code.specs.Statements.{after_homes, block_homes, action_code, block_code}
 use Rattle.loop_code.proofs.Emission.{homes_back}
 use Rattle.loop_code.proofs.StatementWalks.{next_statement, emits_on}
-use Rattle.scalar_words.proofs.Errors.{on_error, on_any}
+use Rattle.guest_types.proofs.Errors.{on_error, on_any}
 use Rattle.scalar_emit.proofs.StatementCode.{emits_as, one_more, no_statement, if_items, if_else_items, if_is, if_count, if_else_is, if_else_count, first_given, second_given, first_room, second_room, statement_below, less_deep, if_below, if_else_below, first_below, second_below, one_below, inner_below, statement_room, truth_room, branch_room, block_room, leave_room, left_room, label_given, land_given, still_given, exit_given, exit_again, items_end, labels_end}
 use Rattle.scalar_emit.proofs.statements.+statements.Goals as goal
 

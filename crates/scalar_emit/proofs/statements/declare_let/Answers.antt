@@ -3,7 +3,7 @@ use Rattle.std.proofs.lemmas.List.{map-append}
 use Rattle.kernel_tree.specs.Plain.{name_of}
 use Rattle.scalar_words.specs.View.{homes_of, home_of}
 use Rattle.loop_code.specs.Statements.{defined_homes}
-use Rattle.scalar_words.proofs.Errors.{on_error}
+use Rattle.guest_types.proofs.Errors.{on_error}
 use Rattle.scalar_emit.proofs.StatementCode.{let_pushed}
 use Rattle.scalar_emit.proofs.statements.declare_let.Goals as goal
 

@@ -9,7 +9,7 @@ use Rattle.label_fix.specs.DraftRun.{DraftEntry}
 use Rattle.scalar_words.specs.View.{homes_of}
 use Rattle.loop_code.specs.Statements.{defined_homes}
 use Rattle.scalar_emit.proofs.StatementCode.{let_is, one_more}
-use Rattle.scalar_words.proofs.Errors.{on_error, on_any}
+use Rattle.guest_types.proofs.Errors.{on_error, on_any}
 use Rattle.scalar_emit.proofs.statements.emit_let.Goals as goal
 
 pub returns-in_err-from : goal.returns-in_err-from

@@ -6,7 +6,7 @@ use Rattle.kernel_tree.specs.Items.{stream_offset}
 use Rattle.kernel_scope.specs.Scopes.{scope_of}
 use Rattle.label_fix.specs.Draft.{word_view}
 use Rattle.label_fix.specs.DraftRun.{DraftEntry}
-use Rattle.scalar_words.proofs.Errors.{on_error}
+use Rattle.guest_types.proofs.Errors.{on_error}
 use Rattle.scalar_emit.proofs.StatementCode.{put_none, put_some}
 use Rattle.scalar_emit.proofs.statements.emit_put.Goals as goal
 

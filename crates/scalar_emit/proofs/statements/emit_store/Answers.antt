@@ -5,7 +5,7 @@ use Rattle.kernel_tree.specs.Items.{term_size}
 use Rattle.kernel_scope.specs.Scopes.{scope_of}
 use Rattle.label_fix.specs.DraftRun.{DraftEntry}
 use Rattle.scalar_words.specs.View.{homes_of}
-use Rattle.scalar_words.proofs.Errors.{on_error, on_any}
+use Rattle.guest_types.proofs.Errors.{on_error, on_any}
 use Rattle.scalar_emit.proofs.StatementCode.{one_more, placed_store, computed_store}
 use Rattle.scalar_emit.proofs.statements.emit_store.Goals as goal
 

@@ -9,7 +9,7 @@ use Rattle.label_fix.specs.DraftRun.{DraftEntry}
 use Rattle.scalar_words.specs.View.{homes_of}
 use Rattle.value_code.specs.Code.{labels}
 use Rattle.loop_code.specs.Statements.{is_bare}
-use Rattle.scalar_words.proofs.Errors.{on_error}
+use Rattle.guest_types.proofs.Errors.{on_error}
 use Rattle.scalar_emit.proofs.StatementCode.{within_bare, fits_bare, bare_home, bare_code, cast_room, cast_more, cast_items}
 use Rattle.scalar_emit.proofs.statements.emit_stored.Goals as goal
 use Rattle.scalar_emit.proofs.statements.emit_stored.Goals.{then-within_type-via-then-within_type, then-within_type-via-else-within_type+then-fits_at}

@@ -12,7 +12,7 @@ use Rattle.value_code.specs.Extents.{within, binary_extent}
 use Rattle.value_code.specs.Covers.{held_extent}
 use Rattle.scalar_values.specs.Sides.{side_view}
 use Rattle.loop_code.proofs.Emission.{update_type, update_is}
-use Rattle.scalar_words.proofs.Errors.{on_error, on_any}
+use Rattle.guest_types.proofs.Errors.{on_error, on_any}
 use Rattle.scalar_emit.proofs.StatementCode.{one_more}
 use Rattle.scalar_emit.proofs.statements.emit_update.Goals as goal
 

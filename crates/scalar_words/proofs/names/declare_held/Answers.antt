@@ -1,5 +1,5 @@
 use Rattle.kernel_tree.specs.Plain.{name_of}
-use Rattle.scalar_words.proofs.Errors.{on_error, on_any}
+use Rattle.guest_types.proofs.Errors.{on_error, on_any}
 use Rattle.scalar_words.proofs.NameSteps.{home_pushed}
 use Rattle.scalar_words.proofs.names.declare_held.Goals as goal
 

@@ -8,7 +8,7 @@ use Rattle.kernel_tree.proofs.Scopes.{scope_index}
 use Rattle.scalar_words.specs.KernelRegisters.{register_in, param_homes, var_homes}
 use Rattle.scalar_words.specs.View.{homes_of}
 use Rattle.scalar_words.proofs.Layouts.{count_params, count_vars}
-use Rattle.scalar_words.proofs.Errors.{on_error}
+use Rattle.guest_types.proofs.Errors.{on_error}
 use Rattle.scalar_words.proofs.names.declare_names.Goals as goal
 
 pub returns : goal.returns

@@ -3,7 +3,7 @@ use Rattle.kernel_tree.specs.Plain.{name_of}
 use Rattle.kernel_tree.specs.Typing.{Scope, declared}
 use Rattle.kernel_scope.specs.Scopes.{scope_of}
 use Rattle.scalar_words.proofs.NameSteps.{param_scope, param_more, params_all, params_homes, param_low}
-use Rattle.scalar_words.proofs.Errors.{on_error}
+use Rattle.guest_types.proofs.Errors.{on_error}
 use Rattle.scalar_words.proofs.names.declare_params.Goals as goal
 
 pub loop-param-preserved : goal.loop-param-preserved

@@ -1,7 +1,7 @@
 use Rattle.std.proofs.Common.{arith, refl}
 use Rattle.scalar_words.specs.KernelRegisters.{register_in}
 use Rattle.scalar_words.proofs.NameSteps.{var_scope, var_more, after_all, all_homes}
-use Rattle.scalar_words.proofs.Errors.{on_error}
+use Rattle.guest_types.proofs.Errors.{on_error}
 use Rattle.scalar_words.proofs.names.declare_vars.Goals as goal
 
 pub loop-place-preserved : goal.loop-place-preserved

@@ -5,7 +5,7 @@ use Rattle.label_fix.specs.Draft.{Drafted}
 use Rattle.label_fix.specs.DraftRun.{DraftEntry}
 use Rattle.scalar_words.specs.Words.{start_code}
 use Rattle.scalar_words.proofs.HalfWords.{more_code, halves_are, put_half, pass_half, after_halves, half_below, begins}
-use Rattle.scalar_words.proofs.Errors.{on_error}
+use Rattle.guest_types.proofs.Errors.{on_error}
 use Rattle.scalar_words.proofs.operations.emit_halves.Goals.{then-half-filler+in_ok-put, else-half-filler}
 use Rattle.scalar_words.proofs.operations.emit_halves.Goals as goal
 

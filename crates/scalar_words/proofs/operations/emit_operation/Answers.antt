@@ -3,7 +3,7 @@ use Rattle.std.proofs.lemmas.Result.{on_ok_weaker}
 use Rattle.a64_code.specs.Table.{subs}
 use Rattle.label_fix.specs.DraftRun.{DraftEntry, word_of}
 use Rattle.label_fix.specs.Finished.{is_plain}
-use Rattle.scalar_words.proofs.Errors.{on_error}
+use Rattle.guest_types.proofs.Errors.{on_error}
 use Rattle.scalar_words.proofs.OperatorWords.{chosen, in_one_word}
 use Rattle.scalar_words.proofs.operations.emit_operation.Goals as goal
 

@@ -3,7 +3,7 @@ use Rattle.word_rows.specs.declared.Bits.{Bits}
 use Rattle.scalar_words.specs.View.{register_number}
 use Rattle.scalar_words.specs.KernelRegisters.{register_in, count_values, item_regs}
 use Rattle.scalar_words.proofs.ItemSteps.{more_untils, no_value, one_value_more, no_register, more_registers, all_registers, all_untils, room_before, room_kept, room_more, below_all}
-use Rattle.scalar_words.proofs.Errors.{on_error}
+use Rattle.guest_types.proofs.Errors.{on_error}
 use Rattle.scalar_words.proofs.places.place_items.Goals.{in-None+in_ok-push-in-None, in-Some+in_ok-push-in-Some}
 use Rattle.scalar_words.proofs.places.place_items.Goals as goal
 

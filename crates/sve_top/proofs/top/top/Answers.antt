@@ -9,8 +9,8 @@ use Rattle.sve_top.proofs.OneExpectedLaws.{does_of}
 use Rattle.sve_top.proofs.Completions.{completes}
 use Rattle.sve_top.proofs.Lines.{by_status}
 use Rattle.refusals.specs.Lines.{line_of_refusal}
-use Rattle.sve_top.proofs.Told.{is_file, is_output, no_line, at_zero, is_kept, is_quiet, not_failed, not_done, no_own_line, line_alike, gains_line}
-use Rattle.command_answers.proofs.Statuses.{line_done, line_refused}
+use Rattle.sve_top.proofs.Told.{is_file, is_output, no_line, at_zero, is_kept, is_quiet, not_failed, not_done, no_own_line, line_alike}
+use Rattle.command_answers.proofs.Statuses.{gains_line, line_done, line_refused}
 use Rattle.sve_top.proofs.top.top.Goals as goal
 
 pub returns-in-Ok : goal.returns-in-Ok

@@ -3,7 +3,8 @@ use Rattle.std.specs.Prelude.{max}
 use Rattle.kernel_tree.specs.declared.ast.Expr.{Expr}
 use Rattle.kernel_tree.specs.declared.ast.Expr as kind
 use Rattle.kernel_tree.specs.Limits.{term_depth}
-use Rattle.value_code.proofs.TermWalks.{below_one, below_between, below_left, below_both, below_pair, step_down, step_left, step_right, both_below, HasOne, one_depth, joined_depth, on_error}
+use Rattle.guest_types.proofs.Errors.{on_error}
+use Rattle.value_code.proofs.TermWalks.{below_one, below_between, below_left, below_both, below_pair, step_down, step_left, step_right, both_below, HasOne, one_depth, joined_depth}
 use mir.Syntax.{w128}
 use mir.Val.{SFits}
 use Rattle.std.proofs.lemmas.Int.{to_z-of_z}

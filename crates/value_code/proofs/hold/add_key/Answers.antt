@@ -1,6 +1,6 @@
 use Rattle.std.proofs.Common.{◌≡◌, length, vec_len, rules, refl, ◌∙◌}
 use Rattle.scalar_words.specs.View.{key_of}
-use Rattle.value_code.proofs.TermWalks.{on_error}
+use Rattle.guest_types.proofs.Errors.{on_error}
 use Rattle.value_code.proofs.HeldKeys.{few_fit, few_left, low_left, one_added}
 use Rattle.value_code.proofs.hold.add_key.Goals as goal
 

@@ -3,7 +3,7 @@ use Rattle.guest_types.specs.Memory.{IsMemory, DoNotMeet, merged}
 use Rattle.paged_memory.specs.Layout.{memory_of, IsLaidOut, heads_from, joined}
 use Rattle.paged_memory.proofs.HeadPlaces.{length-pages}
 use Rattle.paged_memory.proofs.Mapped.{memory-mapped, laid-mapped, length-heads_from}
-use Rattle.paged_memory.proofs.Failures.{on_error, on_failure}
+use Rattle.guest_types.proofs.Errors.{on_error, in_error}
 use Rattle.paged_memory.proofs.store.Store.map_pages.Goals as goal
 
 pub join-requires : goal.join-requires
@@ -43,13 +43,13 @@ pub append-requires : goal.append-requires
 append-requires c = omega (arith, c.requires.few)
 
 pub returns-in_err-more : goal.returns-in_err-more
-returns-in_err-more c = record { memory = on_error _ _ c.from_residual.ensures.0; unchanged = on_failure _ refl }
+returns-in_err-more c = record { memory = on_error _ _ c.from_residual.ensures.0; unchanged = in_error _ refl }
 
 pub returns-in_err-heads : goal.returns-in_err-heads
-returns-in_err-heads c = record { memory = on_error _ _ c.from_residual-in_err-heads.ensures.0; unchanged = on_failure _ refl }
+returns-in_err-heads c = record { memory = on_error _ _ c.from_residual-in_err-heads.ensures.0; unchanged = in_error _ refl }
 
 pub returns-in_err-append : goal.returns-in_err-append
 returns-in_err-append c = record {
   memory = on_error _ _ c.from_residual-in_err-append.ensures.0;
-  unchanged = on_failure _ (ap (memory_of c.self.inside.heads.items) c.in_err-append.ensures.unchanged ∙ c.self.view_is);
+  unchanged = in_error _ (ap (memory_of c.self.inside.heads.items) c.in_err-append.ensures.unchanged ∙ c.self.view_is);
 }

@@ -1,7 +1,7 @@
 use Rattle.std.proofs.Common.{[], ◌∷◌, refl, ap, ap₂, ◌∙◌}
 use Rattle.machine_model.specs.Debugged.{Past, View}
 use Rattle.sve_machine.specs.Pasts.{past_at, past_by, rests_of}
-use Rattle.sve_machine.proofs.Errors.{on_error, in_error}
+use Rattle.guest_types.proofs.Errors.{on_error, in_error}
 use Rattle.sve_machine.proofs.PastLaws.{now-seen, whole-same, whole-begun}
 use Rattle.sve_machine.proofs.machine.Machine.begin.Goals as goal
 

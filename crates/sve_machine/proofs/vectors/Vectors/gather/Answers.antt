@@ -1,7 +1,8 @@
 use Rattle.std.proofs.Common.{◌≡◌, Err, refl, ap}
 use Rattle.lane_memory.specs.Gathers.{gather_of}
 use Rattle.sve_machine.specs.VectorStates.{p_of, z_of, put_load}
-use Rattle.sve_machine.proofs.Errors.{on_error, in_error, error_is}
+use Rattle.guest_types.proofs.Errors.{on_error, in_error}
+use Rattle.sve_machine.proofs.Errors.{error_is}
 use Rattle.sve_machine.proofs.vectors.Vectors.gather.Goals as goal
 
 pub returns-in_err-gathered : goal.returns-in_err-gathered

@@ -4,7 +4,8 @@ use Rattle.a64_machine.specs.Cores.{VectorState}
 use Rattle.lane_memory.specs.Loads.{load_of}
 use Rattle.sve_machine.specs.VectorStates.{IsVectorState, vector_state_of, p_of, put_load}
 use Rattle.sve_machine.proofs.Loads.{load_shape, load_put, load_done, load_refused, load_kept}
-use Rattle.sve_machine.proofs.Errors.{on_error, in_error, error_is}
+use Rattle.guest_types.proofs.Errors.{on_error, in_error}
+use Rattle.sve_machine.proofs.Errors.{error_is}
 use Rattle.sve_machine.proofs.vectors.Vectors.load.Goals as goal
 
 pub invariant_of-self-2 : goal.invariant_of-self-2

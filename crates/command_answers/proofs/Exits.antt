@@ -15,7 +15,7 @@ use Rattle.command_answers.proofs.Reading.{is_err}
 
 -- ---- where a call was refused
 
-same_refusal : (a b : Refusal) → ◌≡◌ {A = Answer} (Err a) (Err b) → a ≡ b
+pub same_refusal : (a b : Refusal) → ◌≡◌ {A = Answer} (Err a) (Err b) → a ≡ b
 same_refusal a b e = cc
 
 -- what is answered is what was passed on
