@@ -1,5 +1,4 @@
 pub mod Layout
-pub mod Drafts
 pub mod View
 pub mod Operands
 pub mod Safe

@@ -7,8 +7,7 @@ ghost use Rattle.loop_form.specs.Registers.{FitsKernel};
 ghost use Rattle.loop_form.specs.View.{program};
 ghost use Rattle.dependence.specs.Classes.{class_of};
 ghost use Rattle.dependence.specs.declared.reason.Class.TheVariants.{Vector};
-ghost use Rattle.label_fix.specs.Emits.{Emits};
-ghost use Rattle.scalar_words.specs.Drafts.{AppendsWords};
+ghost use Rattle.label_fix.specs.Emits.{Emits, AppendsWords};
 ghost use Rattle.scalar_words.specs.KernelRegisters.{register_in};
 ghost use Rattle.vector_emit.specs.VectorCode.{vector_code};
 
