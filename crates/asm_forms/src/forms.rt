@@ -17,10 +17,15 @@ pub enum Places {
 /// A mnemonic, and the base of the word.
 pub struct Row(pub &'static str, pub u32);
 
-/// The text behind a mnemonic, with its blanks, what its numbers add, and the mnemonics that stand
-/// before it.
+/// A form of text: what stands behind a mnemonic, what its numbers add, and the mnemonics that stand before it.
 pub struct Form {
+    /// The text with a letter in place of each number: `x` and `w` for a general register or the stack pointer, `z` for a
+    /// vector register and `v` for one that is seen as a scalar, `p` for a predicate, `T` for the size of elements, `c` for a
+    /// condition, `l` for a shift, and `0` for a number.
     pub operands: &'static str,
+    /// What these numbers add to the base.
     pub adds: Places,
+    /// The mnemonics with their bases. Where a text has `#-0`, the base is that of the row and 2 to the power of the bit above
+    /// its field, from which the number is taken.
     pub rows: &'static [Row],
 }

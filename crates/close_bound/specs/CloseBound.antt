@@ -106,11 +106,12 @@ joined_all (t ∷ ts) = joined_steps t + joined_all ts
 abbrev pub held_steps : List Throughout → ℕ
 held_steps ts = laid_all ts + joined_all ts
 
--- how many pairs of arrays there are of which one is stored
+-- 1 where this holds
 abbrev pub one_if : Bool → ℕ
 one_if true = 1
 one_if false = 0
 
+-- how many pairs of arrays there are of which one is stored
 abbrev pub pairs_with : Used → List Used → ℕ
 pairs_with u [] = 0
 pairs_with u (v ∷ vs) = one_if (u.stored || v.stored) + pairs_with u vs

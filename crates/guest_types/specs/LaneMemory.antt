@@ -101,10 +101,11 @@ plain_load form memory on f n ffr =
     (fault_at form memory f (first_true (both on (lane_faults form memory f)) n 0))
     (record { z = register (width_bytes form.element) (loaded_lane form memory on f) n; ffr = ffr })
 
--- FFR with every bit clear from the first bit of an element on, where there is one
+-- a bit of FFR below a limit
 abbrev pub kept_bit : List ℕ → ℕ → ℕ → Bool
 kept_bit ffr limit j = bit ffr j && nat_lt j limit
 
+-- FFR with every bit clear from the first bit of an element on, where there is one
 abbrev pub cleared_from : Width → Option ℕ → List ℕ → List ℕ
 cleared_from w None ffr = ffr
 cleared_from w (Some e) ffr = bits_of (kept_bit ffr (width_bytes w * e)) 32

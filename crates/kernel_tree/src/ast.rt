@@ -111,6 +111,7 @@ impl Shape {
     }
 }
 
+/// A parameter: a scalar, or an array with elements of a type.
 #[derive(Drop)]
 pub struct Param {
     pub name: Name,

@@ -5,13 +5,21 @@ use crate::ops::Ty;
 /// A rule of typing that fails.
 #[derive(Clone, Copy)]
 pub enum Fault {
+    /// No name of this text is visible here.
     Unknown,
+    /// The name is declared a second time.
     Twice,
+    /// The name stands for something that has no place here, as a scalar that is indexed.
     WrongKind,
+    /// A value of one type where another is wanted.
     Mismatch { want: Ty, found: Ty },
+    /// Literals alone, which have no type of their own, where nothing says which one is wanted.
     Untyped,
+    /// A literal that its type does not have.
     LiteralRange,
+    /// A shift by as many bits as the type has, or more.
     ShiftRange,
+    /// An offset from the loop variable of more than 1,024 elements.
     OffsetRange,
 }
 

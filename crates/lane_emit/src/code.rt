@@ -272,7 +272,7 @@ fn lane_count(width: Width, count: u32) -> u32
     count.min(most)
 }
 
-// A shift to the right, by less bits than a lane has.
+// A shift to the right, by fewer bits than a lane has.
 fn shifted_right(
     words: &mut Vec<Sve>,
     width: Width,

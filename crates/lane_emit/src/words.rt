@@ -179,7 +179,7 @@ pub fn extend_word(op: ExtendOp, d: VectorReg, a: VectorReg) -> Sve
     }
 }
 
-/// A shift to the left, by less bits than a lane has.
+/// A shift to the left, by fewer bits than a lane has.
 pub fn shift_left(width: Width, d: VectorReg, a: VectorReg, count: u32) -> Sve
     requires { count < width_bits width }
     ensures { instruction_view result ≡ code.shift_word table.lsl_imm d.number a.number (width_bits width + count) }

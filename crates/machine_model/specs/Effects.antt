@@ -1,4 +1,4 @@
--- What each A64 instruction does (Arm DDI 0487, "A64 Base Instruction Descriptions"). An instruction is the name of its row and
+-- What each A64 instruction does (Arm DDI 0487, chapter C6, "A64 Base Instruction Descriptions", and of UMOV chapter C7). An instruction is the name of its row and
 -- the numbers of that row's fields, from the lowest field of the word to the highest.
 use Rattle.std.specs.Prelude.{ℕ, ◌*◌, ◌%◌, ◌^◌, Bool, not, ◌&&◌, List, Ok, Err, nat_eq, bit_and, bit_or, bit_xor, slice_index, if◌then◌else◌}
 use Rattle.std.specs.Int.{w8, w16, w32, w64, cast_signed, cast_unsigned}

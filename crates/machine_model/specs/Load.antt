@@ -49,12 +49,16 @@ segments_from bytes at (suc n) = segment_at bytes at ∷ segments_from bytes (at
 abbrev pub has_flag : Segment → ℕ → Bool
 has_flag segment k = nat_eq (segment.flags / 2 ^ k % 2) 1
 
+-- p_type is PT_LOAD, and the segment has bytes in memory
 abbrev pub is_loaded : Segment → Bool
 is_loaded segment = nat_eq segment.kind 1 && not (nat_eq segment.memsz 0)
 
+-- p_type is PT_DYNAMIC or PT_INTERP: a dynamic loader is wanted
 abbrev pub is_dynamic : Segment → Bool
 is_dynamic segment = nat_eq segment.kind 2 || nat_eq segment.kind 3
 
+-- of a file of so many bytes: more bytes in the file than in memory, bytes past the end of the file, memory past 2^48, no leave to
+-- read, or leave to write and to execute
 abbrev pub is_bad : ℕ → Segment → Bool
 is_bad size segment =
     nat_lt segment.memsz segment.filesz
@@ -139,6 +143,7 @@ image_of bytes entry segments =
       pages = flat_map (pages_of bytes) (in_order segments);
     }
 
+-- e_ident begins with 0x7f and `ELF`, ELFCLASS64, ELFDATA2LSB and EV_CURRENT
 abbrev pub has_ident : List ℕ → Bool
 has_ident bytes =
     nat_eq (slice_index bytes 0) 0x7f && nat_eq (slice_index bytes 1) 0x45 && nat_eq (slice_index bytes 2) 0x4c
@@ -158,14 +163,35 @@ load_segments bytes entry segments =
           else Ok (image_of bytes entry loaded)
     ]
 
+-- fields of the ELF header: the kind of file (ET_EXEC is 2), the machine (EM_AARCH64 is 183), the first instruction, the place of the
+-- program headers, their size and their number
+abbrev pub e_type : List ℕ → ℕ
+e_type bytes = le_at bytes 16 2
+
+abbrev pub e_machine : List ℕ → ℕ
+e_machine bytes = le_at bytes 18 2
+
+abbrev pub e_entry : List ℕ → ℕ
+e_entry bytes = le_at bytes 24 8
+
+abbrev pub e_phoff : List ℕ → ℕ
+e_phoff bytes = le_at bytes 32 8
+
+abbrev pub e_phentsize : List ℕ → ℕ
+e_phentsize bytes = le_at bytes 54 2
+
+abbrev pub e_phnum : List ℕ → ℕ
+e_phnum bytes = le_at bytes 56 2
+
+-- The first thing that is wrong decides; an ELF header has 64 bytes, and a program header 56.
 abbrev pub load : List ℕ → Result Image ElfFault
 load bytes =
     let size = length bytes in
-    let phoff = le_at bytes 32 8 in
-    let phnum = le_at bytes 56 2 in
+    let phoff = e_phoff bytes in
+    let phnum = e_phnum bytes in
     if nat_lt size 64 then Err (Short 64 size)
-    else if not (has_ident bytes) || (not (nat_eq phnum 0) && not (nat_eq (le_at bytes 54 2) 56)) then Err NotElf
-    else if not (nat_eq (le_at bytes 18 2) 183) then Err NotAarch64
-    else if not (nat_eq (le_at bytes 16 2) 2) then Err NotStatic
+    else if not (has_ident bytes) || (not (nat_eq phnum 0) && not (nat_eq (e_phentsize bytes) 56)) then Err NotElf
+    else if not (nat_eq (e_machine bytes) 183) then Err NotAarch64
+    else if not (nat_eq (e_type bytes) 2) then Err NotStatic
     else if not (nat_eq phnum 0) && nat_lt size (phoff + 56 * phnum) then Err (Short (phoff + 56 * phnum) size)
-    else load_segments bytes (le_at bytes 24 8) (segments_from bytes phoff phnum)
+    else load_segments bytes (e_entry bytes) (segments_from bytes phoff phnum)

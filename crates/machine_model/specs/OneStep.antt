@@ -1,4 +1,5 @@
--- One step of the machine: the fetch, the instruction of the word, and what it does.
+-- One step of the machine: the fetch, the instruction of the word, and what it does (this project's own: the manual's
+-- sentences on each instruction are `Effects` and `VectorEffects`).
 use Rattle.std.specs.Prelude.{ℕ, Bool, false, Option, Some, None}
 use Rattle.guest_types.specs.Memory.{fetched}
 use Rattle.machine_model.specs.declared.outcome.StopKind.TheVariants.{Fetch, Undefined}

@@ -172,7 +172,7 @@ vector_act cntb f s = put_x s (f rd) (lanes s.vl B)
 vector_act cnth f s = put_x s (f rd) (lanes s.vl H)
 vector_act cntw f s = put_x s (f rd) (lanes s.vl S)
 vector_act cntd f s = put_x s (f rd) (lanes s.vl D)
--- the elements that are true in a predicate are those that are true in it twice
+-- INCP counts the true elements of one predicate, as CNTP does of a predicate under a mask: here the mask is the predicate itself
 vector_act incp f s =
     put_x s (f rd) (sum (x_at s (f rd)) (count_of (sized f) (lanes s.vl (sized f)) (p_at s (f pm_low)) (p_at s (f pm_low))))
 vector_act cntp f s = put_x s (f rd) (count_of (sized f) (lanes s.vl (sized f)) (p_at s (f pg4)) (p_at s (f pn)))

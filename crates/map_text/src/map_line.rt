@@ -21,6 +21,7 @@ pub struct Patch {
     pub bytes: Vec<u8>,
 }
 
+// A line: a blank one or a comment, `map` or `set`.
 #[derive(Drop)]
 pub enum MapLine {
     Blank,

@@ -50,6 +50,7 @@ pub struct Recent {
 }
 
 impl Recent {
+    /// Before any look-up: a place that a search would end at too, or none.
     pub fn new() -> Self {
         Recent {
             fetched: Cell::new(0),

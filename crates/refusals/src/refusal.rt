@@ -17,7 +17,7 @@ use sve_asm::AsmFault;
 use sve_debug::session::SessionFault;
 use thiserror::Error;
 
-/// How a command that is done came out. `Stopped` and `Spent` are of runs alone.
+/// How a command that is done came out. `Stopped` and `Spent` are of commands that run a program or a kernel.
 #[derive(Clone, Copy, Debug, PartialEq, Eq)]
 pub enum Done {
     Ended,
@@ -41,6 +41,7 @@ impl Done {
 /// Why a command is refused.
 #[derive(Clone, Copy, Debug, PartialEq, Eq, Error)]
 pub enum Refusal {
+    /// The words are those of no command.
     #[error("usage")]
     Usage,
     /// The kernel is sound, and so many of its values are live at once that there are fewer registers of the class.
@@ -49,6 +50,7 @@ pub enum Refusal {
     /// The text is no kernel, or one that breaks a rule.
     #[error("kernel: {0}")]
     Kernel(KernelFault),
+    /// A file has more than 67,108,864 bytes.
     #[error("file: too long")]
     TooLong,
     /// The file is no program that can be loaded.
@@ -63,10 +65,13 @@ pub enum Refusal {
     /// The text is no script, or the map does not fit beside the file of one of its lines.
     #[error("pipe: {0}")]
     Pipe(PipeFault),
+    /// Memory was short.
     #[error("out of memory")]
     Memory,
+    /// A file could not be read or written.
     #[error("file failed")]
     File,
+    /// The output took no more, or the input of a debugging session gave none.
     #[error("output or input failed")]
     Output,
 }

@@ -19,7 +19,7 @@ word_code (Some i) rest = Put i ∷ rest
 
 -- ---- constants
 
--- the half that most halves of a word are: all ones, where more are so than are zero
+-- 1 where this holds
 abbrev pub one : Bool → ℕ
 one true = 1
 one false = 0
@@ -27,9 +27,11 @@ one false = 0
 abbrev pub count_halves : (x h0 h1 h2 h3 : ℕ) → ℕ
 count_halves x h0 h1 h2 h3 = one (nat_eq h0 x) + one (nat_eq h1 x) + one (nat_eq h2 x) + one (nat_eq h3 x)
 
+-- more halves of a word are all ones than are zero
 abbrev pub has_ones : (h0 h1 h2 h3 : ℕ) → Bool
 has_ones h0 h1 h2 h3 = nat_lt (count_halves 0 h0 h1 h2 h3) (count_halves 65535 h0 h1 h2 h3)
 
+-- the half that most halves are then
 abbrev pub filler : Bool → ℕ
 filler true = 65535
 filler false = 0

@@ -265,7 +265,7 @@ impl ShiftAmount {
         Some(ShiftAmount { value })
     }
 
-    /// A shift to the left, by less bits than an element has.
+    /// A shift to the left, by fewer bits than an element has.
     pub fn left(size: Size, amount: u32) -> Self
         requires { amount < element_width (size_number size) }
         ensures sized { shift_size result.value ≡ size_number size }
