@@ -13,7 +13,7 @@ use guest_types::length::Width;
 use guest_types::memory::{AccessFault, Perm};
 use guest_types::predicate::PReg;
 use guest_types::row::{LoadMode, LoadRow, StoreRow};
-use lane_memory::gather::gather;
+use lane_memory::gather::gather_into;
 use lane_memory::load::load_into;
 use lane_memory::store::store;
 use lane_memory::suppress::Suppress;
@@ -93,7 +93,7 @@ fn gather_row(width: Width) -> LoadRow
 fn gather_by_kernel(pages: &Pages, s: &mut Operands) -> Result<(), AccessFault> {
     let row = gather_row(s.width);
     let base = BASE + (s.total & 1);
-    gather(pages, row, base, &s.offsets, s.vl, &s.mask, &mut s.out)
+    gather_into(pages, row, base, &s.offsets, s.vl, &s.mask, &mut s.out)
 }
 
 /// One access by its kernel.

@@ -157,13 +157,13 @@ fn reading_of(row: LoadRow, base: u64) -> Reading
     }
 }
 
-/// Loads the active elements of a register, each from `base` and the element of `offsets` in its place, modulo 2^64.
+/// Loads the active elements of `out`, each from `base` and the element of `offsets` in its place, modulo 2^64.
 /// Elements past the vector length, and those that are not active, become 0.
 ///
 /// # Errors
 /// The fault of the first active element that faults. Nothing is said of `out` then.
 #[inline(always)]
-pub fn gather(
+pub fn gather_into(
     pages: &Pages,
     row: LoadRow,
     base: u64,
@@ -182,4 +182,30 @@ pub fn gather(
     let reading = reading_of(row, base);
     let lanes = vl.lanes(Width::D) as usize;
     gathered_by_size(pages, reading, offsets, pg, lanes, out)
+}
+
+/// The same into a register of its own.
+///
+/// # Errors
+/// The fault of the first active element that faults.
+pub fn gather(
+    pages: &Pages,
+    row: LoadRow,
+    base: u64,
+    offsets: &ZReg,
+    vl: Vl,
+    pg: &PReg,
+) -> Result<ZReg, AccessFault>
+    requires wide { (load_form row.dtype).element ≡ D }
+    ensures done { (stops : StopList) → (ffr : List ℕ) → IfOk result (λ z.
+        gather_of row.dtype base vl pages.now.memory stops offsets.now.bytes pg.now.bits ffr
+        ≡ Ok (record { z = z.bytes; ffr = ffr; stops = stops })) }
+    ensures refused { (stops : StopList) → (ffr : List ℕ) → IfErr result (λ fault.
+        gather_of row.dtype base vl pages.now.memory stops offsets.now.bytes pg.now.bits ffr ≡ Err fault) }
+{
+    let mut out = ZReg::zero();
+    match gather_into(pages, row, base, offsets, vl, pg, &mut out) {
+        Ok(()) => Ok(out),
+        Err(fault) => Err(fault),
+    }
 }

@@ -174,9 +174,8 @@ fn gathered(pages: &Pages, from: Gather, e: usize) -> Option<Result<u64, u64>> {
         return None;
     }
     let row = LoadRow { dtype: 12 };
-    let mut z = ZReg { bytes: [255; 256] };
-    match gather(pages, row, base, &offsets, vl, &pg, &mut z) {
-        Ok(()) => Some(Ok(z.element(Width::D, e))),
+    match gather(pages, row, base, &offsets, vl, &pg) {
+        Ok(z) => Some(Ok(z.element(Width::D, e))),
         Err(fault) => Some(Err(fault.address)),
     }
 }

@@ -12,7 +12,7 @@ use guest_types::predicate::PReg;
 use guest_types::register::ZReg;
 use guest_types::row::{LoadMode, LoadRow, StoreRow};
 use lane_arith::bank::{binary_in, merge_in, merge_one_in, select_in, shift_in};
-use lane_memory::gather::gather;
+use lane_memory::gather::gather_into;
 use lane_memory::load::load_into;
 use lane_memory::suppress::Suppress;
 use lane_preds::test::is_all_true;
@@ -286,7 +286,7 @@ impl Vectors {
         let _ffr = self.ffr();
         let offsets = self.z(zm);
         let mask = self.p(pg);
-        gather(pages, row, base, offsets, self.vl(), mask, out)
+        gather_into(pages, row, base, offsets, self.vl(), mask, out)
     }
 
     /// Loads a vector register under a predicate register, from a base and the offsets in another vector register.

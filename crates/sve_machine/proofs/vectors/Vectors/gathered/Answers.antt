@@ -19,24 +19,24 @@ at_registers dtype base memory r zm g vl offsets pg v o p =
 pub returns-clause-done : goal.returns-clause-done
 returns-clause-done c =
     let r = c.args.self.now in
-    let left : LoadLeft = record { z = c.gather.new.out.bytes; ffr = r.ffr; stops = r.stops } in
-    subst (λ o. OnOk c.gather.result (o ≡ Ok left))
+    let left : LoadLeft = record { z = c.gather_into.new.out.bytes; ffr = r.ffr; stops = r.stops } in
+    subst (λ o. OnOk c.gather_into.result (o ≡ Ok left))
     (at_registers c.args.row.dtype c.args.base c.args.pages.now.memory r c.args.zm c.args.pg c.vl.result c.z-offsets.result.now.bytes c.p-mask.result.now.bits c.vl.ensures.value c.z-offsets.ensures.value c.p-mask.ensures.value)
-    (c.gather.ensures.done r.stops r.ffr)
+    (c.gather_into.ensures.done r.stops r.ffr)
 
 pub returns-clause-refused : goal.returns-clause-refused
 returns-clause-refused c =
     let r = c.args.self.now in
-    subst (λ o. IfErr c.gather.result (λ fault. o ≡ Err fault))
+    subst (λ o. IfErr c.gather_into.result (λ fault. o ≡ Err fault))
     (at_registers c.args.row.dtype c.args.base c.args.pages.now.memory r c.args.zm c.args.pg c.vl.result c.z-offsets.result.now.bytes c.p-mask.result.now.bits c.vl.ensures.value c.z-offsets.ensures.value c.p-mask.ensures.value)
-    (c.gather.ensures.refused r.stops r.ffr)
+    (c.gather_into.ensures.refused r.stops r.ffr)
 
 pub returns-clause-shape : goal.returns-clause-shape
 returns-clause-shape c =
     let r = c.args.self.now in
-    let left : LoadLeft = record { z = c.gather.new.out.bytes; ffr = r.ffr; stops = r.stops } in
-    IfOk-weaker c.gather.result
+    let left : LoadLeft = record { z = c.gather_into.new.out.bytes; ffr = r.ffr; stops = r.stops } in
+    IfOk-weaker c.gather_into.result
     (λ _. gather_of c.args.row.dtype c.args.base r.vl c.args.pages.now.memory r.stops (z_of r c.args.zm) (p_of r c.args.pg) r.ffr ≡ Ok left)
-    (λ _. IsVector r.vl c.gather.new.out.bytes)
+    (λ _. IsVector r.vl c.gather_into.new.out.bytes)
     (λ _ e. (gather_shape c.args.row.dtype c.args.base r.vl c.args.pages.now.memory r.stops (z_of r c.args.zm) (p_of r c.args.pg) r.ffr left c.ffr-ffr.ensures.sized (subst (IsPredicate r.vl) c.ffr-ffr.ensures.value c.ffr-ffr.ensures.shape) e).z)
     (returns-clause-done c)

@@ -7,7 +7,7 @@ use Rattle.guest_types.specs.LaneMemory.{fault_at}
 use Rattle.lane_memory.specs.Readings.{form_of}
 use Rattle.lane_memory.specs.Gathers.{gather_of, gather_place, gather_refused, gathered_of}
 use Rattle.lane_memory.proofs.GatherLaws.{gather-done, gather-refused, ok_both}
-use Rattle.lane_memory.proofs.gather.gather.Goals as goal
+use Rattle.lane_memory.proofs.gather.gather_into.Goals as goal
 
 pub returns-clause-done : goal.returns-clause-done
 returns-clause-done c stops ffr =
