@@ -3,16 +3,9 @@
 ghost use Rattle.std.specs.Prelude.{◌≡◌, ◌+◌, ◌*◌, ◌<◌, ◌≤◌, ◌&&◌, length, IfOk, IfErr, Err};
 ghost use Rattle.machine_model.specs.Load.{load, load_segments, segments_from, has_ident};
 
+use crate::constants::{EM_AARCH64, ET_EXEC, HEADER_SIZE, PROGRAM_HEADER_SIZE};
 use crate::fields::{read_u16, read_u64};
 use machine_model::elf_fault::ElfFault;
-
-const HEADER_SIZE: usize = 64;
-
-const PROGRAM_HEADER_SIZE: u16 = 56;
-
-const EM_AARCH64: u16 = 183;
-
-const ET_EXEC: u16 = 2;
 
 // What is read of the header: the entry, and the offset and number of the program headers.
 #[derive(Clone, Copy)]
@@ -45,9 +38,9 @@ impl FileHeader {
         ensures refusal { IfErr result (λ fault. load bytes.now ≡ Err fault) }
     {
         let have = bytes.len();
-        if have < HEADER_SIZE {
+        if have < usize::from(HEADER_SIZE) {
             return Err(ElfFault::Short {
-                need: HEADER_SIZE as u128,
+                need: u128::from(HEADER_SIZE),
                 have: have as u64,
             });
         }

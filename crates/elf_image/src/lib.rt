@@ -1,6 +1,7 @@
 //! The ELF64 files of programs for the guest machine: writing the file of some words, and loading a file as an image.
 #![tactic(auto)]
 
+mod constants;
 mod fields;
 mod header;
 pub mod laws;

@@ -5,12 +5,10 @@ ghost use Rattle.std.specs.List.{range_with_len};
 ghost use Rattle.machine_model.specs.Load.{segment_byte, page_bytes, pages_of};
 ghost use Rattle.elf_image.specs.Loadable.{IsLoadable, AllLoadable};
 
+use crate::constants::PAGE;
 use crate::program_header::ProgramHeader;
 use guest_types::memory::{PageBytes, PageNo, PageSpec};
 use std::alloc::{AllocError, Global};
-
-// The size of a page, in bytes.
-const PAGE: u64 = 4096;
 
 // Appends zeros until a page has this many bytes.
 fn put_zeros(page: &mut Vec<u8>, size: usize) -> Result<(), AllocError>

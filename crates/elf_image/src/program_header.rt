@@ -4,16 +4,10 @@ ghost use Rattle.std.specs.Prelude.{◌≡◌, ◌+◌, ◌-◌, ◌^◌, ◌<�
 ghost use Rattle.machine_model.specs.Load.{Segment, segment_at, has_flag, is_loaded, is_dynamic, is_bad, first_page, page_count, perm_of, holds_entry};
 ghost use Rattle.elf_image.specs.Loadable.{IsLoadable};
 
+use crate::constants::{PAGE, PT_DYNAMIC, PT_INTERP, PT_LOAD};
 use crate::fields::{read_u32, read_u64};
 use guest_types::memory::Perm;
 use std::marker::Model;
-
-// p_type of a segment that is loaded, of dynamic linking information, and of the path of an interpreter.
-const PT_LOAD: u32 = 1;
-
-const PT_DYNAMIC: u32 = 2;
-
-const PT_INTERP: u32 = 3;
 
 // The bits of p_flags.
 const EXECUTE_BIT: u32 = 0;
@@ -22,9 +16,7 @@ const WRITE_BIT: u32 = 1;
 
 const READ_BIT: u32 = 2;
 
-// The size of a page, in bytes, and the end of the addresses that a segment may have.
-const PAGE: u64 = 4096;
-
+// The end of the addresses that a segment may have.
 const SPACE: u128 = 1 << 48;
 
 // A program header: p_type, p_flags, p_offset, p_vaddr, p_filesz and p_memsz.

@@ -4,31 +4,17 @@ ghost use Rattle.std.specs.Prelude.{◌≡◌, ℕ, ◌+◌, ◌*◌, ◌≤◌,
 ghost use Rattle.machine_model.specs.Load.{load};
 ghost use Rattle.machine_model.specs.Written.{file_of, image_of_words, word_bytes};
 
+use crate::constants::{
+    EM_AARCH64, ET_EXEC, EV_CURRENT, HEADER_SIZE, PROGRAM_HEADER_SIZE, PT_LOAD,
+};
 use crate::fields::{put_u16, put_u32, put_u64};
 use std::alloc::{AllocError, Global};
 
 // e_ident: the magic number, the class of 64 bits, little-endian data, the version, and padding.
 const IDENT: [u8; 16] = [0x7f, 0x45, 0x4c, 0x46, 2, 1, 1, 0, 0, 0, 0, 0, 0, 0, 0, 0];
 
-// e_type of an executable file.
-const ET_EXEC: u16 = 2;
-
-// e_machine of AArch64.
-const EM_AARCH64: u16 = 183;
-
-// e_version.
-const EV_CURRENT: u32 = 1;
-
-// p_type of a segment that is loaded.
-const PT_LOAD: u32 = 1;
-
 // p_flags of a segment that is read and executed.
 const READ_EXECUTE: u32 = 5;
-
-// The sizes of the file header and of a program header, in bytes.
-const HEADER_SIZE: u16 = 64;
-
-const PROGRAM_HEADER_SIZE: u16 = 56;
 
 // The address at which the file stands in memory, and that of its first word.
 const BASE: u64 = 0x400000;
