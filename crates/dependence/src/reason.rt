@@ -11,7 +11,7 @@ pub enum Why {
     MixedUpdate,
     /// A store or an update stands before a `break`.
     BeforeBreak,
-    /// An element is read by a computed index.
+    /// An element is read by a computed index where that is no gather.
     ComputedIndex,
     /// An iteration reads or writes what an iteration near it writes.
     Carried,

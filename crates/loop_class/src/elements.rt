@@ -132,12 +132,7 @@ pub fn reads_computed(kernel: &Checked, entries: &[Entry<'_>]) -> bool
 fn most_lanes(width: Width) -> i64
     ensures { result ≡ pos (2048 / width_bits width) }
 {
-    match width {
-        Width::B => 256,
-        Width::H => 128,
-        Width::S => 64,
-        Width::D => 32,
-    }
+    width.all_lanes() as i64
 }
 
 // Whether two accesses are of one parameter, and at least one of them a store.
