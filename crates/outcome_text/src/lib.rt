@@ -1,11 +1,12 @@
 //! The text of a run's outcome.
 #![tactic(auto)]
 
-ghost use Rattle.std.specs.Prelude.{◌≡◌, ◌<◌, ◌≤◌, ◌++◌, ◌∷◌, [], codes, decimal, OnOk, IfOk};
+ghost use Rattle.std.specs.Prelude.{◌≡◌, ◌++◌, codes, decimal, OnOk, IfOk};
 ghost use Rattle.machine_model.specs.OutcomeText.{kind_text, line_feed, steps_text};
-ghost use Rattle.number_text.specs.Hexadecimal.{hex_digit, hex_digits, hex_text};
+ghost use Rattle.number_text.specs.Hexadecimal.{hex_text};
 ghost use Rattle.outcome_text.specs.View.{text_of};
 
+use dump_text::address_digits;
 use itoa::Buffer;
 use machine_model::outcome::{Outcome, StopKind};
 use std::alloc::{AllocError, Global};
@@ -59,26 +60,7 @@ fn push_address(text: &mut Vec<u8>, value: u64) -> Result<(), AllocError>
     ensures { OnOk result (text.new.items ≡ text.old.items ++ hex_text value) }
 {
     text.extend_from_slice(b"0x")?;
-    push_hex(text, 16, value)
-}
-
-// The last digits of a number in hexadecimal, so many of them.
-fn push_hex(text: &mut Vec<u8>, digits: u32, value: u64) -> Result<(), AllocError>
-    ensures { OnOk result (text.new.items ≡ text.old.items ++ hex_digits digits value) }
-{
-    if digits == 0 {
-        return Ok(());
-    }
-    push_hex(text, digits - 1, value / 16)?;
-    text.push(hex_digit((value % 16) as u8))?;
-    Ok(())
-}
-
-fn hex_digit(digit: u8) -> u8
-    requires { digit < 16 }
-    ensures { result ≡ hex_digit digit }
-{
-    if digit < 10 { 48 + digit } else { 87 + digit }
+    text.extend_from_slice(&address_digits(value))
 }
 
 /// The name of what stopped a run.
