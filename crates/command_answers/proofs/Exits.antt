@@ -7,7 +7,7 @@ use Rattle.io_edges.specs.Sink.{PutsText, HasCause}
 use Rattle.refusals.specs.declared.refusal.Refusal.{Refusal}
 use Rattle.refusals.specs.declared.refusal.Refusal.TheVariants.{TooLong, Memory, File, Output}
 use Rattle.refusals.specs.declared.refusal.Done.{Done}
-use Rattle.command_answers.specs.Answer.{HeldFiles, Expected, Answer, expected_text, IsAnswer, IsQuiet}
+use Rattle.command_answers.specs.Answer.{HeldFiles, Success, Expected, Answer, answer_of, expected_text, IsDone, IsAnswer, IsQuiet}
 use Rattle.command_answers.specs.Outputs.{Prints}
 use Rattle.command_answers.specs.Reads.{IsOfRead}
 use Rattle.command_answers.proofs.Prints.{prints_nothing, prints_part, prints_all}
@@ -49,8 +49,13 @@ untold (Some h) wanted printed refusal result is =
 rose_of : (a b : ℕ) (put : Result (Unit {0}) Failed) (failed : Failed) → put ≡ Err failed → HasCause a b put → Rose a b
 rose_of a b put failed was cause = subst (λ r. OnErr r (Rose a b)) was cause.failed
 
-pub cut_answer : (x y a b : ℕ) (wanted : Answer) (put : Result (Unit {0}) Failed) (failed : Failed) (result : Answer) → put ≡ Err failed → HasCause a b put → IsErrAnd result (λ r. r ≡ Output) → IsAnswer x y (Rose a b) wanted result
-cut_answer x y a b wanted put failed result was cause is = inr (is_err Output result is, rose_of a b put failed was cause)
+-- a command of which some success is wanted is done
+pub is_done_by : {success : Success} (wanted : Expected) → wanted ≡ Ok success → IsDone (answer_of wanted)
+is_done_by wanted e = subst (λ w. IsDone (answer_of w)) (sym e) tt
+
+pub cut_answer : {success : Success} (x y a b : ℕ) (wanted : Expected) (put : Result (Unit {0}) Failed) (failed : Failed) (result : Answer) → wanted ≡ Ok success → put ≡ Err failed → HasCause a b put → IsErrAnd result (λ r. r ≡ Output) → IsAnswer x y (Rose a b) (answer_of wanted) result
+cut_answer x y a b wanted put failed result done was cause is =
+    inr (is_err Output result is, rose_of a b put failed was cause, is_done_by wanted done)
 
 pub cut_output : (a b : ℕ) (put : Result (Unit {0}) Failed) (failed : Failed) (result : Answer) → put ≡ Err failed → HasCause a b put → result ≡ Err Output → Rose a b
 cut_output a b put failed result was cause e = rose_of a b put failed was cause

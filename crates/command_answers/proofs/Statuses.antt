@@ -19,7 +19,7 @@ pub status_is : (x y s : ℕ) (rose : Type 0) (wanted result : Answer) → s ≡
 status_is x y s rose wanted result is h =
     ⊎_elim
     (⊎_elim (λ e. inl (is ∙ ap status_of e)) (⊎_elim (λ e. inr (inl (is ∙ ap status_of e))) (λ p. inr (inr (inl (is ∙ ap status_of p.0, p.1))))))
-    (λ p. inr (inr (inr (is ∙ ap status_of p.0, p.1))))
+    (λ p. inr (inr (inr (is ∙ ap status_of p.0, p.1, p.2))))
     h
 
 not_done : (refusal : Refusal) → IsTrue (is_done (status_of_refusal refusal)) → ⊥

@@ -41,14 +41,20 @@ status_of (Err refusal) = status_of_refusal refusal
 abbrev pub IsFileAnswer : {T : Type 0} → (before now : ℕ) (wanted result : Result T Refusal) → Type 0
 IsFileAnswer before now wanted result = (result ≡ wanted) ⊎ ((result ≡ Err Memory) ⊎ ((result ≡ Err File) × Rose before now))
 
--- the same, or a failure of an output or an input, whose count of faults then rose
+-- a command that is done, and not one that is refused
+abbrev pub IsDone : Answer → Type 0
+IsDone (Ok how) = Unit {0}
+IsDone (Err refusal) = ⊥
+
+-- The same, or a failure of an output or an input, whose count of faults then rose. That comes only in place of a command that is done:
+-- one that is to be refused puts nothing on an output, and reads no input.
 abbrev pub IsAnswer : (before now : ℕ) (rose : Type 0) (wanted result : Answer) → Type 0
-IsAnswer before now rose wanted result = IsFileAnswer before now wanted result ⊎ ((result ≡ Err Output) × rose)
+IsAnswer before now rose wanted result = IsFileAnswer before now wanted result ⊎ ((result ≡ Err Output) × rose × IsDone wanted)
 
 -- the same of the status
 abbrev pub IsStatus : (before now : ℕ) (rose : Type 0) (wanted : Answer) (result : ℕ) → Type 0
 IsStatus before now rose wanted result =
-    (result ≡ status_of wanted) ⊎ ((result ≡ 7) ⊎ (((result ≡ 8) × Rose before now) ⊎ ((result ≡ 9) × rose)))
+    (result ≡ status_of wanted) ⊎ ((result ≡ 7) ⊎ (((result ≡ 8) × Rose before now) ⊎ ((result ≡ 9) × rose × IsDone wanted)))
 
 -- an answer before the first write of a file, unless memory was short
 abbrev pub IsKept : Answer → Type 0

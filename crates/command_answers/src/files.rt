@@ -28,8 +28,8 @@ pub fn read_file<F: Files>(alloc: Global, name: &str, files: &mut F) -> Result<V
     Ok(bytes)
 }
 
-/// Reads the file of a page map, where one is named.
-pub fn read_map_file<F: Files>(
+// Reads the file of a page map, where one is named.
+fn read_map_file<F: Files>(
     alloc: Global,
     name: &Option<String>,
     files: &mut F,

@@ -60,8 +60,7 @@ fn compile_text(alloc: Global, text: &[u8]) -> Result<Vec<u8>, Refusal>
     ensures refusal { IfErr result (λ refusal. RefusesText (CompileExpects text.now) refusal) }
 {
     let kernel = accept(alloc, text)?;
-    let file = executable(alloc, &kernel)?;
-    Ok(file)
+    executable(alloc, &kernel)
 }
 
 /// Compiles the kernel under one name to an executable under another.

@@ -1,14 +1,15 @@
 -- What is wanted of a command that reads the text of a kernel.
 use Rattle.std.proofs.Common.{◌≡◌, ℕ, List, Option, Some, None, Result, Ok, Err, inl, inr, refl, sym, subst}
-use Rattle.std.specs.Prelude.{IfSome, IfErr, IsErrAnd}
+use Rattle.std.specs.Prelude.{IfSome, IfOk, IfErr, IsErrAnd}
 use Rattle.command_line.specs.Line.{Task}
 use Rattle.kernel_tree.specs.Plain.{Program}
 use Rattle.kernel_front.specs.Verdict.{Sound, IsVerdict}
 use Rattle.refusals.specs.declared.refusal.Refusal.{Refusal}
 use Rattle.refusals.specs.declared.refusal.Refusal.TheVariants.{TooManyLive, Kernel, Elf, Map, Memory}
+use Rattle.command_answers.specs.declared.run_report.RunReport.{RunReport}
 use Rattle.command_answers.specs.Answer.{HeldFiles, Expected, Answer, answer_of, IsFileAnswer}
 use Rattle.command_answers.specs.Reads.{file_of, task_files, AfterRead}
-use Rattle.command_answers.specs.Works.{WhereExpected, RefusesProgram}
+use Rattle.command_answers.specs.Works.{WhereExpected, run_report, RefusesProgram}
 use Rattle.command_answers.proofs.Reading.{read_is, is_err}
 use Rattle.kernel_commands.specs.Kernels.{ByVerdict}
 use Rattle.kernel_commands.specs.Commands.{RefusesText, RefusesEval, IsOfEval}
@@ -35,9 +36,14 @@ text_refused x y z (Some held) from bytes next found refusal result is err read 
 
 -- ---- eval
 
-pub eval_refusal : {T : Type 0} (sound : Program → Expected) (text : List ℕ) (k : Program) (refusal : Refusal) (result : Result T Refusal) → IsVerdict text (Sound k) → IsErrAnd result (λ r. r ≡ refusal) → RefusesProgram (sound k) refusal → IsOfEval (Err refusal) → IfErr result (λ r. RefusesEval (ByVerdict sound text) r)
-eval_refusal sound text k refusal (Ok x) v is h of = tt
-eval_refusal sound text k refusal (Err r) v is h of = subst (RefusesEval (ByVerdict sound text)) (sym is) (by refusal h of)
+-- what was evaluated is wanted of the text
+pub eval_work : (sound : Program → Expected) (text : List ℕ) (k : Program) (result : Result RunReport Refusal) → IsVerdict text (Sound k) → IfOk result (λ p. sound k ≡ run_report p) → IfOk result (λ p. ByVerdict sound text (run_report p))
+eval_work sound text k (Err r) v h = tt
+eval_work sound text k (Ok p) v h = subst (ByVerdict sound text) h (sound_text sound text k v)
+
+pub eval_refusal : {T : Type 0} (sound : Program → Expected) (text : List ℕ) (k : Program) (result : Result T Refusal) → IsVerdict text (Sound k) → IfErr result (λ r. RefusesProgram (sound k) r) → IfErr result (λ r. IsOfEval (Err r)) → IfErr result (λ r. RefusesEval (ByVerdict sound text) r)
+eval_refusal sound text k (Ok x) v h of = tt
+eval_refusal sound text k (Err r) v h of = by r h of
   where
     by : (refusal : Refusal) → RefusesProgram (sound k) refusal → IsOfEval (Err refusal) → RefusesEval (ByVerdict sound text) refusal
     by Memory h of = tt

@@ -26,7 +26,7 @@ fn check_kernel(alloc: Global, text: &[u8]) -> Result<Vec<u8>, Refusal>
     Ok(report)
 }
 
-/// Puts the size, the class and the needs of the kernel in a file on the output.
+/// Puts the canonical text of the kernel in a file on the output, and then its size, its class and its needs, a line each.
 pub fn check<F: Files, S: Sink>(
     alloc: Global,
     from: &str,

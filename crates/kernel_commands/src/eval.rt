@@ -65,12 +65,11 @@ fn evaluate_text(alloc: Global, task: &Task, text: &[u8], map: &[u8]) -> Result<
     ensures of_eval { IfErr result (λ refusal. IsOfEval (Err refusal)) }
 {
     let kernel = accept(alloc, text)?;
-    let run_report = evaluate(alloc, task, &kernel, map)?;
-    Ok(run_report)
+    evaluate(alloc, task, &kernel, map)
 }
 
 /// Evaluates the kernel in a file over the pages of a map alone, and puts how that came out on the output, with the dump that is
-/// asked for after it. The most steps are iterations.
+/// asked for after it. At most `task.steps` iterations are begun.
 pub fn eval<F: Files, S: Sink>(
     alloc: Global,
     task: &Task,

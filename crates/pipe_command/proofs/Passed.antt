@@ -5,10 +5,16 @@ use Rattle.std.specs.List.{AllByRecursion}
 use Rattle.std.proofs.lemmas.Result.{IfOk-from_err}
 use Rattle.guest_types.specs.Memory.{Memory as Pages}
 use Rattle.refusals.specs.declared.refusal.Refusal.{Refusal}
-use Rattle.refusals.specs.declared.refusal.Refusal.TheVariants.{Memory, File, TooLong, Elf, Map, Pipe}
-use Rattle.command_answers.specs.Answer.{HeldFiles, Expected, Answer, answer_of, IsFileAnswer, IsAnswer}
-use Rattle.command_answers.specs.Reads.{and_then, IsOfRead}
+use Rattle.refusals.specs.declared.refusal.Refusal.TheVariants.{Memory, File, TooLong, Elf, Map, Pipe, Output}
+use Rattle.io_edges.specs.Files.{Rose}
+use Rattle.io_edges.specs.declared.sink.Failed.{Failed}
+use Rattle.io_edges.specs.Sink.{HasCause}
+use Rattle.command_line.specs.Line.{Task}
+use Rattle.command_answers.specs.Answer.{HeldFiles, Success, Expected, Answer, answer_of, IsFileAnswer, IsAnswer}
+use Rattle.command_answers.specs.Reads.{and_then, task_files, IsOfRead}
 use Rattle.command_answers.proofs.Reading.{read_is, not_read}
+use Rattle.command_answers.proofs.Exits.{cut_answer}
+use Rattle.pipe_command.specs.Pipes.{pipe_files, expected_of_pipe}
 use Rattle.pipe_command.specs.declared.loaded.LoadedLine.{LoadedLine}
 use Rattle.pipe_command.specs.View.{line_view, lines_view, Refuses, IsOfContent, IsOfFiles, IsFitting}
 use Rattle.pipe_command.proofs.Causes.{not_file_either, whatever_held}
@@ -77,6 +83,24 @@ pub after_read : {T U : Type 0} (x y : ℕ) (held : Option HeldFiles) (wanted : 
 after_read x y None wanted read found next result is answer p = tt
 after_read x y (Some h) wanted read found next result is answer p =
     subst (λ r. IsFileAnswer x y (and_then r next) result) (read_is x y (wanted h) read (subst (IsFileAnswer x y (wanted h)) is answer)) p
+
+-- ---- the output failed after the lines had run
+
+files_ran : (x y z : ℕ) (held : HeldFiles) (vl : ℕ) (task : Task) (read : List ℕ × List ℕ) (success : Success) → IsFileAnswer x y (task_files held task) (Ok read) → IsFileAnswer y z (pipe_files held vl task read.0 read.1) (Ok success) → expected_of_pipe held vl task ≡ Ok success
+files_ran x y z held vl task read success found ran =
+    ap (λ r. and_then r (λ files. pipe_files held vl task files.0 files.1)) (sym (read_is x y (task_files held task) read found))
+    ∙ sym (read_is y z (pipe_files held vl task read.0 read.1) success ran)
+
+pub cut_pipe : (x y z a b : ℕ) (old held : Option HeldFiles) (vl : ℕ) (task : Task) (read : List ℕ × List ℕ) (found : Result (List ℕ × List ℕ) Refusal) (success : Success) (ran : Expected) (put : Result (Unit {0}) Failed) (failed : Failed) (result : Answer) → found ≡ Ok read → ran ≡ Ok success → held ≡ old → IfSome old (λ h. IsFileAnswer x y (task_files h task) found) → IfSome held (λ h. IsFileAnswer y z (pipe_files h vl task read.0 read.1) ran)
+    → put ≡ Err failed → HasCause a b put → IsErrAnd result (λ r. r ≡ Output) → IfSome old (λ h. IsAnswer x z (Rose a b) (answer_of (expected_of_pipe h vl task)) result)
+cut_pipe x y z a b old held vl task read found success ran put failed result is also same answer then was cause err =
+    by old answer (subst (λ m. IfSome m (λ h. IsFileAnswer y z (pipe_files h vl task read.0 read.1) ran)) same then)
+  where
+    by : (o : Option HeldFiles) → IfSome o (λ h. IsFileAnswer x y (task_files h task) found) → IfSome o (λ h. IsFileAnswer y z (pipe_files h vl task read.0 read.1) ran) → IfSome o (λ h. IsAnswer x z (Rose a b) (answer_of (expected_of_pipe h vl task)) result)
+    by None answer then = tt
+    by (Some h) answer then =
+        let done = files_ran x y z h vl task read success (subst (IsFileAnswer x y (task_files h task)) is answer) (subst (IsFileAnswer y z (pipe_files h vl task read.0 read.1)) also then) in
+        cut_answer x z a b (expected_of_pipe h vl task) put failed result done was cause err
 
 -- ---- one line more that the map fits beside
 

@@ -14,7 +14,7 @@ use Rattle.sve_debug.specs.Sessions.{Tells, AsItCame}
 use Rattle.refusals.specs.declared.refusal.Refusal.{Refusal}
 use Rattle.refusals.specs.declared.refusal.Refusal.TheVariants.{Elf, Map, Memory, File, Output}
 use Rattle.refusals.specs.declared.refusal.Done.TheVariants as done
-use Rattle.command_answers.specs.Answer.{HeldFiles, Expected, Answer, answer_of, expected_text, IsFileAnswer, IsAnswer, IsQuiet}
+use Rattle.command_answers.specs.Answer.{HeldFiles, Success, Expected, Answer, answer_of, expected_text, IsFileAnswer, IsAnswer, IsQuiet}
 use Rattle.refusals.specs.Statuses.{of_session}
 use Rattle.command_answers.specs.Reads.{and_then, task_files, IsOfRead}
 use Rattle.program_commands.specs.Commands.{expected_of_debug, IsOfDebug, IsOfRun}
@@ -23,6 +23,7 @@ use Rattle.command_answers.specs.Outputs.{Prints}
 use Rattle.program_commands.specs.Ready.{AnswersAsItCame, DebugsAsItCame}
 use Rattle.command_answers.proofs.Reading.{read_is, of_what_follows, is_err, not_read}
 use Rattle.command_answers.proofs.Prints.{prints_nothing}
+use Rattle.command_answers.proofs.Exits.{is_done_by}
 
 -- what holds of all inputs and files
 pub whatever : (left : Option (List ℕ)) (held : Option HeldFiles) (P : List ℕ → HeldFiles → Type 0) → ((input : List ℕ) (h : HeldFiles) → P input h) → IfSome left (λ input. IfSome held (λ h. P input h))
@@ -101,10 +102,10 @@ steady_anyway (Some held) Q result h = λ q. h
 -- ---- sessions
 
 -- a session that failed: memory was short, or the count of the output or the input rose
-pub failed_session : (x y a b i j : ℕ) (wanted : Answer) (fault : SessionFault) (result : Answer) → IsErrAnd result (λ r. r ≡ of_session fault) → (fault ≡ sessions.Input → Rose i j) → (fault ≡ sessions.Output → Rose a b) → IsAnswer x y (Rose a b ⊎ Rose i j) wanted result
-failed_session x y a b i j wanted sessions.Memory result is input output = inl (inr (inl (is_err Memory result is)))
-failed_session x y a b i j wanted sessions.Input result is input output = inr (is_err Output result is, inr (input refl))
-failed_session x y a b i j wanted sessions.Output result is input output = inr (is_err Output result is, inl (output refl))
+pub failed_session : {success : Success} (x y a b i j : ℕ) (wanted : Expected) (fault : SessionFault) (result : Answer) → wanted ≡ Ok success → IsErrAnd result (λ r. r ≡ of_session fault) → (fault ≡ sessions.Input → Rose i j) → (fault ≡ sessions.Output → Rose a b) → IsAnswer x y (Rose a b ⊎ Rose i j) (answer_of wanted) result
+failed_session x y a b i j wanted sessions.Memory result done is input output = inl (inr (inl (is_err Memory result is)))
+failed_session x y a b i j wanted sessions.Input result done is input output = inr (is_err Output result is, inr (input refl), is_done_by wanted done)
+failed_session x y a b i j wanted sessions.Output result done is input output = inr (is_err Output result is, inl (output refl), is_done_by wanted done)
 
 pub session_output : (a b i j : ℕ) (fault : SessionFault) (result : Answer) → IsErrAnd result (λ r. r ≡ of_session fault) → (fault ≡ sessions.Input → Rose i j) → (fault ≡ sessions.Output → Rose a b) → result ≡ Err Output → Rose a b ⊎ Rose i j
 session_output a b i j sessions.Memory result is input output e = absurd (differ (sym (is_err Memory result is) ∙ e))

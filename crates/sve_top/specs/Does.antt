@@ -31,8 +31,9 @@ outside held file_faults printed output_faults errors error_faults input_faults 
 abbrev pub StreamsRose : Option Line → (before after : Outside) → Type 0
 StreamsRose line before after = StreamRose line before.output_faults after.output_faults before.input_faults after.input_faults
 
--- The status is that of the work, unless memory was short or a count of failures rose; the output gains the work's text, and the error
--- output the line of its refusal; and a work that is a refusal changes no file, whatever the status.
+-- The status is that of the work, unless memory was short or a count of failures rose: that of the files in place of any work, that of
+-- the output or the input only in place of one that is done. The output gains the work's text, and the error output the line of its
+-- refusal; and a work that is a refusal changes no file, whatever the status.
 pub record Does (line : Option Line) (work : Expected) (before after : Outside) (result : ℕ) : Type 0 where
   pub status : IsStatus before.file_faults after.file_faults (StreamsRose line before after) (answer_of work) result
   pub prints : PrintsBy before.printed after.printed (expected_text work) result

@@ -35,8 +35,8 @@ use sweep_command::sweep::sweep;
 /// Does the command that the words spell, and answers its status. The words are those after the program's name.
 ///
 /// 0 done; 2 the words are no command; 3 the kernel is refused; 4 a file is refused; 5 the program stopped; 6 its steps are
-/// spent; 7 memory is short; 8 a file failed; 9 the output failed, or for `debug` the input. Every command but `compile` puts its
-/// text on `out`. At every status but 0, 5 and 6 one line on `err` tells the cause; a failure of `err` changes no status.
+/// spent; 7 memory is short; 8 a file failed; 9 the output failed, or for `debug` the input. Every command but `compile` and `asm`
+/// puts its text on `out`. At every status but 0, 5 and 6 one line on `err` tells the cause; a failure of `err` changes no status.
 ///
 /// Where the files tell what they hold, `does` says what status, text and line come of the words and the files (and for `debug` of
 /// the bytes of the input), and `complete` that nothing else comes where nothing fails, but for want of memory; `sweep` has `swept` in
@@ -141,8 +141,7 @@ fn do_words<F: Files, I: Source, S: Sink>(
     let Some(command) = read_line(alloc, words)? else {
         return Err(Refusal::Usage);
     };
-    let done = do_command(alloc, &command, files, input, out)?;
-    Ok(done)
+    do_command(alloc, &command, files, input, out)
 }
 
 // Does a command.

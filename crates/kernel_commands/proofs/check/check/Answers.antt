@@ -2,16 +2,16 @@ use Rattle.std.proofs.Common.{◌≡◌, ◌++◌, Some, Ok, refl, ap, sym, ◌�
 use Rattle.std.specs.Prelude.{IfSome, IsSome}
 use Rattle.refusals.specs.declared.refusal.Done.TheVariants as done
 use Rattle.refusals.specs.declared.refusal.Refusal.TheVariants.{File, Output}
-use Rattle.command_answers.specs.Answer.{expected_text}
+use Rattle.command_answers.specs.Answer.{answer_of, expected_text, IsAnswer}
 use Rattle.command_answers.specs.Reads.{AfterRead, file_of, bytes_in}
 use Rattle.kernel_commands.specs.Commands.{CheckExpects, IsOfCheck}
 use Rattle.command_answers.specs.Works.{ended}
-use Rattle.io_edges.specs.Files.{content}
+use Rattle.io_edges.specs.Files.{Rose, content}
 use Rattle.io_edges.specs.Sink.{GainsPart}
 use Rattle.command_answers.specs.Outputs.{Prints}
 use Rattle.command_answers.proofs.Prints.{prints_nothing, prints_part, prints_all}
 use Rattle.command_answers.proofs.Reading.{of_read, of_every, with_output, is_err}
-use Rattle.command_answers.proofs.Exits.{passed_on, steady_read, of_reading, cut_loud, cut_not_file, cut_output, of_refusal, not_refused}
+use Rattle.command_answers.proofs.Exits.{passed_on, steady_read, of_reading, cut_answer, cut_loud, cut_not_file, cut_output, of_refusal, not_refused}
 use Rattle.kernel_commands.proofs.Exits.{read_not_output, steady_anyway, text_not}
 use Rattle.kernel_commands.proofs.Expectations.{text_refused}
 use Rattle.kernel_commands.proofs.check.check.Goals as goal
@@ -22,6 +22,17 @@ returns-in_err-report-clause-answer g c =
     (text_refused (g.F.Files.faults c.args.files.now) (g.F.Files.faults c.read_file.new.files) (g.F.Files.faults c.read_file.new.files)
     (g.F.Files.held c.args.files.now) c.args.from.now c.deref.result.now CheckExpects (bytes_in c.read_file.result) c.in_err-report.field-0.0 c.from_residual-in_err-report.result
     (ap bytes_in c.in_ok-text.was ∙ ap (λ b. Ok b) (sym c.deref.ensures.value)) c.from_residual-in_err-report.ensures.1 c.read_file.ensures.answer c.in_err-report.ensures.refusal)
+
+pub returns-in_err-put_all-clause-answer : goal.returns-in_err-put_all-clause-answer
+returns-in_err-put_all-clause-answer g c =
+    let result = c.from_residual-in_err-put_all.result in
+    let work = ended c.in_ok-report.report.items in
+    of_read (g.F.Files.faults c.args.files.now) (g.F.Files.faults c.read_file.new.files)
+    (g.F.Files.held c.args.files.now) (λ h. file_of h c.args.from.now) c.deref.result.now (bytes_in c.read_file.result) CheckExpects work
+    (λ work. IsAnswer (g.F.Files.faults c.args.files.now) (g.F.Files.faults c.read_file.new.files) (Rose (g.S.Sink.faults c.args.out.now) (g.S.Sink.faults c.put_all.new.sink)) (answer_of work) result)
+    (ap bytes_in c.in_ok-text.was ∙ ap (λ b. Ok b) (sym c.deref.ensures.value)) c.read_file.ensures.answer c.in_ok-report.ensures.wanted
+    (cut_answer (g.F.Files.faults c.args.files.now) (g.F.Files.faults c.read_file.new.files) (g.S.Sink.faults c.args.out.now) (g.S.Sink.faults c.put_all.new.sink) work c.put_all.result c.in_err-put_all.field-0.0 result
+    refl c.in_err-put_all.was c.put_all.ensures.cause c.from_residual-in_err-put_all.ensures.1)
 
 pub returns-in_err-put_all-clause-printed : goal.returns-in_err-put_all-clause-printed
 returns-in_err-put_all-clause-printed g c =

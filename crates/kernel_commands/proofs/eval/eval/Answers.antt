@@ -11,7 +11,7 @@ use Rattle.command_answers.specs.Works.{run_report}
 use Rattle.command_answers.proofs.Prints.{prints_nothing, prints_part, prints_all}
 use Rattle.command_answers.proofs.Reading.{of_read, of_every, with_output, is_err}
 use Rattle.kernel_commands.specs.Commands.{EvalExpects, ExpectsEval, IsOfEval}
-use Rattle.command_answers.proofs.Exits.{passed_on, steady_read, of_reading, cut_loud, cut_not_file, cut_output, of_refusal, not_refused}
+use Rattle.command_answers.proofs.Exits.{passed_on, steady_read, of_reading, cut_answer, cut_loud, cut_not_file, cut_output, of_refusal, not_refused}
 use Rattle.kernel_commands.proofs.Exits.{read_not_output, steady_anyway}
 use Rattle.kernel_commands.proofs.Expectations.{eval_not_run}
 use Rattle.kernel_commands.proofs.eval.eval.Goals as goal
@@ -31,6 +31,19 @@ returns-in_err-run_report-clause-printed g c =
     (λ work. Prints (g.S.Sink.taken c.args.out.now) (g.S.Sink.taken c.args.out.now) (expected_text work) c.from_residual-in_err-run_report.result)
     (λ work. subst (Prints (g.S.Sink.taken c.args.out.now) (g.S.Sink.taken c.args.out.now) (expected_text work)) (sym (is_err c.in_err-run_report.field-0.0 c.from_residual-in_err-run_report.result c.from_residual-in_err-run_report.ensures.1))
     (prints_nothing (g.S.Sink.taken c.args.out.now) (expected_text work) c.in_err-run_report.field-0.0))
+
+pub returns-in_err-put_all-clause-answer : goal.returns-in_err-put_all-clause-answer
+returns-in_err-put_all-clause-answer g c =
+    let task = task_view c.args.task.now in
+    let result = c.from_residual-in_err-put_all.result in
+    let work = run_report c.in_ok-run_report.run_report in
+    of_read (g.F.Files.faults c.args.files.now) (g.F.Files.faults c.read_task.new.files) (g.F.Files.held c.args.files.now) (λ h. task_files h task) (c.deref.result.now, c.deref-2.result.now) (files_in c.read_task.result)
+    (λ files. EvalExpects task files.0 files.1) work
+    (λ work. IsAnswer (g.F.Files.faults c.args.files.now) (g.F.Files.faults c.read_task.new.files) (Rose (g.S.Sink.faults c.args.out.now) (g.S.Sink.faults c.put_all.new.sink)) (answer_of work) result)
+    (ap files_in c.in_ok-read.was ∙ ap₂ (λ file map. Ok (file, map)) (sym c.deref.ensures.value) (sym c.deref-2.ensures.value)) c.read_task.ensures.answer
+    c.in_ok-run_report.ensures.work
+    (cut_answer (g.F.Files.faults c.args.files.now) (g.F.Files.faults c.read_task.new.files) (g.S.Sink.faults c.args.out.now) (g.S.Sink.faults c.put_all.new.sink) work c.put_all.result c.in_err-put_all.field-0.0 result
+    refl c.in_err-put_all.was c.put_all.ensures.cause c.from_residual-in_err-put_all.ensures.1)
 
 pub returns-in_err-put_all-clause-printed : goal.returns-in_err-put_all-clause-printed
 returns-in_err-put_all-clause-printed g c =

@@ -1,4 +1,4 @@
-use Rattle.std.proofs.Common.{subst, sym, refl, ◌∙◌, ap}
+use Rattle.std.proofs.Common.{ℕ, List, Ok, subst, sym, refl, ◌∙◌, ap, ap₂}
 use Rattle.command_line.specs.View.{task_view}
 use Rattle.command_answers.specs.Answer.{expected_text}
 use Rattle.command_answers.specs.Outputs.{Prints}
@@ -6,7 +6,8 @@ use Rattle.command_answers.proofs.Prints.{prints_nothing}
 use Rattle.command_answers.proofs.Reading.{is_err}
 use Rattle.pipe_command.specs.Pipes.{expected_of_pipe, pipe_files, IsOfPipe}
 use Rattle.pipe_command.proofs.Causes.{whatever_held, files_not_output, of_files}
-use Rattle.pipe_command.proofs.Passed.{file_before, ok_not_file, read_refused, read_files, never_file}
+use Rattle.pipe_command.specs.View.{report_in}
+use Rattle.pipe_command.proofs.Passed.{file_before, ok_not_file, read_refused, read_files, never_file, cut_pipe}
 use Rattle.io_edges.specs.Files.{Rose}
 use Rattle.io_edges.proofs.Puts.{later_rose}
 use Rattle.command_answers.specs.Reads.{task_files, files_in}
@@ -36,6 +37,16 @@ returns-in_err-report-clause-held g c = c.pipe_files.ensures.held ∙ c.read_tas
 
 pub returns-in_err-report-clause-quiet : goal.returns-in_err-report-clause-quiet
 returns-in_err-report-clause-quiet g c = λ q. refl
+
+pub returns-in_err-put_all-clause-answer : goal.returns-in_err-put_all-clause-answer
+returns-in_err-put_all-clause-answer g c =
+    let read : List ℕ × List ℕ = (c.deref.result.now, c.deref-2.result.now) in
+    let report = c.in_ok-report.report in
+    cut_pipe (g.F.Files.faults c.args.files.now) (g.F.Files.faults c.read_task.new.files) (g.F.Files.faults c.pipe_files.new.files) (g.S.Sink.faults c.args.out.now) (g.S.Sink.faults c.put_all.new.sink)
+    (g.F.Files.held c.args.files.now) (g.F.Files.held c.read_task.new.files) c.args.vl (task_view c.args.task.now) read (files_in c.read_task.result) (record { how = report.done; text = report.text.items }) (report_in c.pipe_files.result)
+    c.put_all.result c.in_err-put_all.field-0.0 c.from_residual-in_err-put_all.result
+    (ap files_in c.in_ok-read.was ∙ ap₂ (λ file map. Ok (file, map)) (sym c.deref.ensures.value) (sym c.deref-2.ensures.value)) (ap report_in c.in_ok-report.was) c.read_task.ensures.held c.read_task.ensures.answer c.pipe_files.ensures.answer
+    c.in_err-put_all.was c.put_all.ensures.cause c.from_residual-in_err-put_all.ensures.1
 
 pub returns-in_err-put_all-clause-held : goal.returns-in_err-put_all-clause-held
 returns-in_err-put_all-clause-held g c = c.pipe_files.ensures.held ∙ c.read_task.ensures.held

@@ -90,7 +90,7 @@ returns-in_err-session g c =
           (ap files_in c.in_ok-read.was ∙ ap₂ (λ file map. Ok (file, map)) (sym c.deref.ensures.value) (sym c.deref-2.ensures.value)) c.read_task.ensures.answer
           (answered_session (g.I.Source.left c.args.input.now) (λ input. IsAnswer (g.F.Files.faults c.args.files.now) (g.F.Files.faults c.read_task.new.files) (Rose (g.S.Sink.faults c.args.out.now) (g.S.Sink.faults c.session.new.out) ⊎ Rose (g.I.Source.faults c.args.input.now) (g.I.Source.faults c.session.new.input)) (answer_of (debug_program c.args.vl task c.deref.result.now c.deref-2.result.now input)) c.from_residual-in_err-session.result)
           (λ input. failed_session (g.F.Files.faults c.args.files.now) (g.F.Files.faults c.read_task.new.files) (g.S.Sink.faults c.args.out.now) (g.S.Sink.faults c.session.new.out) (g.I.Source.faults c.args.input.now) (g.I.Source.faults c.session.new.input)
-          (answer_of (debug_program c.args.vl task c.deref.result.now c.deref-2.result.now input)) c.in_err-session.field-0.0 c.from_residual-in_err-session.result c.from_residual-in_err-session.ensures.1
+          (debug_program c.args.vl task c.deref.result.now c.deref-2.result.now input) c.in_err-session.field-0.0 c.from_residual-in_err-session.result (begins.wanted input) c.from_residual-in_err-session.ensures.1
           (λ e. c.session.ensures.input (c.in_err-session.was ∙ ap (λ f. Err f) e)) (λ e. c.session.ensures.output (c.in_err-session.was ∙ ap (λ f. Err f) e))));
       held = c.read_task.ensures.held;
       printed = debugged_is (g.F.Files.faults c.args.files.now) (g.F.Files.faults c.read_task.new.files)

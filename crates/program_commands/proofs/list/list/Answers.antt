@@ -70,7 +70,7 @@ returns-in_err-put_lines g c =
           of_what_follows (g.F.Files.faults c.args.files.now) (g.F.Files.faults c.read_file.new.files) (g.F.Files.held c.args.files.now) (λ h. file_of h c.args.from.now) c.deref.result.now (bytes_in c.read_file.result) list_program
           (λ work. IsAnswer (g.F.Files.faults c.args.files.now) (g.F.Files.faults c.read_file.new.files) (Rose (g.S.Sink.faults c.args.out.now) (g.S.Sink.faults c.put_lines.new.sink)) (answer_of work) c.from_residual-in_err-put_lines.result)
           (ap bytes_in c.in_ok-bytes.was ∙ ap (λ b. Ok b) (sym c.deref.ensures.value)) c.read_file.ensures.answer
-          (cut_answer (g.F.Files.faults c.args.files.now) (g.F.Files.faults c.read_file.new.files) (g.S.Sink.faults c.args.out.now) (g.S.Sink.faults c.put_lines.new.sink) (answer_of work) c.put_lines.result failed result was puts.cause is);
+          (cut_answer (g.F.Files.faults c.args.files.now) (g.F.Files.faults c.read_file.new.files) (g.S.Sink.faults c.args.out.now) (g.S.Sink.faults c.put_lines.new.sink) work c.put_lines.result failed result c.in_ok-words.ensures.work was puts.cause is);
       held = c.read_file.ensures.held;
       printed =
           of_what_follows (g.F.Files.faults c.args.files.now) (g.F.Files.faults c.read_file.new.files) (g.F.Files.held c.args.files.now) (λ h. file_of h c.args.from.now) c.deref.result.now (bytes_in c.read_file.result) list_program

@@ -69,7 +69,7 @@ returns-in_err-put_all g c =
           of_what_follows (g.F.Files.faults c.args.files.now) (g.F.Files.faults c.read_task.new.files) (g.F.Files.held c.args.files.now) (λ h. task_files h (task_view c.args.task.now)) read (files_in c.read_task.result) (λ (files : List ℕ × List ℕ). run_program c.args.vl (stops_of c.args.suppress) (task_view c.args.task.now) files.0 files.1)
           (λ work. IsAnswer (g.F.Files.faults c.args.files.now) (g.F.Files.faults c.read_task.new.files) (Rose (g.S.Sink.faults c.args.out.now) (g.S.Sink.faults c.put_all.new.sink)) (answer_of work) c.from_residual-in_err-put_all.result)
           (ap files_in c.in_ok-read.was ∙ ap₂ (λ file map. Ok (file, map)) (sym c.deref.ensures.value) (sym c.deref-2.ensures.value)) c.read_task.ensures.answer
-          (cut_answer (g.F.Files.faults c.args.files.now) (g.F.Files.faults c.read_task.new.files) (g.S.Sink.faults c.args.out.now) (g.S.Sink.faults c.put_all.new.sink) (answer_of work) c.put_all.result failed result was h.cause is);
+          (cut_answer (g.F.Files.faults c.args.files.now) (g.F.Files.faults c.read_task.new.files) (g.S.Sink.faults c.args.out.now) (g.S.Sink.faults c.put_all.new.sink) work c.put_all.result failed result c.in_ok-run_report.ensures.work was h.cause is);
       held = c.read_task.ensures.held;
       printed =
           of_what_follows (g.F.Files.faults c.args.files.now) (g.F.Files.faults c.read_task.new.files) (g.F.Files.held c.args.files.now) (λ h. task_files h (task_view c.args.task.now)) read (files_in c.read_task.result) (λ (files : List ℕ × List ℕ). run_program c.args.vl (stops_of c.args.suppress) (task_view c.args.task.now) files.0 files.1)

@@ -3,8 +3,7 @@ use Rattle.std.specs.Prelude.{IsTrue, option_map}
 use Rattle.command_line.specs.Line.{Line, line_of}
 use Rattle.command_line.specs.View.{texts, command_view}
 use Rattle.refusals.specs.declared.refusal.Refusal.TheVariants.{Usage}
-use Rattle.sve_top.proofs.Leaves.{seen, by_name, by_result, short, not_asked}
-use Rattle.command_answers.proofs.Reading.{is_err}
+use Rattle.sve_top.proofs.Leaves.{seen, by_name, short, not_asked}
 use Rattle.sve_top.proofs.top.do_words.Goals as goal
 
 pub returns-in_err-command : goal.returns-in_err-command
@@ -52,57 +51,12 @@ returns-in_default g c =
       unread = l.unread;
     }
 
-pub returns-in_err-done : goal.returns-in_err-done
-returns-in_err-done g c =
-    let before = (seen (g.F.Files.held c.args.files.now) (g.F.Files.faults c.args.files.now) (g.S.Sink.taken c.args.out.now) (g.S.Sink.faults c.args.out.now) (g.I.Source.left c.args.input.now) (g.I.Source.faults c.args.input.now)) in
-    let after = (seen (g.F.Files.held c.do_command.new.files) (g.F.Files.faults c.do_command.new.files) (g.S.Sink.taken c.do_command.new.out) (g.S.Sink.faults c.do_command.new.out) (g.I.Source.left c.do_command.new.input) (g.I.Source.faults c.do_command.new.input)) in
-    let line : Option Line = Some (command_view c.in-Some.command) in
-    let l = by_result (line_of (texts c.args.words.now)) before after (IsTrue (g.F.Files.steady c.args.files.now)) (c.do_command.new.out ≡ c.args.out.now) (c.do_command.new.input ≡ c.args.input.now) c.do_command.result c.from_residual-in_err-done.result (c.in_err-done.was ∙ sym (is_err c.in_err-done.field-0.0 c.from_residual-in_err-done.result c.from_residual-in_err-done.ensures.1))
-    (by_name line (line_of (texts c.args.words.now)) before after (IsTrue (g.F.Files.steady c.args.files.now)) (c.do_command.new.out ≡ c.args.out.now) (c.do_command.new.input ≡ c.args.input.now) c.do_command.result (sym c.in_ok-command.ensures ∙ ap (option_map command_view) c.in-Some.is)
-    (record {
-      answer = c.do_command.ensures.answer;
-      listed = c.do_command.ensures.listed;
-      file = c.do_command.ensures.file;
-      others = c.do_command.ensures.others;
-      swept = c.do_command.ensures.swept;
-      kept = c.do_command.ensures.kept;
-      reads = c.do_command.ensures.reads;
-      failed = c.do_command.ensures.failed;
-      output = c.do_command.ensures.output;
-      steady = c.do_command.ensures.steady;
-      as_it_comes = c.do_command.ensures.as_it_comes;
-      printed = c.do_command.ensures.printed;
-      quiet = c.do_command.ensures.quiet;
-      unwritten = c.do_command.ensures.unwritten;
-      silent = c.do_command.ensures.silent;
-      unread = c.do_command.ensures.unread;
-    })) in
-    record {
-      answer = l.answer;
-      listed = l.listed;
-      file = l.file;
-      others = l.others;
-      swept = l.swept;
-      kept = l.kept;
-      reads = l.reads;
-      failed = l.failed;
-      output = l.output;
-      steady = l.steady;
-      as_it_comes = l.as_it_comes;
-      printed = l.printed;
-      quiet = l.quiet;
-      unwritten = l.unwritten;
-      silent = l.silent;
-      unread = l.unread;
-    }
-
 pub returns : goal.returns
 returns g c =
     let before = (seen (g.F.Files.held c.args.files.now) (g.F.Files.faults c.args.files.now) (g.S.Sink.taken c.args.out.now) (g.S.Sink.faults c.args.out.now) (g.I.Source.left c.args.input.now) (g.I.Source.faults c.args.input.now)) in
     let after = (seen (g.F.Files.held c.do_command.new.files) (g.F.Files.faults c.do_command.new.files) (g.S.Sink.taken c.do_command.new.out) (g.S.Sink.faults c.do_command.new.out) (g.I.Source.left c.do_command.new.input) (g.I.Source.faults c.do_command.new.input)) in
     let line : Option Line = Some (command_view c.in-Some.command) in
-    let l = by_result (line_of (texts c.args.words.now)) before after (IsTrue (g.F.Files.steady c.args.files.now)) (c.do_command.new.out ≡ c.args.out.now) (c.do_command.new.input ≡ c.args.input.now) c.do_command.result _ (c.in_ok-done.was)
-    (by_name line (line_of (texts c.args.words.now)) before after (IsTrue (g.F.Files.steady c.args.files.now)) (c.do_command.new.out ≡ c.args.out.now) (c.do_command.new.input ≡ c.args.input.now) c.do_command.result (sym c.in_ok-command.ensures ∙ ap (option_map command_view) c.in-Some.is)
+    let l = by_name line (line_of (texts c.args.words.now)) before after (IsTrue (g.F.Files.steady c.args.files.now)) (c.do_command.new.out ≡ c.args.out.now) (c.do_command.new.input ≡ c.args.input.now) c.do_command.result (sym c.in_ok-command.ensures ∙ ap (option_map command_view) c.in-Some.is)
     (record {
       answer = c.do_command.ensures.answer;
       listed = c.do_command.ensures.listed;
@@ -120,7 +74,7 @@ returns g c =
       unwritten = c.do_command.ensures.unwritten;
       silent = c.do_command.ensures.silent;
       unread = c.do_command.ensures.unread;
-    })) in
+    }) in
     record {
       answer = l.answer;
       listed = l.listed;
