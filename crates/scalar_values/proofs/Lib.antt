@@ -2,3 +2,5 @@ pub mod OperatorCode
 pub mod TermItems
 pub mod TermCalls
 pub mod TermKinds
+pub mod ItemCode
+pub mod PartKinds
