@@ -28,6 +28,7 @@ use Rattle.value_code.proofs.NearOffsets.{no_items}
 use Rattle.scalar_values.proofs.TermItems.{on_any, with_value, then_is, else_is, left_below, right_below, truth_below, value_below, index_below, own_room, next_fits, whole_fits, part_room, after_room, left_room, right_room, led_fits, last_fits, last_room, either_left_room, either_mark_fits, either_right_room, either_last_fits, compared_room, compared_fits, truth_fits, not_fits, chosen_fits, chosen_room, still_given, over_given, both_given, either_given, compared_given, other_given, end_given, end_next, one_item, one_part, two_parts, two_items, both_items, either_items, choice_items, indexed_items, placed_item, placed_items, literal_size, computed_items, computed_home, offset_items, offset_home, by_number, by_part, by_register, loose_as, jump_as, loose_literal, loose_variable, compared_both}
 use Rattle.scalar_values.proofs.TermCalls.{unary_call, unary_room, shift_call, shift_room, cast_call, cast_room, two_call, read_call, yes_call, no_call, one_of_call, left_call, right_call, compare_call, chosen_call, both_call, either_call, not_call, sides_below, left_side_below, right_side_below, side_below, left_compared_below, right_compared_below, left_compared_room, two_labels}
 use Rattle.scalar_values.proofs.TermKinds.{no_truth, no_value, no_parts, no_flags, picked_is, picked_labels}
+use Rattle.scalar_values.proofs.PartKinds.{and_of, binary_of, cast_of, compare_of, not_of, or_of, read_of, select_of, shift_of, unary_of}
 use Rattle.scalar_values.proofs.emit.+terms.Goals as goal
 use Rattle.scalar_values.proofs.emit.+terms.Goals.{emit_both-then-sense, emit_both-else-sense, emit_either-then-sense, emit_either-else-sense}
 
@@ -102,7 +103,7 @@ emit_loose-returns-in_ok-b-in-Select t c =
     let x = term_of c.deref-in-Select.result.now in
     let y = term_of c.deref-in-Select-2.result.now in
     let k = term_of c.deref-in-Select-3.result.now in
-    let is : term_of c.args.expr.now ≡ Choice k x y = rw (c.in-Select.is, c.deref-in-Select.ensures, c.deref-in-Select-2.ensures, c.deref-in-Select-3.ensures) refl in
+    let is : term_of c.args.expr.now ≡ Choice k x y = select_of c.args.expr.now c.in-Select.cond c.in-Select.yes c.in-Select.no c.deref-in-Select-3.result.now c.deref-in-Select.result.now c.deref-in-Select-2.result.now c.in-Select.is c.deref-in-Select-3.ensures c.deref-in-Select.ensures c.deref-in-Select-2.ensures in
     let first = c.in_ok-a-in-Select.ensures in
     let second = c.in_ok-b-in-Select.ensures in
     record {
@@ -171,7 +172,7 @@ pub emit_loose-returns-in_ok-a-in-Unary : goal.emit_loose-returns-in_ok-a-in-Una
 emit_loose-returns-in_ok-a-in-Unary t c =
     let s = scope_of c.args.scope.now in
     let e = term_of c.deref-arg.result.now in
-    let is : term_of c.args.expr.now ≡ Unary c.in-Unary.op e = rw (c.in-Unary.is, c.deref-arg.ensures) refl in
+    let is : term_of c.args.expr.now ≡ Unary c.in-Unary.op e = unary_of c.args.expr.now c.in-Unary.op c.in-Unary.arg c.deref-arg.result.now c.in-Unary.is c.deref-arg.ensures in
     record {
       register = IfOk-weaker c.want_unary.result _ _ (λ r p. p ∙ ap (reg_of c.args.places.now) c.in_ok-a-in-Unary.ensures.item ∙ ap (home c.args.places.now (homes_of c.args.homes.now) (scope_of c.args.scope.now).index c.args.item.now) (sym is)) c.want_unary.ensures.register;
       item = on_any c.want_unary.result (one_item c.args.item.now (term_size (scope_of c.args.scope.now).index (term_of c.args.expr.now)) (term_size (scope_of c.args.scope.now).index (term_of c.deref-arg.result.now)) c.emit_loose.new.item c.want_unary.new.item (ap (term_size (scope_of c.args.scope.now).index) is) c.in_ok-a-in-Unary.ensures.item c.want_unary.ensures.item);
@@ -186,7 +187,7 @@ pub emit_loose-returns-in_ok-a-in-Shift : goal.emit_loose-returns-in_ok-a-in-Shi
 emit_loose-returns-in_ok-a-in-Shift t c =
     let s = scope_of c.args.scope.now in
     let e = term_of c.deref-arg-in-Shift.result.now in
-    let is : term_of c.args.expr.now ≡ Shift c.in-Shift.left_shift e c.in-Shift.count = rw (c.in-Shift.is, c.deref-arg-in-Shift.ensures) refl in
+    let is : term_of c.args.expr.now ≡ Shift c.in-Shift.left_shift e c.in-Shift.count = shift_of c.args.expr.now c.in-Shift.left_shift c.in-Shift.arg c.in-Shift.count c.deref-arg-in-Shift.result.now c.in-Shift.is c.deref-arg-in-Shift.ensures in
     let in_range : SFits w128 c.in-Shift.count = search rules in
     record {
       register = IfOk-weaker c.want_shift.result _ _ (λ r p. p ∙ ap (reg_of c.args.places.now) c.in_ok-a-in-Shift.ensures.item ∙ ap (home c.args.places.now (homes_of c.args.homes.now) (scope_of c.args.scope.now).index c.args.item.now) (sym is)) c.want_shift.ensures.register;
@@ -203,7 +204,7 @@ pub emit_loose-returns-in_ok-a-in-Cast : goal.emit_loose-returns-in_ok-a-in-Cast
 emit_loose-returns-in_ok-a-in-Cast t c =
     let s = scope_of c.args.scope.now in
     let e = term_of c.deref-arg-in-Cast.result.now in
-    let is : term_of c.args.expr.now ≡ Conversion e c.in-Cast.ty = rw (c.in-Cast.is, c.deref-arg-in-Cast.ensures) refl in
+    let is : term_of c.args.expr.now ≡ Conversion e c.in-Cast.ty = cast_of c.args.expr.now c.in-Cast.arg c.in-Cast.ty c.deref-arg-in-Cast.result.now c.in-Cast.is c.deref-arg-in-Cast.ensures in
     record {
       register = IfOk-weaker c.want_cast.result _ _ (λ r p. p ∙ ap (reg_of c.args.places.now) c.in_ok-a-in-Cast.ensures.item ∙ ap (home c.args.places.now (homes_of c.args.homes.now) (scope_of c.args.scope.now).index c.args.item.now) (sym is)) c.want_cast.ensures.register;
       item = on_any c.want_cast.result (one_item c.args.item.now (term_size (scope_of c.args.scope.now).index (term_of c.args.expr.now)) (term_size (scope_of c.args.scope.now).index (term_of c.deref-arg-in-Cast.result.now)) c.emit_loose-in-Cast.new.item c.want_cast.new.item (ap (term_size (scope_of c.args.scope.now).index) is) c.in_ok-a-in-Cast.ensures.item c.want_cast.ensures.item);
@@ -221,7 +222,7 @@ emit_parts-returns-in_ok-emit_loose-in-Binary t c =
     let s = scope_of c.args.scope.now in
     let x = term_of c.deref.result.now in
     let y = term_of c.deref-in-Binary.result.now in
-    let is : term_of c.args.expr.now ≡ Operation c.in-Binary.op x y = rw (c.in-Binary.is, c.deref.ensures, c.deref-in-Binary.ensures) refl in
+    let is : term_of c.args.expr.now ≡ Operation c.in-Binary.op x y = binary_of c.args.expr.now c.in-Binary.op c.in-Binary.left c.in-Binary.right c.deref.result.now c.deref-in-Binary.result.now c.in-Binary.is c.deref.ensures c.deref-in-Binary.ensures in
     let first = c.in_ok-emit_loose-in-Binary.ensures in
     record {
       item = on_ok_weaker c.emit_loose-in-Binary.result (two_parts c.args.item.now (term_size (scope_of c.args.scope.now).index (term_of c.args.expr.now)) (term_size (scope_of c.args.scope.now).index (term_of c.deref.result.now)) (term_size (scope_of c.args.scope.now).index (term_of c.deref-in-Binary.result.now)) c.emit_loose.new.item c.emit_loose-in-Binary.new.item (ap (term_size (scope_of c.args.scope.now).index) is) c.in_ok-emit_loose-in-Binary.ensures.item) c.emit_loose-in-Binary.ensures.item;
@@ -236,7 +237,7 @@ pub emit_parts-returns-in-Shift : goal.emit_parts-returns-in-Shift
 emit_parts-returns-in-Shift t c =
     let s = scope_of c.args.scope.now in
     let e = term_of c.deref-arg.result.now in
-    let is : term_of c.args.expr.now ≡ Shift c.in-Shift.left_shift e c.in-Shift.count = rw (c.in-Shift.is, c.deref-arg.ensures) refl in
+    let is : term_of c.args.expr.now ≡ Shift c.in-Shift.left_shift e c.in-Shift.count = shift_of c.args.expr.now c.in-Shift.left_shift c.in-Shift.arg c.in-Shift.count c.deref-arg.result.now c.in-Shift.is c.deref-arg.ensures in
     let in_range : SFits w128 c.in-Shift.count = search rules in
     record {
       item = on_ok_weaker c.emit_loose-in-Shift.result (one_part c.args.item.now (term_size (scope_of c.args.scope.now).index (term_of c.args.expr.now)) (term_size (scope_of c.args.scope.now).index (term_of c.deref-arg.result.now)) c.emit_loose-in-Shift.new.item (ap (term_size (scope_of c.args.scope.now).index) is)) c.emit_loose-in-Shift.ensures.item;
@@ -252,7 +253,7 @@ pub emit_parts-returns-in-Cast : goal.emit_parts-returns-in-Cast
 emit_parts-returns-in-Cast t c =
     let s = scope_of c.args.scope.now in
     let e = term_of c.deref-arg-in-Cast.result.now in
-    let is : term_of c.args.expr.now ≡ Conversion e c.in-Cast.ty = rw (c.in-Cast.is, c.deref-arg-in-Cast.ensures) refl in
+    let is : term_of c.args.expr.now ≡ Conversion e c.in-Cast.ty = cast_of c.args.expr.now c.in-Cast.arg c.in-Cast.ty c.deref-arg-in-Cast.result.now c.in-Cast.is c.deref-arg-in-Cast.ensures in
     record {
       item = on_ok_weaker c.emit_loose-in-Cast.result (one_part c.args.item.now (term_size (scope_of c.args.scope.now).index (term_of c.args.expr.now)) (term_size (scope_of c.args.scope.now).index (term_of c.deref-arg-in-Cast.result.now)) c.emit_loose-in-Cast.new.item (ap (term_size (scope_of c.args.scope.now).index) is)) c.emit_loose-in-Cast.ensures.item;
       emits = on_ok c.emit_loose-in-Cast.result c.emit_loose-in-Cast.ensures.emits (λ p. record {
@@ -269,7 +270,7 @@ emit_jump-returns-in_ok-a-in-Compare t c =
     let s = scope_of c.args.scope.now in
     let x = term_of c.deref.result.now in
     let y = term_of c.deref-in-Compare.result.now in
-    let is : term_of c.args.expr.now ≡ Comparison c.in-Compare.op x y = rw (c.in-Compare.is, c.deref.ensures, c.deref-in-Compare.ensures) refl in
+    let is : term_of c.args.expr.now ≡ Comparison c.in-Compare.op x y = compare_of c.args.expr.now c.in-Compare.op c.in-Compare.left c.in-Compare.right c.deref.result.now c.deref-in-Compare.result.now c.in-Compare.is c.deref.ensures c.deref-in-Compare.ensures in
     let sides = c.in_ok-a-in-Compare.ensures in
     record {
       item = on_any c.emit_branch.result (compared_size (scope_of c.args.scope.now).index c.args.item.now c.emit_compared.new.item c.in-Compare.op (term_of c.deref.result.now) (term_of c.deref-in-Compare.result.now) (term_of c.args.expr.now) is c.in_ok-a-in-Compare.ensures.item);
@@ -285,7 +286,7 @@ emit_one_of-returns-in_ok-put-in-Compare t c =
     let s = scope_of c.args.scope.now in
     let x = term_of c.deref.result.now in
     let y = term_of c.deref-in-Compare.result.now in
-    let is : term_of c.args.cond.now ≡ Comparison c.in-Compare.op x y = rw (c.in-Compare.is, c.deref.ensures, c.deref-in-Compare.ensures) refl in
+    let is : term_of c.args.cond.now ≡ Comparison c.in-Compare.op x y = compare_of c.args.cond.now c.in-Compare.op c.in-Compare.left c.in-Compare.right c.deref.result.now c.deref-in-Compare.result.now c.in-Compare.is c.deref.ensures c.deref-in-Compare.ensures in
     let sides = c.in_ok-p-in-Compare.ensures in
     record {
       register = IfOk-weaker c.emit_chosen.result _ _ (λ r p. p ∙ ap (reg_of c.args.places.now) (compared_size (scope_of c.args.scope.now).index c.args.item.now c.emit_compared.new.item c.in-Compare.op (term_of c.deref.result.now) (term_of c.deref-in-Compare.result.now) (term_of c.args.cond.now) is c.in_ok-p-in-Compare.ensures.item)) c.emit_chosen.ensures.register;
@@ -388,37 +389,37 @@ emit_read-returns-in_ok-x-in-None t c =
 -- ---- what calls ask for: operands below what is emitted, of their kinds, whose items are numbered
 
 pub emit_loose-emit_loose-requires : goal.emit_loose-emit_loose-requires
-emit_loose-emit_loose-requires t c = unary_call (scope_of c.args.scope.now).index t c.args.item.now c.in-Unary.op (term_of c.args.expr.now) (term_of c.deref-arg.result.now) (rw (c.in-Unary.is, c.deref-arg.ensures) refl) c.decreases c.requires.kind c.requires.fits
+emit_loose-emit_loose-requires t c = unary_call (scope_of c.args.scope.now).index t c.args.item.now c.in-Unary.op (term_of c.args.expr.now) (term_of c.deref-arg.result.now) (unary_of c.args.expr.now c.in-Unary.op c.in-Unary.arg c.deref-arg.result.now c.in-Unary.is c.deref-arg.ensures) c.decreases c.requires.kind c.requires.fits
 
 pub emit_loose-want_unary-requires : goal.emit_loose-want_unary-requires
-emit_loose-want_unary-requires t c = unary_room (scope_of c.args.scope.now).index c.args.item.now c.emit_loose.new.item c.in-Unary.op (term_of c.args.expr.now) (term_of c.deref-arg.result.now) (rw (c.in-Unary.is, c.deref-arg.ensures) refl) c.in_ok-a-in-Unary.ensures.item c.requires.fits
+emit_loose-want_unary-requires t c = unary_room (scope_of c.args.scope.now).index c.args.item.now c.emit_loose.new.item c.in-Unary.op (term_of c.args.expr.now) (term_of c.deref-arg.result.now) (unary_of c.args.expr.now c.in-Unary.op c.in-Unary.arg c.deref-arg.result.now c.in-Unary.is c.deref-arg.ensures) c.in_ok-a-in-Unary.ensures.item c.requires.fits
 
 pub emit_loose-emit_loose-requires-in-Shift : goal.emit_loose-emit_loose-requires-in-Shift
-emit_loose-emit_loose-requires-in-Shift t c = shift_call (scope_of c.args.scope.now).index t c.args.item.now c.in-Shift.left_shift c.in-Shift.count (term_of c.args.expr.now) (term_of c.deref-arg-in-Shift.result.now) (rw (c.in-Shift.is, c.deref-arg-in-Shift.ensures) refl) c.decreases c.requires.kind c.requires.fits
+emit_loose-emit_loose-requires-in-Shift t c = shift_call (scope_of c.args.scope.now).index t c.args.item.now c.in-Shift.left_shift c.in-Shift.count (term_of c.args.expr.now) (term_of c.deref-arg-in-Shift.result.now) (shift_of c.args.expr.now c.in-Shift.left_shift c.in-Shift.arg c.in-Shift.count c.deref-arg-in-Shift.result.now c.in-Shift.is c.deref-arg-in-Shift.ensures) c.decreases c.requires.kind c.requires.fits
 
 pub emit_loose-want_shift-requires : goal.emit_loose-want_shift-requires
-emit_loose-want_shift-requires t c = shift_room (scope_of c.args.scope.now).index c.args.item.now c.emit_loose-in-Shift.new.item c.in-Shift.left_shift c.in-Shift.count (term_of c.args.expr.now) (term_of c.deref-arg-in-Shift.result.now) (rw (c.in-Shift.is, c.deref-arg-in-Shift.ensures) refl) c.in_ok-a-in-Shift.ensures.item c.requires.fits
+emit_loose-want_shift-requires t c = shift_room (scope_of c.args.scope.now).index c.args.item.now c.emit_loose-in-Shift.new.item c.in-Shift.left_shift c.in-Shift.count (term_of c.args.expr.now) (term_of c.deref-arg-in-Shift.result.now) (shift_of c.args.expr.now c.in-Shift.left_shift c.in-Shift.arg c.in-Shift.count c.deref-arg-in-Shift.result.now c.in-Shift.is c.deref-arg-in-Shift.ensures) c.in_ok-a-in-Shift.ensures.item c.requires.fits
 
 pub emit_loose-emit_loose-requires-in-Cast : goal.emit_loose-emit_loose-requires-in-Cast
-emit_loose-emit_loose-requires-in-Cast t c = cast_call (scope_of c.args.scope.now).index t c.args.item.now c.in-Cast.ty (term_of c.args.expr.now) (term_of c.deref-arg-in-Cast.result.now) (rw (c.in-Cast.is, c.deref-arg-in-Cast.ensures) refl) c.decreases c.requires.kind c.requires.fits
+emit_loose-emit_loose-requires-in-Cast t c = cast_call (scope_of c.args.scope.now).index t c.args.item.now c.in-Cast.ty (term_of c.args.expr.now) (term_of c.deref-arg-in-Cast.result.now) (cast_of c.args.expr.now c.in-Cast.arg c.in-Cast.ty c.deref-arg-in-Cast.result.now c.in-Cast.is c.deref-arg-in-Cast.ensures) c.decreases c.requires.kind c.requires.fits
 
 pub emit_loose-want_cast-requires : goal.emit_loose-want_cast-requires
-emit_loose-want_cast-requires t c = cast_room (scope_of c.args.scope.now).index c.args.item.now c.emit_loose-in-Cast.new.item c.in-Cast.ty (term_of c.args.expr.now) (term_of c.deref-arg-in-Cast.result.now) (rw (c.in-Cast.is, c.deref-arg-in-Cast.ensures) refl) c.in_ok-a-in-Cast.ensures.item c.requires.fits
+emit_loose-want_cast-requires t c = cast_room (scope_of c.args.scope.now).index c.args.item.now c.emit_loose-in-Cast.new.item c.in-Cast.ty (term_of c.args.expr.now) (term_of c.deref-arg-in-Cast.result.now) (cast_of c.args.expr.now c.in-Cast.arg c.in-Cast.ty c.deref-arg-in-Cast.result.now c.in-Cast.is c.deref-arg-in-Cast.ensures) c.in_ok-a-in-Cast.ensures.item c.requires.fits
 
 pub emit_loose-emit_two-requires : goal.emit_loose-emit_two-requires
-emit_loose-emit_two-requires t c = two_call (scope_of c.args.scope.now).index t c.args.item.now c.in-Binary.op (term_of c.args.expr.now) (term_of c.deref.result.now) (term_of c.deref-in-Binary.result.now) (rw (c.in-Binary.is, c.deref.ensures, c.deref-in-Binary.ensures) refl) c.decreases c.requires.kind c.requires.fits
+emit_loose-emit_two-requires t c = two_call (scope_of c.args.scope.now).index t c.args.item.now c.in-Binary.op (term_of c.args.expr.now) (term_of c.deref.result.now) (term_of c.deref-in-Binary.result.now) (binary_of c.args.expr.now c.in-Binary.op c.in-Binary.left c.in-Binary.right c.deref.result.now c.deref-in-Binary.result.now c.in-Binary.is c.deref.ensures c.deref-in-Binary.ensures) c.decreases c.requires.kind c.requires.fits
 
 pub emit_loose-emit_read-requires : goal.emit_loose-emit_read-requires
-emit_loose-emit_read-requires t c = read_call (scope_of c.args.scope.now).index t c.args.item.now (name_of c.in-Read.array) (term_of c.args.expr.now) (term_of c.deref-in-Read.result.now) (rw (c.in-Read.is, c.deref-in-Read.ensures) refl) c.decreases c.requires.kind c.requires.fits
+emit_loose-emit_read-requires t c = read_call (scope_of c.args.scope.now).index t c.args.item.now (name_of c.in-Read.array) (term_of c.args.expr.now) (term_of c.deref-in-Read.result.now) (read_of c.args.expr.now c.in-Read.array c.in-Read.index c.deref-in-Read.result.now c.in-Read.is c.deref-in-Read.ensures) c.decreases c.requires.kind c.requires.fits
 
 pub emit_loose-emit_loose-requires-in-Select : goal.emit_loose-emit_loose-requires-in-Select
-emit_loose-emit_loose-requires-in-Select t c = yes_call (scope_of c.args.scope.now).index t c.args.item.now (term_of c.args.expr.now) (term_of c.in-Select.cond.value) (term_of c.deref-in-Select.result.now) (term_of c.in-Select.no.value) (rw (c.in-Select.is, c.deref-in-Select.ensures) refl) c.decreases c.requires.kind c.requires.fits
+emit_loose-emit_loose-requires-in-Select t c = yes_call (scope_of c.args.scope.now).index t c.args.item.now (term_of c.args.expr.now) (term_of c.in-Select.cond.value) (term_of c.deref-in-Select.result.now) (term_of c.in-Select.no.value) (select_of c.args.expr.now c.in-Select.cond c.in-Select.yes c.in-Select.no c.in-Select.cond.value c.deref-in-Select.result.now c.in-Select.no.value c.in-Select.is refl c.deref-in-Select.ensures refl) c.decreases c.requires.kind c.requires.fits
 
 pub emit_loose-emit_loose-requires-in-Select-2 : goal.emit_loose-emit_loose-requires-in-Select-2
-emit_loose-emit_loose-requires-in-Select-2 t c = no_call (scope_of c.args.scope.now).index t c.args.item.now c.emit_loose-in-Select.new.item (term_of c.args.expr.now) (term_of c.in-Select.cond.value) (term_of c.deref-in-Select.result.now) (term_of c.deref-in-Select-2.result.now) (rw (c.in-Select.is, c.deref-in-Select.ensures, c.deref-in-Select-2.ensures) refl) c.decreases c.requires.kind c.requires.fits c.in_ok-a-in-Select.ensures.item
+emit_loose-emit_loose-requires-in-Select-2 t c = no_call (scope_of c.args.scope.now).index t c.args.item.now c.emit_loose-in-Select.new.item (term_of c.args.expr.now) (term_of c.in-Select.cond.value) (term_of c.deref-in-Select.result.now) (term_of c.deref-in-Select-2.result.now) (select_of c.args.expr.now c.in-Select.cond c.in-Select.yes c.in-Select.no c.in-Select.cond.value c.deref-in-Select.result.now c.deref-in-Select-2.result.now c.in-Select.is refl c.deref-in-Select.ensures c.deref-in-Select-2.ensures) c.decreases c.requires.kind c.requires.fits c.in_ok-a-in-Select.ensures.item
 
 pub emit_loose-emit_one_of-requires : goal.emit_loose-emit_one_of-requires
-emit_loose-emit_one_of-requires t c = one_of_call (scope_of c.args.scope.now).index t c.args.item.now c.emit_loose-in-Select.new.item c.emit_loose-in-Select-2.new.item (term_of c.args.expr.now) (term_of c.deref-in-Select-3.result.now) (term_of c.deref-in-Select.result.now) (term_of c.deref-in-Select-2.result.now) (rw (c.in-Select.is, c.deref-in-Select.ensures, c.deref-in-Select-2.ensures, c.deref-in-Select-3.ensures) refl) c.decreases c.requires.kind c.requires.fits c.in_ok-a-in-Select.ensures.item c.in_ok-b-in-Select.ensures.item
+emit_loose-emit_one_of-requires t c = one_of_call (scope_of c.args.scope.now).index t c.args.item.now c.emit_loose-in-Select.new.item c.emit_loose-in-Select-2.new.item (term_of c.args.expr.now) (term_of c.deref-in-Select-3.result.now) (term_of c.deref-in-Select.result.now) (term_of c.deref-in-Select-2.result.now) (select_of c.args.expr.now c.in-Select.cond c.in-Select.yes c.in-Select.no c.deref-in-Select-3.result.now c.deref-in-Select.result.now c.deref-in-Select-2.result.now c.in-Select.is c.deref-in-Select-3.ensures c.deref-in-Select.ensures c.deref-in-Select-2.ensures) c.decreases c.requires.kind c.requires.fits c.in_ok-a-in-Select.ensures.item c.in_ok-b-in-Select.ensures.item
 
 pub emit_two-emit_sides-requires : goal.emit_two-emit_sides-requires
 emit_two-emit_sides-requires t c = (sides_below t (max (term_depth (term_of c.args.left.now)) (term_depth (term_of c.args.right.now))) c.decreases, (c.requires.left, (c.requires.right, c.requires.fits)))
@@ -442,16 +443,16 @@ pub emit_side-emit_loose-requires : goal.emit_side-emit_loose-requires
 emit_side-emit_loose-requires t c = (value_below t (term_depth (term_of c.args.expr.now)) c.decreases, (c.requires.kind, c.requires.fits))
 
 pub emit_parts-emit_loose-requires : goal.emit_parts-emit_loose-requires
-emit_parts-emit_loose-requires t c = left_call (scope_of c.args.scope.now).index t c.args.item.now c.in-Binary.op (term_of c.args.expr.now) (term_of c.deref.result.now) (term_of c.deref-in-Binary.result.now) (rw (c.in-Binary.is, c.deref.ensures, c.deref-in-Binary.ensures) refl) c.decreases c.requires.kind c.requires.fits
+emit_parts-emit_loose-requires t c = left_call (scope_of c.args.scope.now).index t c.args.item.now c.in-Binary.op (term_of c.args.expr.now) (term_of c.deref.result.now) (term_of c.deref-in-Binary.result.now) (binary_of c.args.expr.now c.in-Binary.op c.in-Binary.left c.in-Binary.right c.deref.result.now c.deref-in-Binary.result.now c.in-Binary.is c.deref.ensures c.deref-in-Binary.ensures) c.decreases c.requires.kind c.requires.fits
 
 pub emit_parts-emit_loose-requires-in-Binary : goal.emit_parts-emit_loose-requires-in-Binary
-emit_parts-emit_loose-requires-in-Binary t c = right_call (scope_of c.args.scope.now).index t c.args.item.now c.emit_loose.new.item c.in-Binary.op (term_of c.args.expr.now) (term_of c.deref.result.now) (term_of c.deref-in-Binary.result.now) (rw (c.in-Binary.is, c.deref.ensures, c.deref-in-Binary.ensures) refl) c.decreases c.requires.kind c.requires.fits c.in_ok-emit_loose-in-Binary.ensures.item
+emit_parts-emit_loose-requires-in-Binary t c = right_call (scope_of c.args.scope.now).index t c.args.item.now c.emit_loose.new.item c.in-Binary.op (term_of c.args.expr.now) (term_of c.deref.result.now) (term_of c.deref-in-Binary.result.now) (binary_of c.args.expr.now c.in-Binary.op c.in-Binary.left c.in-Binary.right c.deref.result.now c.deref-in-Binary.result.now c.in-Binary.is c.deref.ensures c.deref-in-Binary.ensures) c.decreases c.requires.kind c.requires.fits c.in_ok-emit_loose-in-Binary.ensures.item
 
 pub emit_parts-emit_loose-requires-in-Shift : goal.emit_parts-emit_loose-requires-in-Shift
-emit_parts-emit_loose-requires-in-Shift t c = shift_call (scope_of c.args.scope.now).index t c.args.item.now c.in-Shift.left_shift c.in-Shift.count (term_of c.args.expr.now) (term_of c.deref-arg.result.now) (rw (c.in-Shift.is, c.deref-arg.ensures) refl) c.decreases c.requires.kind c.requires.fits
+emit_parts-emit_loose-requires-in-Shift t c = shift_call (scope_of c.args.scope.now).index t c.args.item.now c.in-Shift.left_shift c.in-Shift.count (term_of c.args.expr.now) (term_of c.deref-arg.result.now) (shift_of c.args.expr.now c.in-Shift.left_shift c.in-Shift.arg c.in-Shift.count c.deref-arg.result.now c.in-Shift.is c.deref-arg.ensures) c.decreases c.requires.kind c.requires.fits
 
 pub emit_parts-emit_loose-requires-in-Cast : goal.emit_parts-emit_loose-requires-in-Cast
-emit_parts-emit_loose-requires-in-Cast t c = cast_call (scope_of c.args.scope.now).index t c.args.item.now c.in-Cast.ty (term_of c.args.expr.now) (term_of c.deref-arg-in-Cast.result.now) (rw (c.in-Cast.is, c.deref-arg-in-Cast.ensures) refl) c.decreases c.requires.kind c.requires.fits
+emit_parts-emit_loose-requires-in-Cast t c = cast_call (scope_of c.args.scope.now).index t c.args.item.now c.in-Cast.ty (term_of c.args.expr.now) (term_of c.deref-arg-in-Cast.result.now) (cast_of c.args.expr.now c.in-Cast.arg c.in-Cast.ty c.deref-arg-in-Cast.result.now c.in-Cast.is c.deref-arg-in-Cast.ensures) c.decreases c.requires.kind c.requires.fits
 
 pub emit_compared-emit_loose-requires : goal.emit_compared-emit_loose-requires
 emit_compared-emit_loose-requires t c = (left_compared_below t (term_depth (term_of c.args.left.now)) (term_depth (term_of c.args.right.now)) c.decreases, (c.requires.left, left_compared_room c.args.item.now (term_size (scope_of c.args.scope.now).index (term_of c.args.left.now)) (term_size (scope_of c.args.scope.now).index (term_of c.args.right.now)) c.requires.fits))
@@ -460,19 +461,19 @@ pub emit_compared-emit_loose-requires-in-None : goal.emit_compared-emit_loose-re
 emit_compared-emit_loose-requires-in-None t c = (right_compared_below t (term_depth (term_of c.args.left.now)) (term_depth (term_of c.args.right.now)) c.decreases, (c.requires.right, compared_room c.args.item.now (term_size (scope_of c.args.scope.now).index (term_of c.args.left.now)) (term_size (scope_of c.args.scope.now).index (term_of c.args.right.now)) c.emit_loose.new.item c.requires.fits c.in_ok-a.ensures.item))
 
 pub emit_jump-emit_compared-requires : goal.emit_jump-emit_compared-requires
-emit_jump-emit_compared-requires t c = compare_call (scope_of c.args.scope.now).index t c.args.item.now c.in-Compare.op (term_of c.args.expr.now) (term_of c.deref.result.now) (term_of c.deref-in-Compare.result.now) (rw (c.in-Compare.is, c.deref.ensures, c.deref-in-Compare.ensures) refl) c.decreases c.requires.kind c.compared_number-number.ensures.held c.requires.fits
+emit_jump-emit_compared-requires t c = compare_call (scope_of c.args.scope.now).index t c.args.item.now c.in-Compare.op (term_of c.args.expr.now) (term_of c.deref.result.now) (term_of c.deref-in-Compare.result.now) (compare_of c.args.expr.now c.in-Compare.op c.in-Compare.left c.in-Compare.right c.deref.result.now c.deref-in-Compare.result.now c.in-Compare.is c.deref.ensures c.deref-in-Compare.ensures) c.decreases c.requires.kind c.compared_number-number.ensures.held c.requires.fits
 
 pub emit_one_of-emit_compared-requires : goal.emit_one_of-emit_compared-requires
-emit_one_of-emit_compared-requires t c = chosen_call (scope_of c.args.scope.now).index t c.args.item.now c.in-Compare.op (term_of c.args.cond.now) (term_of c.deref.result.now) (term_of c.deref-in-Compare.result.now) (rw (c.in-Compare.is, c.deref.ensures, c.deref-in-Compare.ensures) refl) c.decreases c.requires.kind c.compared_number-number.ensures.held c.requires.fits
+emit_one_of-emit_compared-requires t c = chosen_call (scope_of c.args.scope.now).index t c.args.item.now c.in-Compare.op (term_of c.args.cond.now) (term_of c.deref.result.now) (term_of c.deref-in-Compare.result.now) (compare_of c.args.cond.now c.in-Compare.op c.in-Compare.left c.in-Compare.right c.deref.result.now c.deref-in-Compare.result.now c.in-Compare.is c.deref.ensures c.deref-in-Compare.ensures) c.decreases c.requires.kind c.compared_number-number.ensures.held c.requires.fits
 
 pub emit_jump-emit_both-requires : goal.emit_jump-emit_both-requires
-emit_jump-emit_both-requires t c = both_call (scope_of c.args.scope.now).index t c.args.item.now (term_of c.args.expr.now) (term_of c.deref-in-And.result.now) (term_of c.deref-in-And-2.result.now) (rw (c.in-And.is, c.deref-in-And.ensures, c.deref-in-And-2.ensures) refl) c.decreases c.requires.given c.requires.kind c.requires.fits
+emit_jump-emit_both-requires t c = both_call (scope_of c.args.scope.now).index t c.args.item.now (term_of c.args.expr.now) (term_of c.deref-in-And.result.now) (term_of c.deref-in-And-2.result.now) (and_of c.args.expr.now c.in-And.left c.in-And.right c.deref-in-And.result.now c.deref-in-And-2.result.now c.in-And.is c.deref-in-And.ensures c.deref-in-And-2.ensures) c.decreases c.requires.given c.requires.kind c.requires.fits
 
 pub emit_jump-emit_either-requires : goal.emit_jump-emit_either-requires
-emit_jump-emit_either-requires t c = either_call (scope_of c.args.scope.now).index t c.args.item.now (term_of c.args.expr.now) (term_of c.deref-in-Or.result.now) (term_of c.deref-in-Or-2.result.now) (rw (c.in-Or.is, c.deref-in-Or.ensures, c.deref-in-Or-2.ensures) refl) c.decreases c.requires.given c.requires.kind c.requires.fits
+emit_jump-emit_either-requires t c = either_call (scope_of c.args.scope.now).index t c.args.item.now (term_of c.args.expr.now) (term_of c.deref-in-Or.result.now) (term_of c.deref-in-Or-2.result.now) (or_of c.args.expr.now c.in-Or.left c.in-Or.right c.deref-in-Or.result.now c.deref-in-Or-2.result.now c.in-Or.is c.deref-in-Or.ensures c.deref-in-Or-2.ensures) c.decreases c.requires.given c.requires.kind c.requires.fits
 
 pub emit_jump-emit_jump-requires : goal.emit_jump-emit_jump-requires
-emit_jump-emit_jump-requires t c = not_call (scope_of c.args.scope.now).index t c.args.item.now (term_of c.args.expr.now) (term_of c.deref-in-Not.result.now) (rw (c.in-Not.is, c.deref-in-Not.ensures) refl) c.decreases c.requires.given c.requires.kind c.requires.fits
+emit_jump-emit_jump-requires t c = not_call (scope_of c.args.scope.now).index t c.args.item.now (term_of c.args.expr.now) (term_of c.deref-in-Not.result.now) (not_of c.args.expr.now c.in-Not.arg c.deref-in-Not.result.now c.in-Not.is c.deref-in-Not.ensures) c.decreases c.requires.given c.requires.kind c.requires.fits
 
 pub emit_both-returns-in_err-over : goal.emit_both-returns-in_err-over
 emit_both-returns-in_err-over t c = record { item = IfOk-from_err _ _ c.from_residual.ensures.0; emits = IfOk-from_err _ _ c.from_residual.ensures.0 }
@@ -606,7 +607,7 @@ emit_compared-returns-in_ok-b-in-None t c = record {
 
 pub emit_jump-overflow_add-item : goal.emit_jump-overflow_add-item
 emit_jump-overflow_add-item t c =
-    let is : term_of c.args.expr.now ≡ Comparison c.in-Compare.op (term_of c.deref.result.now) (term_of c.deref-in-Compare.result.now) = rw (c.in-Compare.is, c.deref.ensures, c.deref-in-Compare.ensures) refl in
+    let is : term_of c.args.expr.now ≡ Comparison c.in-Compare.op (term_of c.deref.result.now) (term_of c.deref-in-Compare.result.now) = compare_of c.args.expr.now c.in-Compare.op c.in-Compare.left c.in-Compare.right c.deref.result.now c.deref-in-Compare.result.now c.in-Compare.is c.deref.ensures c.deref-in-Compare.ensures in
     truth_fits c.args.item.now (term_size (scope_of c.args.scope.now).index (term_of c.deref.result.now)) (term_size (scope_of c.args.scope.now).index (term_of c.deref-in-Compare.result.now)) (term_size (scope_of c.args.scope.now).index (term_of c.args.expr.now)) c.emit_compared.new.item (ap (term_size (scope_of c.args.scope.now).index) is) c.requires.fits c.in_ok-a-in-Compare.ensures.item
 
 pub emit_jump-emit_branch-requires : goal.emit_jump-emit_branch-requires
@@ -614,7 +615,7 @@ emit_jump-emit_branch-requires t c = compared_given c.args.to c.args.draft.now.l
 
 pub emit_jump-returns-in-And : goal.emit_jump-returns-in-And
 emit_jump-returns-in-And t c =
-    let is : term_of c.args.expr.now ≡ Both (term_of c.deref-in-And.result.now) (term_of c.deref-in-And-2.result.now) = rw (c.in-And.is, c.deref-in-And.ensures, c.deref-in-And-2.ensures) refl in
+    let is : term_of c.args.expr.now ≡ Both (term_of c.deref-in-And.result.now) (term_of c.deref-in-And-2.result.now) = and_of c.args.expr.now c.in-And.left c.in-And.right c.deref-in-And.result.now c.deref-in-And-2.result.now c.in-And.is c.deref-in-And.ensures c.deref-in-And-2.ensures in
     record {
       item = IfOk-equal c.emit_both.result _ _ _ c.emit_both.ensures.item (ap (λ (e : Term). c.args.item.now + term_size (scope_of c.args.scope.now).index e) (sym is));
       emits = on_ok_weaker c.emit_both.result (λ p. jump_as c.args.places.now (homes_of c.args.homes.now) (scope_of c.args.scope.now) c.args.sense c.args.to c.args.item.now c.args.draft.now c.emit_both.new.draft (term_of c.args.expr.now) (Both (term_of c.deref-in-And.result.now) (term_of c.deref-in-And-2.result.now)) is p) c.emit_both.ensures.emits;
@@ -622,7 +623,7 @@ emit_jump-returns-in-And t c =
 
 pub emit_jump-returns-in-Or : goal.emit_jump-returns-in-Or
 emit_jump-returns-in-Or t c =
-    let is : term_of c.args.expr.now ≡ Either (term_of c.deref-in-Or.result.now) (term_of c.deref-in-Or-2.result.now) = rw (c.in-Or.is, c.deref-in-Or.ensures, c.deref-in-Or-2.ensures) refl in
+    let is : term_of c.args.expr.now ≡ Either (term_of c.deref-in-Or.result.now) (term_of c.deref-in-Or-2.result.now) = or_of c.args.expr.now c.in-Or.left c.in-Or.right c.deref-in-Or.result.now c.deref-in-Or-2.result.now c.in-Or.is c.deref-in-Or.ensures c.deref-in-Or-2.ensures in
     record {
       item = IfOk-equal c.emit_either.result _ _ _ c.emit_either.ensures.item (ap (λ (e : Term). c.args.item.now + term_size (scope_of c.args.scope.now).index e) (sym is));
       emits = on_ok_weaker c.emit_either.result (λ p. jump_as c.args.places.now (homes_of c.args.homes.now) (scope_of c.args.scope.now) c.args.sense c.args.to c.args.item.now c.args.draft.now c.emit_either.new.draft (term_of c.args.expr.now) (Either (term_of c.deref-in-Or.result.now) (term_of c.deref-in-Or-2.result.now)) is p) c.emit_either.ensures.emits;
@@ -630,12 +631,12 @@ emit_jump-returns-in-Or t c =
 
 pub emit_jump-overflow_add-item-in-Not : goal.emit_jump-overflow_add-item-in-Not
 emit_jump-overflow_add-item-in-Not t c =
-    let is : term_of c.args.expr.now ≡ Not (term_of c.deref-in-Not.result.now) = rw (c.in-Not.is, c.deref-in-Not.ensures) refl in
+    let is : term_of c.args.expr.now ≡ Not (term_of c.deref-in-Not.result.now) = not_of c.args.expr.now c.in-Not.arg c.deref-in-Not.result.now c.in-Not.is c.deref-in-Not.ensures in
     not_fits c.args.item.now (term_size (scope_of c.args.scope.now).index (term_of c.deref-in-Not.result.now)) (term_size (scope_of c.args.scope.now).index (term_of c.args.expr.now)) c.emit_jump.new.item (ap (term_size (scope_of c.args.scope.now).index) is) c.requires.fits c.in_ok-emit_jump-in-Not.ensures.item
 
 pub emit_jump-returns-in_ok-emit_jump-in-Not : goal.emit_jump-returns-in_ok-emit_jump-in-Not
 emit_jump-returns-in_ok-emit_jump-in-Not t c =
-    let is : term_of c.args.expr.now ≡ Not (term_of c.deref-in-Not.result.now) = rw (c.in-Not.is, c.deref-in-Not.ensures) refl in
+    let is : term_of c.args.expr.now ≡ Not (term_of c.deref-in-Not.result.now) = not_of c.args.expr.now c.in-Not.arg c.deref-in-Not.result.now c.in-Not.is c.deref-in-Not.ensures in
     record {
       item = one_part c.args.item.now (term_size (scope_of c.args.scope.now).index (term_of c.args.expr.now)) (term_size (scope_of c.args.scope.now).index (term_of c.deref-in-Not.result.now)) c.emit_jump.new.item (ap (term_size (scope_of c.args.scope.now).index) is) c.in_ok-emit_jump-in-Not.ensures.item;
       emits = jump_as c.args.places.now (homes_of c.args.homes.now) (scope_of c.args.scope.now) c.args.sense c.args.to c.args.item.now c.args.draft.now c.emit_jump.new.draft (term_of c.args.expr.now) (Not (term_of c.deref-in-Not.result.now)) is (record { labels = c.in_ok-emit_jump-in-Not.ensures.emits.labels; code = λ rest. c.in_ok-emit_jump-in-Not.ensures.emits.code rest });
@@ -670,7 +671,7 @@ emit_loose-returns-in-Var t c =
 
 pub emit_loose-returns-in-Binary : goal.emit_loose-returns-in-Binary
 emit_loose-returns-in-Binary t c =
-    let is : term_of c.args.expr.now ≡ Operation c.in-Binary.op (term_of c.deref.result.now) (term_of c.deref-in-Binary.result.now) = rw (c.in-Binary.is, c.deref.ensures, c.deref-in-Binary.ensures) refl in
+    let is : term_of c.args.expr.now ≡ Operation c.in-Binary.op (term_of c.deref.result.now) (term_of c.deref-in-Binary.result.now) = binary_of c.args.expr.now c.in-Binary.op c.in-Binary.left c.in-Binary.right c.deref.result.now c.deref-in-Binary.result.now c.in-Binary.is c.deref.ensures c.deref-in-Binary.ensures in
     record {
       register = IfOk-weaker c.emit_two.result _ _ (λ r p. p ∙ ap (home c.args.places.now (homes_of c.args.homes.now) (scope_of c.args.scope.now).index c.args.item.now) (sym is)) c.emit_two.ensures.register;
       item = IfOk-equal c.emit_two.result _ _ _ c.emit_two.ensures.item (ap (λ (e : Term). c.args.item.now + term_size (scope_of c.args.scope.now).index e) (sym is));
@@ -679,7 +680,7 @@ emit_loose-returns-in-Binary t c =
 
 pub emit_loose-returns-in-Read : goal.emit_loose-returns-in-Read
 emit_loose-returns-in-Read t c =
-    let is : term_of c.args.expr.now ≡ Element (name_of c.in-Read.array) (term_of c.deref-in-Read.result.now) = rw (c.in-Read.is, c.deref-in-Read.ensures) refl in
+    let is : term_of c.args.expr.now ≡ Element (name_of c.in-Read.array) (term_of c.deref-in-Read.result.now) = read_of c.args.expr.now c.in-Read.array c.in-Read.index c.deref-in-Read.result.now c.in-Read.is c.deref-in-Read.ensures in
     record {
       register = IfOk-weaker c.emit_read.result _ _ (λ r p. p ∙ ap (home c.args.places.now (homes_of c.args.homes.now) (scope_of c.args.scope.now).index c.args.item.now) (sym is)) c.emit_read.ensures.register;
       item = IfOk-equal c.emit_read.result _ _ _ c.emit_read.ensures.item (ap (λ (e : Term). c.args.item.now + term_size (scope_of c.args.scope.now).index e) (sym is));
@@ -698,7 +699,7 @@ emit_number-emit_loose-requires t c = (value_below t (term_depth (term_of c.args
 
 pub emit_one_of-overflow_add-item : goal.emit_one_of-overflow_add-item
 emit_one_of-overflow_add-item t c =
-    let is : term_of c.args.cond.now ≡ Comparison c.in-Compare.op (term_of c.deref.result.now) (term_of c.deref-in-Compare.result.now) = rw (c.in-Compare.is, c.deref.ensures, c.deref-in-Compare.ensures) refl in
+    let is : term_of c.args.cond.now ≡ Comparison c.in-Compare.op (term_of c.deref.result.now) (term_of c.deref-in-Compare.result.now) = compare_of c.args.cond.now c.in-Compare.op c.in-Compare.left c.in-Compare.right c.deref.result.now c.deref-in-Compare.result.now c.in-Compare.is c.deref.ensures c.deref-in-Compare.ensures in
     chosen_fits c.args.item.now (term_size (scope_of c.args.scope.now).index (term_of c.deref.result.now)) (term_size (scope_of c.args.scope.now).index (term_of c.deref-in-Compare.result.now)) (term_size (scope_of c.args.scope.now).index (term_of c.args.cond.now)) c.emit_compared.new.item (ap (term_size (scope_of c.args.scope.now).index) is) c.requires.fits c.in_ok-p-in-Compare.ensures.item
 
 pub emit_one_of-put-requires : goal.emit_one_of-put-requires
@@ -706,7 +707,7 @@ emit_one_of-put-requires t c = record { plain = c.compare_word.ensures.plain }
 
 pub emit_one_of-emit_chosen-requires : goal.emit_one_of-emit_chosen-requires
 emit_one_of-emit_chosen-requires t c =
-    let is : term_of c.args.cond.now ≡ Comparison c.in-Compare.op (term_of c.deref.result.now) (term_of c.deref-in-Compare.result.now) = rw (c.in-Compare.is, c.deref.ensures, c.deref-in-Compare.ensures) refl in
+    let is : term_of c.args.cond.now ≡ Comparison c.in-Compare.op (term_of c.deref.result.now) (term_of c.deref-in-Compare.result.now) = compare_of c.args.cond.now c.in-Compare.op c.in-Compare.left c.in-Compare.right c.deref.result.now c.deref-in-Compare.result.now c.in-Compare.is c.deref.ensures c.deref-in-Compare.ensures in
     chosen_room c.args.item.now (term_size (scope_of c.args.scope.now).index (term_of c.deref.result.now)) (term_size (scope_of c.args.scope.now).index (term_of c.deref-in-Compare.result.now)) (term_size (scope_of c.args.scope.now).index (term_of c.args.cond.now)) c.emit_compared.new.item (ap (term_size (scope_of c.args.scope.now).index) is) c.requires.fits c.in_ok-p-in-Compare.ensures.item
 
 pub emit_one_of-emit_jump-requires : goal.emit_one_of-emit_jump-requires
