@@ -4,3 +4,4 @@ pub mod TermCalls
 pub mod TermKinds
 pub mod ItemCode
 pub mod PartKinds
+pub mod TermEmits

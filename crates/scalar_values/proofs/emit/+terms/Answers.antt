@@ -19,16 +19,16 @@ use Rattle.kernel_tree.specs.declared.ops.Ty.{Ty}
 use Rattle.scalar_values.specs.Sides.{side_view}
 use Rattle.value_code.specs.ValueRegisters.{home, literal_home}
 use Rattle.value_code.specs.ItemWords.{Register}
-use Rattle.value_code.specs.Code.{HasParts, labels, added_number, is_fused, is_led, right_side, IsHeld, loose_code, jump_code, one_of_code}
+use Rattle.value_code.specs.Code.{HasParts, labels, added_number, is_fused, is_led, right_side, IsHeld, loose_code, one_of_code}
 use Rattle.value_code.specs.declared.extent.Extent.TheVariants.{Whole}
-use Rattle.scalar_values.proofs.OperatorCode.{two_is, led_sides, straight_sides}
-use Rattle.value_code.proofs.TermCode.{unary_is, shift_is, cast_is, parts_binary, operation_labels, parts_shift, parts_cast, compare_is, compared_labels, chosen_is, chosen_labels, two_more, compared_size, literal_item, literal_labels, held_code, side_number, side_parts, side_whole, placed_is, placed_labels, computed_is, both_is, either_is, joined_labels, choice_is, choice_labels, offset_code, offset_labels, computed_labels, on_ok, on_and}
+use Rattle.value_code.proofs.TermCode.{chosen_is, chosen_labels, two_more, compared_size, literal_item, literal_labels, held_code, side_number, side_parts, side_whole, placed_is, placed_labels, computed_is, offset_code, offset_labels, computed_labels, on_ok, on_and}
 use Rattle.value_code.proofs.IndexCode.{index_is}
 use Rattle.value_code.proofs.NearOffsets.{no_items}
 use Rattle.scalar_values.proofs.TermItems.{on_any, with_value, then_is, else_is, left_below, right_below, truth_below, value_below, index_below, own_room, next_fits, whole_fits, part_room, after_room, left_room, right_room, led_fits, last_fits, last_room, either_left_room, either_mark_fits, either_right_room, either_last_fits, compared_room, compared_fits, truth_fits, not_fits, chosen_fits, chosen_room, still_given, over_given, both_given, either_given, compared_given, other_given, end_given, end_next, one_item, one_part, two_parts, two_items, both_items, either_items, choice_items, indexed_items, placed_item, placed_items, literal_size, computed_items, computed_home, offset_items, offset_home, by_number, by_part, by_register, loose_as, jump_as, loose_literal, loose_variable, compared_both}
-use Rattle.scalar_values.proofs.TermCalls.{unary_call, unary_room, shift_call, shift_room, cast_call, cast_room, two_call, read_call, yes_call, no_call, one_of_call, left_call, right_call, compare_call, chosen_call, both_call, either_call, not_call, sides_below, left_side_below, right_side_below, side_below, left_compared_below, right_compared_below, left_compared_room, two_labels}
+use Rattle.scalar_values.proofs.TermCalls.{unary_call, unary_room, shift_call, shift_room, cast_call, cast_room, two_call, read_call, yes_call, no_call, one_of_call, left_call, right_call, compare_call, chosen_call, both_call, either_call, not_call, sides_below, left_side_below, right_side_below, side_below, left_compared_below, right_compared_below, left_compared_room}
 use Rattle.scalar_values.proofs.TermKinds.{no_truth, no_value, no_parts, no_flags, picked_is, picked_labels}
 use Rattle.scalar_values.proofs.PartKinds.{and_of, binary_of, cast_of, compare_of, not_of, or_of, read_of, select_of, shift_of, unary_of}
+use Rattle.scalar_values.proofs.TermEmits.{unary_emits, shift_emits, cast_emits, choice_emits, two_emits, led_emits, straight_emits, binary_parts, shift_parts, cast_parts, compare_emits, both_emits, either_emits}
 use Rattle.scalar_values.proofs.emit.+terms.Goals as goal
 use Rattle.scalar_values.proofs.emit.+terms.Goals.{emit_both-then-sense, emit_both-else-sense, emit_either-then-sense, emit_either-else-sense}
 
@@ -36,13 +36,7 @@ pub emit_two-returns : goal.emit_two-returns
 emit_two-returns t c = record {
   register = with_value c.want_operator.result c.take-r.result _ c.and.ensures (c.take-r.ensures.register ∙ ap (reg_of c.args.places.now) c.in_ok-sides.ensures.item);
   item = on_any c.and.result (two_items c.args.item.now (term_size (scope_of c.args.scope.now).index (term_of c.args.left.now)) (term_size (scope_of c.args.scope.now).index (term_of c.args.right.now)) c.emit_sides.new.item c.take-r.new.item c.in_ok-sides.ensures.item c.take-r.ensures.item);
-  emits = on_and c.want_operator.result c.take-r.result c.and.ensures c.want_operator.ensures (λ p. record {
-    labels = p.labels ∙ c.in_ok-sides.ensures.emits.labels;
-    code = λ rest. p.code rest ∙ c.in_ok-sides.ensures.emits.code _ ∙ ap (λ (l : List DraftEntry). c.args.draft.now.entries ++ l)
-        (two_is c.args.places.now (homes_of c.args.homes.now) (scope_of c.args.scope.now) c.args.extent c.binary_asks-asked.result.0 c.args.want c.args.item.now c.args.draft.now.labels c.args.op (term_of c.args.left.now) (term_of c.args.right.now) (side_view c.in_ok-sides.sides.0) c.binary_asks-asked.result.1 c.take-r.result.number c.in_ok-sides.sides.1.number rest
-        c.binary_asks-asked.ensures.asked c.in_ok-sides.ensures.side c.binary_asks-asked.ensures.settles
-        (c.take-r.ensures.register ∙ ap (reg_of c.args.places.now) c.in_ok-sides.ensures.item) c.in_ok-sides.ensures.other);
-  });
+  emits = on_and c.want_operator.result c.take-r.result c.and.ensures c.want_operator.ensures (two_emits c.args.places.now (homes_of c.args.homes.now) (scope_of c.args.scope.now) c.args.extent c.binary_asks-asked.result.0 c.args.want c.args.item.now c.emit_sides.new.item c.args.draft.now c.emit_sides.new.draft c.want_operator.new.draft c.args.op (term_of c.args.left.now) (term_of c.args.right.now) (side_view c.in_ok-sides.sides.0) c.binary_asks-asked.result.1 c.take-r.result.number c.in_ok-sides.sides.1.number c.binary_asks-asked.ensures.asked c.in_ok-sides.ensures.side c.binary_asks-asked.ensures.settles c.take-r.ensures.register c.in_ok-sides.ensures.item c.in_ok-sides.ensures.other c.in_ok-sides.ensures.emits);
 }
 
 -- a left side that stands in the word
@@ -51,11 +45,7 @@ emit_sides-returns-in_ok-r t c = record {
   side = c.part_side-side.ensures ∙ then_is (is_led c.args.places.now (homes_of c.args.homes.now) (scope_of c.args.scope.now) c.args.op c.args.extent c.args.want c.args.item.now (term_of c.args.left.now) (term_of c.args.right.now)) _ _ (sym c.is_led.ensures.led ∙ c.if-is_led.true);
   other = c.in_ok-r.ensures.register ∙ ap (λ (b : ℕ). home c.args.places.now (homes_of c.args.homes.now) (scope_of c.args.scope.now).index b (term_of c.args.right.now)) c.in_ok-emit_parts.ensures.item ∙ then_is (is_led c.args.places.now (homes_of c.args.homes.now) (scope_of c.args.scope.now) c.args.op c.args.extent c.args.want c.args.item.now (term_of c.args.left.now) (term_of c.args.right.now)) _ _ (sym c.is_led.ensures.led ∙ c.if-is_led.true);
   item = c.in_ok-r.ensures.item ∙ ap (λ (b : ℕ). b + term_size (scope_of c.args.scope.now).index (term_of c.args.right.now)) c.in_ok-emit_parts.ensures.item;
-  emits = record {
-    labels = two_labels c.args.draft.now.labels (labels (scope_of c.args.scope.now).index (term_of c.args.left.now)) (labels (scope_of c.args.scope.now).index (term_of c.args.right.now)) c.emit_parts.new.draft.labels _ c.in_ok-emit_parts.ensures.emits.labels c.in_ok-r.ensures.emits.labels;
-    code = λ rest. c.in_ok-r.ensures.emits.code rest ∙ c.in_ok-emit_parts.ensures.emits.code _ ∙ ap (λ (l : List DraftEntry). c.args.draft.now.entries ++ l)
-        (led_sides c.args.places.now (homes_of c.args.homes.now) (scope_of c.args.scope.now) c.args.extent c.args.want c.args.item.now c.args.draft.now.labels (c.emit_parts.new.item + 1) c.emit_parts.new.draft.labels c.args.op (term_of c.args.left.now) (term_of c.args.right.now) rest (sym c.is_led.ensures.led ∙ c.if-is_led.true) c.in_ok-emit_parts.ensures.item c.in_ok-emit_parts.ensures.emits.labels);
-  };
+  emits = led_emits c.args.places.now (homes_of c.args.homes.now) (scope_of c.args.scope.now) c.args.extent c.args.want c.args.item.now (c.emit_parts.new.item + 1) c.args.draft.now c.emit_parts.new.draft c.emit_loose.new.draft c.args.op (term_of c.args.left.now) (term_of c.args.right.now) (sym c.is_led.ensures.led ∙ c.if-is_led.true) c.in_ok-emit_parts.ensures.item c.in_ok-emit_parts.ensures.emits c.in_ok-r.ensures.emits;
 }
 
 -- and one that does not
@@ -64,11 +54,7 @@ emit_sides-returns-in_ok-side t c = record {
   side = c.in_ok-side.ensures.side ∙ ap (λ (b : ℕ). right_side c.args.places.now (homes_of c.args.homes.now) (scope_of c.args.scope.now) c.args.op c.args.extent c.args.want b (term_of c.args.right.now)) c.in_ok-r-2.ensures.item ∙ else_is (is_led c.args.places.now (homes_of c.args.homes.now) (scope_of c.args.scope.now) c.args.op c.args.extent c.args.want c.args.item.now (term_of c.args.left.now) (term_of c.args.right.now)) _ _ (sym c.is_led.ensures.led ∙ c.if-is_led.false);
   other = c.in_ok-r-2.ensures.register ∙ else_is (is_led c.args.places.now (homes_of c.args.homes.now) (scope_of c.args.scope.now) c.args.op c.args.extent c.args.want c.args.item.now (term_of c.args.left.now) (term_of c.args.right.now)) _ _ (sym c.is_led.ensures.led ∙ c.if-is_led.false);
   item = c.in_ok-side.ensures.item ∙ ap (λ (b : ℕ). b + term_size (scope_of c.args.scope.now).index (term_of c.args.right.now)) c.in_ok-r-2.ensures.item;
-  emits = record {
-    labels = two_labels c.args.draft.now.labels (labels (scope_of c.args.scope.now).index (term_of c.args.left.now)) (labels (scope_of c.args.scope.now).index (term_of c.args.right.now)) c.emit_loose-else-is_led.new.draft.labels _ c.in_ok-r-2.ensures.emits.labels c.in_ok-side.ensures.emits.labels;
-    code = λ rest. c.in_ok-side.ensures.emits.code rest ∙ c.in_ok-r-2.ensures.emits.code _ ∙ ap (λ (l : List DraftEntry). c.args.draft.now.entries ++ l)
-        (straight_sides c.args.places.now (homes_of c.args.homes.now) (scope_of c.args.scope.now) c.args.extent c.args.want c.args.item.now c.args.draft.now.labels c.emit_loose-else-is_led.new.item c.emit_loose-else-is_led.new.draft.labels c.args.op (term_of c.args.left.now) (term_of c.args.right.now) rest (sym c.is_led.ensures.led ∙ c.if-is_led.false) c.in_ok-r-2.ensures.item c.in_ok-r-2.ensures.emits.labels);
-  };
+  emits = straight_emits c.args.places.now (homes_of c.args.homes.now) (scope_of c.args.scope.now) c.args.extent c.args.want c.args.item.now c.emit_loose-else-is_led.new.item c.args.draft.now c.emit_loose-else-is_led.new.draft c.emit_side.new.draft c.args.op (term_of c.args.left.now) (term_of c.args.right.now) (sym c.is_led.ensures.led ∙ c.if-is_led.false) c.in_ok-r-2.ensures.item c.in_ok-r-2.ensures.emits c.in_ok-side.ensures.emits;
 }
 
 pub emit_both-returns : goal.emit_both-returns
@@ -76,12 +62,7 @@ emit_both-returns t c =
     let first : c.if-sense.first ≡ (if c.args.sense then c.in_ok-over.over else c.args.to) = elim c.if-sense.branch [ emit_both-then-sense w ↦ w.first-is ∙ sym (ap (λ (v : Bool). if v then c.in_ok-over.over else c.args.to) w.if-sense.true) | emit_both-else-sense w ↦ w.first-is ∙ sym (ap (λ (v : Bool). if v then c.in_ok-over.over else c.args.to) w.if-sense.false) ] in
     record {
       item = on_any c.emit_placed.result (both_items c.args.item.now (term_size (scope_of c.args.scope.now).index (term_of c.args.left.now)) (term_size (scope_of c.args.scope.now).index (term_of c.args.right.now)) c.emit_jump.new.item c.emit_jump-2.new.item c.in_ok-emit_jump.ensures.item c.in_ok-emit_jump-2.ensures.item);
-      emits = on_ok c.emit_placed.result c.emit_placed.ensures (λ p. record {
-        labels = joined_labels c.args.draft.now.labels c.label.new.self.labels c.emit_jump.new.draft.labels c.emit_jump-2.new.draft.labels c.emit_placed.new.draft.labels _ _ c.in_ok-over.ensures.count c.in_ok-emit_jump.ensures.emits.labels c.in_ok-emit_jump-2.ensures.emits.labels p.labels;
-        code = λ rest. p.code rest ∙ c.in_ok-emit_jump-2.ensures.emits.code _ ∙ c.in_ok-emit_jump.ensures.emits.code _ ∙ ap (λ (l : List DraftEntry). c.label.new.self.entries ++ l)
-            (both_is c.args.places.now (homes_of c.args.homes.now) (scope_of c.args.scope.now) c.args.sense c.args.to c.in_ok-over.over c.if-sense.first c.args.item.now c.args.draft.now.labels c.emit_jump.new.item c.label.new.self.labels c.emit_jump.new.draft.labels (term_of c.args.left.now) (term_of c.args.right.now) rest first c.in_ok-over.ensures.next c.in_ok-over.ensures.count c.in_ok-emit_jump.ensures.item c.in_ok-emit_jump.ensures.emits.labels)
-            ∙ ap (λ (l : List DraftEntry). l ++ jump_code c.args.places.now (homes_of c.args.homes.now) (scope_of c.args.scope.now) c.args.sense c.args.to c.args.item.now c.args.draft.now.labels (Both (term_of c.args.left.now) (term_of c.args.right.now)) rest) c.in_ok-over.ensures.entries;
-      });
+      emits = on_ok c.emit_placed.result c.emit_placed.ensures (both_emits c.args.places.now (homes_of c.args.homes.now) (scope_of c.args.scope.now) c.args.sense c.args.to c.in_ok-over.over c.if-sense.first c.args.item.now c.emit_jump.new.item c.args.draft.now c.label.new.self c.emit_jump.new.draft c.emit_jump-2.new.draft c.emit_placed.new.draft (term_of c.args.left.now) (term_of c.args.right.now) first c.in_ok-over.ensures.next c.in_ok-over.ensures.count c.in_ok-over.ensures.entries c.in_ok-emit_jump.ensures.item c.in_ok-emit_jump.ensures.emits c.in_ok-emit_jump-2.ensures.emits);
     }
 
 pub emit_either-returns : goal.emit_either-returns
@@ -89,12 +70,7 @@ emit_either-returns t c =
     let first : c.if-sense.first ≡ (if c.args.sense then c.args.to else c.in_ok-over.over) = elim c.if-sense.branch [ emit_either-then-sense w ↦ w.first-is ∙ sym (ap (λ (v : Bool). if v then c.args.to else c.in_ok-over.over) w.if-sense.true) | emit_either-else-sense w ↦ w.first-is ∙ sym (ap (λ (v : Bool). if v then c.args.to else c.in_ok-over.over) w.if-sense.false) ] in
     record {
       item = on_any c.emit_placed.result (either_items c.args.item.now (term_size (scope_of c.args.scope.now).index (term_of c.args.left.now)) (term_size (scope_of c.args.scope.now).index (term_of c.args.right.now)) c.emit_jump.new.item c.emit_jump-2.new.item c.in_ok-emit_jump.ensures.item c.in_ok-emit_jump-2.ensures.item);
-      emits = on_ok c.emit_placed.result c.emit_placed.ensures (λ p. record {
-        labels = joined_labels c.args.draft.now.labels c.label.new.self.labels c.emit_jump.new.draft.labels c.emit_jump-2.new.draft.labels c.emit_placed.new.draft.labels _ _ c.in_ok-over.ensures.count c.in_ok-emit_jump.ensures.emits.labels c.in_ok-emit_jump-2.ensures.emits.labels p.labels;
-        code = λ rest. p.code rest ∙ c.in_ok-emit_jump-2.ensures.emits.code _ ∙ c.in_ok-emit_jump.ensures.emits.code _ ∙ ap (λ (l : List DraftEntry). c.label.new.self.entries ++ l)
-            (either_is c.args.places.now (homes_of c.args.homes.now) (scope_of c.args.scope.now) c.args.sense c.args.to c.in_ok-over.over c.if-sense.first c.args.item.now c.args.draft.now.labels c.emit_jump.new.item c.label.new.self.labels c.emit_jump.new.draft.labels (term_of c.args.left.now) (term_of c.args.right.now) rest first c.in_ok-over.ensures.next c.in_ok-over.ensures.count c.in_ok-emit_jump.ensures.item c.in_ok-emit_jump.ensures.emits.labels)
-            ∙ ap (λ (l : List DraftEntry). l ++ jump_code c.args.places.now (homes_of c.args.homes.now) (scope_of c.args.scope.now) c.args.sense c.args.to c.args.item.now c.args.draft.now.labels (Either (term_of c.args.left.now) (term_of c.args.right.now)) rest) c.in_ok-over.ensures.entries;
-      });
+      emits = on_ok c.emit_placed.result c.emit_placed.ensures (either_emits c.args.places.now (homes_of c.args.homes.now) (scope_of c.args.scope.now) c.args.sense c.args.to c.in_ok-over.over c.if-sense.first c.args.item.now c.emit_jump.new.item c.args.draft.now c.label.new.self c.emit_jump.new.draft c.emit_jump-2.new.draft c.emit_placed.new.draft (term_of c.args.left.now) (term_of c.args.right.now) first c.in_ok-over.ensures.next c.in_ok-over.ensures.count c.in_ok-over.ensures.entries c.in_ok-emit_jump.ensures.item c.in_ok-emit_jump.ensures.emits c.in_ok-emit_jump-2.ensures.emits);
     }
 
 pub emit_loose-returns-in_ok-b-in-Select : goal.emit_loose-returns-in_ok-b-in-Select
@@ -109,11 +85,7 @@ emit_loose-returns-in_ok-b-in-Select t c =
     record {
       register = IfOk-weaker c.emit_one_of.result _ _ (λ r p. p ∙ ap (λ (b : ℕ). reg_of c.args.places.now (b + term_size (scope_of c.args.scope.now).index (term_of c.deref-in-Select-3.result.now))) (c.in_ok-b-in-Select.ensures.item ∙ ap (λ (b : ℕ). b + term_size (scope_of c.args.scope.now).index (term_of c.deref-in-Select-2.result.now)) c.in_ok-a-in-Select.ensures.item) ∙ ap (home c.args.places.now (homes_of c.args.homes.now) (scope_of c.args.scope.now).index c.args.item.now) (sym is)) c.emit_one_of.ensures.register;
       item = on_ok_weaker c.emit_one_of.result (choice_items c.args.item.now (term_size (scope_of c.args.scope.now).index (term_of c.args.expr.now)) (term_size (scope_of c.args.scope.now).index (term_of c.deref-in-Select.result.now)) (term_size (scope_of c.args.scope.now).index (term_of c.deref-in-Select-2.result.now)) (term_size (scope_of c.args.scope.now).index (term_of c.deref-in-Select-3.result.now)) c.emit_loose-in-Select.new.item c.emit_loose-in-Select-2.new.item c.emit_one_of.new.item (ap (term_size (scope_of c.args.scope.now).index) is) c.in_ok-a-in-Select.ensures.item c.in_ok-b-in-Select.ensures.item) c.emit_one_of.ensures.item;
-      emits = on_ok c.emit_one_of.result c.emit_one_of.ensures.emits (λ p. record {
-        labels = choice_labels s.index c.args.draft.now.labels c.emit_loose-in-Select.new.draft.labels c.emit_loose-in-Select-2.new.draft.labels _ k x y (term_of c.args.expr.now) is first.emits.labels second.emits.labels p.labels;
-        code = λ rest. p.code rest ∙ second.emits.code _ ∙ first.emits.code _ ∙ ap (λ (l : List DraftEntry). c.args.draft.now.entries ++ l)
-            (choice_is c.args.places.now (homes_of c.args.homes.now) s c.args.extent c.args.want c.args.item.now c.args.draft.now.labels c.emit_loose-in-Select.new.item c.emit_loose-in-Select.new.draft.labels c.emit_loose-in-Select-2.new.item c.emit_loose-in-Select-2.new.draft.labels k x y (term_of c.args.expr.now) c.in_ok-a-in-Select.a.number c.in_ok-b-in-Select.b.number rest is first.register second.register second.item second.emits.labels first.item first.emits.labels);
-      });
+      emits = on_ok c.emit_one_of.result c.emit_one_of.ensures.emits (choice_emits c.args.places.now (homes_of c.args.homes.now) s c.args.extent c.args.want c.args.item.now c.emit_loose-in-Select.new.item c.emit_loose-in-Select-2.new.item c.args.draft.now c.emit_loose-in-Select.new.draft c.emit_loose-in-Select-2.new.draft c.emit_one_of.new.draft k x y (term_of c.args.expr.now) c.in_ok-a-in-Select.a.number c.in_ok-b-in-Select.b.number is first.register second.register first.item second.item first.emits second.emits);
     }
 
 -- a right side that its word holds as a number
@@ -176,11 +148,7 @@ emit_loose-returns-in_ok-a-in-Unary t c =
     record {
       register = IfOk-weaker c.want_unary.result _ _ (λ r p. p ∙ ap (reg_of c.args.places.now) c.in_ok-a-in-Unary.ensures.item ∙ ap (home c.args.places.now (homes_of c.args.homes.now) (scope_of c.args.scope.now).index c.args.item.now) (sym is)) c.want_unary.ensures.register;
       item = on_any c.want_unary.result (one_item c.args.item.now (term_size (scope_of c.args.scope.now).index (term_of c.args.expr.now)) (term_size (scope_of c.args.scope.now).index (term_of c.deref-arg.result.now)) c.emit_loose.new.item c.want_unary.new.item (ap (term_size (scope_of c.args.scope.now).index) is) c.in_ok-a-in-Unary.ensures.item c.want_unary.ensures.item);
-      emits = on_ok c.want_unary.result c.want_unary.ensures.emits (λ p. record {
-        labels = p.labels ∙ c.in_ok-a-in-Unary.ensures.emits.labels ∙ ap (λ (e : Term). c.args.draft.now.labels + labels s.index e) (sym is);
-        code = λ rest. p.code rest ∙ c.in_ok-a-in-Unary.ensures.emits.code _ ∙ ap (λ (l : List DraftEntry). c.args.draft.now.entries ++ l)
-            (unary_is c.args.places.now (homes_of c.args.homes.now) s c.args.extent c.unary_asks-asked.result.0 c.args.want c.args.item.now c.args.draft.now.labels c.in-Unary.op e (term_of c.args.expr.now) c.unary_asks-asked.result.1 (reg_of c.args.places.now c.emit_loose.new.item) c.in_ok-a-in-Unary.a.number rest is c.unary_asks-asked.ensures.asked c.unary_asks-asked.ensures.settles (ap (reg_of c.args.places.now) c.in_ok-a-in-Unary.ensures.item) c.in_ok-a-in-Unary.ensures.register);
-      });
+      emits = on_ok c.want_unary.result c.want_unary.ensures.emits (unary_emits c.args.places.now (homes_of c.args.homes.now) s c.args.extent c.unary_asks-asked.result.0 c.args.want c.args.item.now c.emit_loose.new.item c.args.draft.now c.emit_loose.new.draft c.want_unary.new.draft c.in-Unary.op e (term_of c.args.expr.now) c.unary_asks-asked.result.1 c.in_ok-a-in-Unary.a.number is c.unary_asks-asked.ensures.asked c.unary_asks-asked.ensures.settles c.in_ok-a-in-Unary.ensures.item c.in_ok-a-in-Unary.ensures.register c.in_ok-a-in-Unary.ensures.emits);
     }
 
 pub emit_loose-returns-in_ok-a-in-Shift : goal.emit_loose-returns-in_ok-a-in-Shift
@@ -192,12 +160,7 @@ emit_loose-returns-in_ok-a-in-Shift t c =
     record {
       register = IfOk-weaker c.want_shift.result _ _ (λ r p. p ∙ ap (reg_of c.args.places.now) c.in_ok-a-in-Shift.ensures.item ∙ ap (home c.args.places.now (homes_of c.args.homes.now) (scope_of c.args.scope.now).index c.args.item.now) (sym is)) c.want_shift.ensures.register;
       item = on_any c.want_shift.result (one_item c.args.item.now (term_size (scope_of c.args.scope.now).index (term_of c.args.expr.now)) (term_size (scope_of c.args.scope.now).index (term_of c.deref-arg-in-Shift.result.now)) c.emit_loose-in-Shift.new.item c.want_shift.new.item (ap (term_size (scope_of c.args.scope.now).index) is) c.in_ok-a-in-Shift.ensures.item c.want_shift.ensures.item);
-      emits = on_ok c.want_shift.result c.want_shift.ensures.emits (λ p. record {
-        labels = p.labels ∙ c.in_ok-a-in-Shift.ensures.emits.labels ∙ ap (λ (e : Term). c.args.draft.now.labels + labels s.index e) (sym is);
-        code = λ rest. p.code rest ∙ c.in_ok-a-in-Shift.ensures.emits.code _ ∙ ap (λ (l : List DraftEntry). c.args.draft.now.entries ++ l)
-            (shift_is c.args.places.now (homes_of c.args.homes.now) s c.args.extent c.shift_asks-asked.result.0 c.args.want c.args.item.now c.args.draft.now.labels c.in-Shift.left_shift e (term_of c.args.expr.now) c.in-Shift.count (to_z w128 (of_z w128 c.in-Shift.count)) c.shift_asks-asked.result.1 (reg_of c.args.places.now c.emit_loose-in-Shift.new.item) c.in_ok-a-in-Shift.a.number rest
-            is (to_z-of_z w128 c.in-Shift.count in_range) c.shift_asks-asked.ensures.asked c.shift_asks-asked.ensures.settles (ap (reg_of c.args.places.now) c.in_ok-a-in-Shift.ensures.item) c.in_ok-a-in-Shift.ensures.register);
-      });
+      emits = on_ok c.want_shift.result c.want_shift.ensures.emits (shift_emits c.args.places.now (homes_of c.args.homes.now) s c.args.extent c.shift_asks-asked.result.0 c.args.want c.args.item.now c.emit_loose-in-Shift.new.item c.args.draft.now c.emit_loose-in-Shift.new.draft c.want_shift.new.draft c.in-Shift.left_shift e (term_of c.args.expr.now) c.in-Shift.count (to_z w128 (of_z w128 c.in-Shift.count)) c.shift_asks-asked.result.1 c.in_ok-a-in-Shift.a.number is (to_z-of_z w128 c.in-Shift.count in_range) c.shift_asks-asked.ensures.asked c.shift_asks-asked.ensures.settles c.in_ok-a-in-Shift.ensures.item c.in_ok-a-in-Shift.ensures.register c.in_ok-a-in-Shift.ensures.emits);
     }
 
 pub emit_loose-returns-in_ok-a-in-Cast : goal.emit_loose-returns-in_ok-a-in-Cast
@@ -208,11 +171,7 @@ emit_loose-returns-in_ok-a-in-Cast t c =
     record {
       register = IfOk-weaker c.want_cast.result _ _ (λ r p. p ∙ ap (reg_of c.args.places.now) c.in_ok-a-in-Cast.ensures.item ∙ ap (home c.args.places.now (homes_of c.args.homes.now) (scope_of c.args.scope.now).index c.args.item.now) (sym is)) c.want_cast.ensures.register;
       item = on_any c.want_cast.result (one_item c.args.item.now (term_size (scope_of c.args.scope.now).index (term_of c.args.expr.now)) (term_size (scope_of c.args.scope.now).index (term_of c.deref-arg-in-Cast.result.now)) c.emit_loose-in-Cast.new.item c.want_cast.new.item (ap (term_size (scope_of c.args.scope.now).index) is) c.in_ok-a-in-Cast.ensures.item c.want_cast.ensures.item);
-      emits = on_ok c.want_cast.result c.want_cast.ensures.emits (λ p. record {
-        labels = p.labels ∙ c.in_ok-a-in-Cast.ensures.emits.labels ∙ ap (λ (e : Term). c.args.draft.now.labels + labels s.index e) (sym is);
-        code = λ rest. p.code rest ∙ c.in_ok-a-in-Cast.ensures.emits.code _ ∙ ap (λ (l : List DraftEntry). c.args.draft.now.entries ++ l)
-            (cast_is c.args.places.now (homes_of c.args.homes.now) s c.args.extent c.converted_extent-asked.result c.own_type-from.result c.args.want c.args.item.now c.args.draft.now.labels e (term_of c.args.expr.now) c.in-Cast.ty c.within_type.result (reg_of c.args.places.now c.emit_loose-in-Cast.new.item) c.in_ok-a-in-Cast.a.number rest is c.own_type-from.ensures c.converted_extent-asked.ensures c.within_type.ensures (ap (reg_of c.args.places.now) c.in_ok-a-in-Cast.ensures.item) c.in_ok-a-in-Cast.ensures.register);
-      });
+      emits = on_ok c.want_cast.result c.want_cast.ensures.emits (cast_emits c.args.places.now (homes_of c.args.homes.now) s c.args.extent c.converted_extent-asked.result c.own_type-from.result c.args.want c.args.item.now c.emit_loose-in-Cast.new.item c.args.draft.now c.emit_loose-in-Cast.new.draft c.want_cast.new.draft e (term_of c.args.expr.now) c.in-Cast.ty c.within_type.result c.in_ok-a-in-Cast.a.number is c.own_type-from.ensures c.converted_extent-asked.ensures c.within_type.ensures c.in_ok-a-in-Cast.ensures.item c.in_ok-a-in-Cast.ensures.register c.in_ok-a-in-Cast.ensures.emits);
     }
 
 -- ---- values that stand in the word of their user
@@ -226,11 +185,7 @@ emit_parts-returns-in_ok-emit_loose-in-Binary t c =
     let first = c.in_ok-emit_loose-in-Binary.ensures in
     record {
       item = on_ok_weaker c.emit_loose-in-Binary.result (two_parts c.args.item.now (term_size (scope_of c.args.scope.now).index (term_of c.args.expr.now)) (term_size (scope_of c.args.scope.now).index (term_of c.deref.result.now)) (term_size (scope_of c.args.scope.now).index (term_of c.deref-in-Binary.result.now)) c.emit_loose.new.item c.emit_loose-in-Binary.new.item (ap (term_size (scope_of c.args.scope.now).index) is) c.in_ok-emit_loose-in-Binary.ensures.item) c.emit_loose-in-Binary.ensures.item;
-      emits = on_ok c.emit_loose-in-Binary.result c.emit_loose-in-Binary.ensures.emits (λ p. record {
-        labels = operation_labels s.index c.args.draft.now.labels c.emit_loose.new.draft.labels _ c.in-Binary.op x y (term_of c.args.expr.now) is first.emits.labels p.labels;
-        code = λ rest. p.code rest ∙ first.emits.code _ ∙ ap (λ (l : List DraftEntry). c.args.draft.now.entries ++ l)
-            (parts_binary c.args.places.now (homes_of c.args.homes.now) s c.args.extent c.binary_asks-asked.result.0 c.args.want c.args.item.now c.args.draft.now.labels c.emit_loose.new.item c.emit_loose.new.draft.labels c.in-Binary.op x y (term_of c.args.expr.now) rest is c.binary_asks-asked.ensures.asked first.item first.emits.labels);
-      });
+      emits = on_ok c.emit_loose-in-Binary.result c.emit_loose-in-Binary.ensures.emits (binary_parts c.args.places.now (homes_of c.args.homes.now) s c.args.extent c.binary_asks-asked.result.0 c.args.want c.args.item.now c.emit_loose.new.item c.args.draft.now c.emit_loose.new.draft c.emit_loose-in-Binary.new.draft c.in-Binary.op x y (term_of c.args.expr.now) is c.binary_asks-asked.ensures.asked first.item first.emits);
     }
 
 pub emit_parts-returns-in-Shift : goal.emit_parts-returns-in-Shift
@@ -241,12 +196,7 @@ emit_parts-returns-in-Shift t c =
     let in_range : SFits w128 c.in-Shift.count = search rules in
     record {
       item = on_ok_weaker c.emit_loose-in-Shift.result (one_part c.args.item.now (term_size (scope_of c.args.scope.now).index (term_of c.args.expr.now)) (term_size (scope_of c.args.scope.now).index (term_of c.deref-arg.result.now)) c.emit_loose-in-Shift.new.item (ap (term_size (scope_of c.args.scope.now).index) is)) c.emit_loose-in-Shift.ensures.item;
-      emits = on_ok c.emit_loose-in-Shift.result c.emit_loose-in-Shift.ensures.emits (λ p. record {
-        labels = p.labels ∙ ap (λ (e : Term). c.args.draft.now.labels + labels s.index e) (sym is);
-        code = λ rest. p.code rest ∙ ap (λ (l : List DraftEntry). c.args.draft.now.entries ++ l)
-            (parts_shift c.args.places.now (homes_of c.args.homes.now) s c.args.extent c.shift_asks-asked.result.0 c.args.want c.args.item.now c.args.draft.now.labels c.in-Shift.left_shift e (term_of c.args.expr.now) c.in-Shift.count (to_z w128 (of_z w128 c.in-Shift.count)) rest
-            is (to_z-of_z w128 c.in-Shift.count in_range) c.shift_asks-asked.ensures.asked);
-      });
+      emits = on_ok c.emit_loose-in-Shift.result c.emit_loose-in-Shift.ensures.emits (shift_parts c.args.places.now (homes_of c.args.homes.now) s c.args.extent c.shift_asks-asked.result.0 c.args.want c.args.item.now c.args.draft.now c.emit_loose-in-Shift.new.draft c.in-Shift.left_shift e (term_of c.args.expr.now) c.in-Shift.count (to_z w128 (of_z w128 c.in-Shift.count)) is (to_z-of_z w128 c.in-Shift.count in_range) c.shift_asks-asked.ensures.asked);
     }
 
 pub emit_parts-returns-in-Cast : goal.emit_parts-returns-in-Cast
@@ -256,11 +206,7 @@ emit_parts-returns-in-Cast t c =
     let is : term_of c.args.expr.now ≡ Conversion e c.in-Cast.ty = cast_of c.args.expr.now c.in-Cast.arg c.in-Cast.ty c.deref-arg-in-Cast.result.now c.in-Cast.is c.deref-arg-in-Cast.ensures in
     record {
       item = on_ok_weaker c.emit_loose-in-Cast.result (one_part c.args.item.now (term_size (scope_of c.args.scope.now).index (term_of c.args.expr.now)) (term_size (scope_of c.args.scope.now).index (term_of c.deref-arg-in-Cast.result.now)) c.emit_loose-in-Cast.new.item (ap (term_size (scope_of c.args.scope.now).index) is)) c.emit_loose-in-Cast.ensures.item;
-      emits = on_ok c.emit_loose-in-Cast.result c.emit_loose-in-Cast.ensures.emits (λ p. record {
-        labels = p.labels ∙ ap (λ (e : Term). c.args.draft.now.labels + labels s.index e) (sym is);
-        code = λ rest. p.code rest ∙ ap (λ (l : List DraftEntry). c.args.draft.now.entries ++ l)
-            (parts_cast c.args.places.now (homes_of c.args.homes.now) s c.args.extent c.converted_extent-asked.result c.own_type-from.result c.args.want c.args.item.now c.args.draft.now.labels e (term_of c.args.expr.now) c.in-Cast.ty rest is c.own_type-from.ensures c.converted_extent-asked.ensures);
-      });
+      emits = on_ok c.emit_loose-in-Cast.result c.emit_loose-in-Cast.ensures.emits (cast_parts c.args.places.now (homes_of c.args.homes.now) s c.args.extent c.converted_extent-asked.result c.own_type-from.result c.args.want c.args.item.now c.args.draft.now c.emit_loose-in-Cast.new.draft e (term_of c.args.expr.now) c.in-Cast.ty is c.own_type-from.ensures c.converted_extent-asked.ensures);
     }
 
 -- ---- conditions
@@ -274,11 +220,7 @@ emit_jump-returns-in_ok-a-in-Compare t c =
     let sides = c.in_ok-a-in-Compare.ensures in
     record {
       item = on_any c.emit_branch.result (compared_size (scope_of c.args.scope.now).index c.args.item.now c.emit_compared.new.item c.in-Compare.op (term_of c.deref.result.now) (term_of c.deref-in-Compare.result.now) (term_of c.args.expr.now) is c.in_ok-a-in-Compare.ensures.item);
-      emits = on_ok c.emit_branch.result c.emit_branch.ensures (λ p. record {
-        labels = compared_labels s.index c.args.draft.now.labels _ c.in-Compare.op x y (term_of c.args.expr.now) is (p.labels ∙ sides.emits.labels);
-        code = λ rest. p.code rest ∙ sides.emits.code _ ∙ ap (λ (l : List DraftEntry). c.args.draft.now.entries ++ l)
-            (compare_is c.args.places.now (homes_of c.args.homes.now) s c.args.sense c.args.to c.side_type-want.result c.args.item.now c.args.draft.now.labels c.in-Compare.op x y (term_of c.args.expr.now) c.compared_number-number.result c.in_ok-a-in-Compare.a.number c.in_ok-a-in-Compare.b.number rest is c.side_type-want.ensures c.compared_number-number.ensures.number sides.left sides.right);
-      });
+      emits = on_ok c.emit_branch.result c.emit_branch.ensures (compare_emits c.args.places.now (homes_of c.args.homes.now) s c.args.sense c.args.to c.side_type-want.result c.args.item.now c.args.draft.now c.emit_compared.new.draft c.emit_branch.new.draft c.in-Compare.op x y (term_of c.args.expr.now) c.compared_number-number.result c.in_ok-a-in-Compare.a.number c.in_ok-a-in-Compare.b.number is c.side_type-want.ensures c.compared_number-number.ensures.number sides.left sides.right sides.emits);
     }
 
 pub emit_one_of-returns-in_ok-put-in-Compare : goal.emit_one_of-returns-in_ok-put-in-Compare
