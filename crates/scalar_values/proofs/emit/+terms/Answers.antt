@@ -19,16 +19,15 @@ use Rattle.kernel_tree.specs.declared.ops.Ty.{Ty}
 use Rattle.scalar_values.specs.Sides.{side_view}
 use Rattle.value_code.specs.ValueRegisters.{home, literal_home}
 use Rattle.value_code.specs.ItemWords.{Register}
-use Rattle.value_code.specs.Code.{HasParts, labels, added_number, is_fused, is_led, right_side, IsHeld, loose_code, one_of_code}
+use Rattle.value_code.specs.Code.{HasParts, labels, added_number, is_fused, is_led, right_side, IsHeld, loose_code}
 use Rattle.value_code.specs.declared.extent.Extent.TheVariants.{Whole}
-use Rattle.value_code.proofs.TermCode.{chosen_is, chosen_labels, two_more, compared_size, literal_item, literal_labels, held_code, side_number, side_parts, side_whole, placed_is, placed_labels, computed_is, offset_code, offset_labels, computed_labels, on_ok, on_and}
-use Rattle.value_code.proofs.IndexCode.{index_is}
+use Rattle.value_code.proofs.TermCode.{compared_size, literal_item, literal_labels, held_code, side_number, side_parts, side_whole, on_ok, on_and}
 use Rattle.value_code.proofs.NearOffsets.{no_items}
 use Rattle.scalar_values.proofs.TermItems.{on_any, with_value, then_is, else_is, left_below, right_below, truth_below, value_below, index_below, own_room, next_fits, whole_fits, part_room, after_room, left_room, right_room, led_fits, last_fits, last_room, either_left_room, either_mark_fits, either_right_room, either_last_fits, compared_room, compared_fits, truth_fits, not_fits, chosen_fits, chosen_room, still_given, over_given, both_given, either_given, compared_given, other_given, end_given, end_next, one_item, one_part, two_parts, two_items, both_items, either_items, choice_items, indexed_items, placed_item, placed_items, literal_size, computed_items, computed_home, offset_items, offset_home, by_number, by_part, by_register, loose_as, jump_as, loose_literal, loose_variable, compared_both}
 use Rattle.scalar_values.proofs.TermCalls.{unary_call, unary_room, shift_call, shift_room, cast_call, cast_room, two_call, read_call, yes_call, no_call, one_of_call, left_call, right_call, compare_call, chosen_call, both_call, either_call, not_call, sides_below, left_side_below, right_side_below, side_below, left_compared_below, right_compared_below, left_compared_room}
-use Rattle.scalar_values.proofs.TermKinds.{no_truth, no_value, no_parts, no_flags, picked_is, picked_labels}
+use Rattle.scalar_values.proofs.TermKinds.{no_truth, no_value, no_parts, no_flags}
 use Rattle.scalar_values.proofs.PartKinds.{and_of, binary_of, cast_of, compare_of, not_of, or_of, read_of, select_of, shift_of, unary_of}
-use Rattle.scalar_values.proofs.TermEmits.{unary_emits, shift_emits, cast_emits, choice_emits, two_emits, led_emits, straight_emits, binary_parts, shift_parts, cast_parts, compare_emits, both_emits, either_emits}
+use Rattle.scalar_values.proofs.TermEmits.{unary_emits, shift_emits, cast_emits, choice_emits, two_emits, led_emits, straight_emits, binary_parts, shift_parts, cast_parts, compare_emits, both_emits, either_emits, chosen_emits, picked_emits, placed_emits, element_emits, offset_emits, index_emits, item_as, home_as}
 use Rattle.scalar_values.proofs.emit.+terms.Goals as goal
 use Rattle.scalar_values.proofs.emit.+terms.Goals.{emit_both-then-sense, emit_both-else-sense, emit_either-then-sense, emit_either-else-sense}
 
@@ -118,10 +117,7 @@ emit_number-returns-in-Some t c =
     record {
       register = IfOk-weaker c.emit_offset.result _ _ (λ r p. p ∙ offset_home (stream_offset (scope_of c.args.scope.now).index (term_of c.args.number.now)) _ _ c.in-Some.ensures.word) c.emit_offset.ensures.register;
       item = on_any c.emit_offset.result (offset_items (stream_offset (scope_of c.args.scope.now).index (term_of c.args.number.now)) _ c.args.item.now (term_size (scope_of c.args.scope.now).index (term_of c.args.number.now)) c.in-Some.ensures.word);
-      emits = on_ok c.emit_offset.result c.emit_offset.ensures.emits (λ p. record {
-        labels = p.labels ∙ offset_labels (stream_offset s.index e) _ c.args.draft.now.labels (labels s.index e) c.in-Some.ensures.word;
-        code = λ rest. p.code rest ∙ ap (λ (l : List DraftEntry). c.args.draft.now.entries ++ l) (offset_code (stream_offset s.index e) _ _ rest c.in-Some.ensures.word);
-      });
+      emits = on_ok c.emit_offset.result c.emit_offset.ensures.emits (offset_emits c.args.places.now (homes_of c.args.homes.now) s c.args.item.now c.args.draft.now c.emit_offset.new.draft e _ c.in-Some.ensures.word);
     }
 
 pub emit_number-returns-in-None : goal.emit_number-returns-in-None
@@ -131,11 +127,7 @@ emit_number-returns-in-None t c =
     record {
       register = IfOk-weaker c.emit_loose.result _ _ (λ r p. p ∙ computed_home (stream_offset (scope_of c.args.scope.now).index (term_of c.args.number.now)) _ (sym c.in-None.ensures.word)) c.emit_loose.ensures.register;
       item = IfOk-equal c.emit_loose.result _ _ _ c.emit_loose.ensures.item (ap (λ (k : ℕ). c.args.item.now + k) (computed_items (stream_offset (scope_of c.args.scope.now).index (term_of c.args.number.now)) (term_size (scope_of c.args.scope.now).index (term_of c.args.number.now)) (sym c.in-None.ensures.word)));
-      emits = on_ok c.emit_loose.result c.emit_loose.ensures.emits (λ p. record {
-        labels = p.labels ∙ computed_labels (stream_offset s.index e) c.args.draft.now.labels (labels s.index e) (sym c.in-None.ensures.word);
-        code = λ rest. p.code rest ∙ ap (λ (l : List DraftEntry). c.args.draft.now.entries ++ l)
-            (index_is c.args.places.now (homes_of c.args.homes.now) (scope_of c.args.scope.now) c.args.item.now c.args.draft.now.labels e c.first-want.result rest (sym c.in-None.ensures.word) (c.first-want.ensures ∙ ap (λ (o : Option Ty). first o (Some ty.U64)) c.own_type.ensures));
-      });
+      emits = on_ok c.emit_loose.result c.emit_loose.ensures.emits (index_emits c.args.places.now (homes_of c.args.homes.now) s c.args.item.now c.args.draft.now c.emit_loose.new.draft e c.first-want.result (sym c.in-None.ensures.word) (c.first-want.ensures ∙ ap (λ (o : Option Ty). first o (Some ty.U64)) c.own_type.ensures));
     }
 
 -- ---- values of operators
@@ -233,15 +225,7 @@ emit_one_of-returns-in_ok-put-in-Compare t c =
     record {
       register = IfOk-weaker c.emit_chosen.result _ _ (λ r p. p ∙ ap (reg_of c.args.places.now) (compared_size (scope_of c.args.scope.now).index c.args.item.now c.emit_compared.new.item c.in-Compare.op (term_of c.deref.result.now) (term_of c.deref-in-Compare.result.now) (term_of c.args.cond.now) is c.in_ok-p-in-Compare.ensures.item)) c.emit_chosen.ensures.register;
       item = on_any c.emit_chosen.result (c.emit_chosen.ensures.item ∙ ap (λ (b : ℕ). b + 1) (compared_size (scope_of c.args.scope.now).index c.args.item.now c.emit_compared.new.item c.in-Compare.op (term_of c.deref.result.now) (term_of c.deref-in-Compare.result.now) (term_of c.args.cond.now) is c.in_ok-p-in-Compare.ensures.item));
-      emits = on_ok c.emit_chosen.result c.emit_chosen.ensures.emits (λ p. record {
-        labels = chosen_labels s.index c.args.draft.now.labels c.label.new.self.labels c.label-2.new.self.labels c.emit_compared.new.draft.labels c.put.new.self.labels c.emit_chosen.new.draft.labels c.in-Compare.op x y (term_of c.args.cond.now) is c.in_ok-other.ensures.count c.in_ok-end.ensures.count sides.emits.labels c.in_ok-put-in-Compare.ensures.labels p.labels;
-        code = λ rest. p.code rest ∙ c.in_ok-put-in-Compare.ensures.code _ ∙ sides.emits.code _ ∙ ap (λ (l : List DraftEntry). c.label-2.new.self.entries ++ l)
-            (chosen_is c.args.places.now (homes_of c.args.homes.now) s c.side_type-want.result c.args.item.now c.args.draft.now.labels c.label-2.new.self.labels c.in-Compare.op x y (term_of c.args.cond.now) c.compared_number-number.result (word_view c.compare_word.result) c.in_ok-p-in-Compare.p.number c.in_ok-p-in-Compare.q.number (reg_of c.args.places.now (c.emit_compared.new.item + 1)) c.args.a.number c.args.b.number rest
-            is c.side_type-want.ensures c.compared_number-number.ensures.number c.compare_word.ensures.word sides.left sides.right
-            (two_more c.args.draft.now.labels c.label.new.self.labels c.label-2.new.self.labels c.in_ok-other.ensures.count c.in_ok-end.ensures.count)
-            (ap (reg_of c.args.places.now) (compared_size s.index c.args.item.now c.emit_compared.new.item c.in-Compare.op x y (term_of c.args.cond.now) is sides.item)))
-            ∙ ap (λ (l : List DraftEntry). l ++ one_of_code c.args.places.now (homes_of c.args.homes.now) s c.args.item.now c.args.draft.now.labels (term_of c.args.cond.now) c.args.a.number c.args.b.number rest) (c.in_ok-end.ensures.entries ∙ c.in_ok-other.ensures.entries);
-      });
+      emits = on_ok c.emit_chosen.result c.emit_chosen.ensures.emits (chosen_emits c.args.places.now (homes_of c.args.homes.now) s c.side_type-want.result c.args.item.now c.emit_compared.new.item c.args.draft.now c.label.new.self c.label-2.new.self c.emit_compared.new.draft c.put.new.self c.emit_chosen.new.draft c.in-Compare.op x y (term_of c.args.cond.now) c.compared_number-number.result (word_view c.compare_word.result) c.in_ok-p-in-Compare.p.number c.in_ok-p-in-Compare.q.number c.args.a.number c.args.b.number is c.side_type-want.ensures c.compared_number-number.ensures.number c.compare_word.ensures.word sides.left sides.right sides.item c.in_ok-other.ensures.count c.in_ok-other.ensures.entries c.in_ok-end.ensures.count c.in_ok-end.ensures.entries sides.emits c.in_ok-put-in-Compare.ensures);
     }
 
 -- ---- right sides
@@ -302,11 +286,7 @@ emit_read-returns-in-Some t c =
     record {
       register = IfOk-weaker c.emit_load.result _ _ (λ r p. p ∙ ap (reg_of c.args.places.now) (placed_item c.args.item.now (index_items (scope_of c.args.scope.now).index (term_of c.args.index.now)) none)) c.emit_load.ensures.register;
       item = on_any c.emit_load.result (placed_items c.args.item.now (index_items (scope_of c.args.scope.now).index (term_of c.args.index.now)) c.emit_load.new.item none c.emit_load.ensures.item);
-      emits = on_ok c.emit_load.result c.emit_load.ensures.emits (λ p. record {
-        labels = p.labels ∙ placed_labels L hs s c.args.draft.now.labels a e c.in-Some.place.number place;
-        code = λ rest. p.code rest ∙ ap (λ (l : List DraftEntry). c.args.draft.now.entries ++ l)
-            (placed_is L hs s c.args.extent None c.args.item.now c.args.draft.now.labels a e c.array_type-ty.result (reg_of L c.args.item.now) c.in-Some.place.number c.index.result.number rest c.array_type-ty.ensures place refl c.index.ensures);
-      });
+      emits = on_ok c.emit_load.result c.emit_load.ensures.emits (placed_emits L hs s c.args.extent None c.args.item.now c.args.draft.now c.emit_load.new.draft a e c.array_type-ty.result c.in-Some.place.number c.index.result.number c.array_type-ty.ensures place c.index.ensures);
     }
 
 pub emit_read-returns-in_ok-x-in-None : goal.emit_read-returns-in_ok-x-in-None
@@ -321,11 +301,7 @@ emit_read-returns-in_ok-x-in-None t c =
     record {
       register = IfOk-weaker c.emit_load-in-None.result _ _ (λ r p. p ∙ ap (reg_of c.args.places.now) c.in_ok-x-in-None.ensures.item) c.emit_load-in-None.ensures.register;
       item = on_any c.emit_load-in-None.result (indexed_items c.args.item.now (index_items (scope_of c.args.scope.now).index (term_of c.args.index.now)) c.emit_number.new.item c.emit_load-in-None.new.item c.in_ok-x-in-None.ensures.item c.emit_load-in-None.ensures.item);
-      emits = on_ok c.emit_load-in-None.result c.emit_load-in-None.ensures.emits (λ p. record {
-        labels = p.labels ∙ index.emits.labels;
-        code = λ rest. p.code rest ∙ index.emits.code _ ∙ ap (λ (l : List DraftEntry). c.args.draft.now.entries ++ l)
-            (computed_is L hs s c.args.extent None c.args.item.now c.args.draft.now.labels a e c.array_type-ty.result (reg_of L c.emit_number.new.item) c.register_at.result.number c.in_ok-x-in-None.x.number rest c.array_type-ty.ensures place (ap (reg_of L) index.item) c.register_at.ensures index.register);
-      });
+      emits = on_ok c.emit_load-in-None.result c.emit_load-in-None.ensures.emits (element_emits L hs s c.args.extent None c.args.item.now c.emit_number.new.item c.args.draft.now c.emit_number.new.draft c.emit_load-in-None.new.draft a e c.array_type-ty.result c.register_at.result.number c.in_ok-x-in-None.x.number c.array_type-ty.ensures place index.item c.register_at.ensures index.register index.emits);
     }
 
 -- ---- what calls ask for: operands below what is emitted, of their kinds, whose items are numbered
@@ -559,7 +535,7 @@ pub emit_jump-returns-in-And : goal.emit_jump-returns-in-And
 emit_jump-returns-in-And t c =
     let is : term_of c.args.expr.now ≡ Both (term_of c.deref-in-And.result.now) (term_of c.deref-in-And-2.result.now) = and_of c.args.expr.now c.in-And.left c.in-And.right c.deref-in-And.result.now c.deref-in-And-2.result.now c.in-And.is c.deref-in-And.ensures c.deref-in-And-2.ensures in
     record {
-      item = IfOk-equal c.emit_both.result _ _ _ c.emit_both.ensures.item (ap (λ (e : Term). c.args.item.now + term_size (scope_of c.args.scope.now).index e) (sym is));
+      item = on_ok_weaker c.emit_both.result (item_as (scope_of c.args.scope.now).index c.args.item.now c.emit_both.new.item (term_of c.args.expr.now) _ is) c.emit_both.ensures.item;
       emits = on_ok_weaker c.emit_both.result (λ p. jump_as c.args.places.now (homes_of c.args.homes.now) (scope_of c.args.scope.now) c.args.sense c.args.to c.args.item.now c.args.draft.now c.emit_both.new.draft (term_of c.args.expr.now) (Both (term_of c.deref-in-And.result.now) (term_of c.deref-in-And-2.result.now)) is p) c.emit_both.ensures.emits;
     }
 
@@ -567,7 +543,7 @@ pub emit_jump-returns-in-Or : goal.emit_jump-returns-in-Or
 emit_jump-returns-in-Or t c =
     let is : term_of c.args.expr.now ≡ Either (term_of c.deref-in-Or.result.now) (term_of c.deref-in-Or-2.result.now) = or_of c.args.expr.now c.in-Or.left c.in-Or.right c.deref-in-Or.result.now c.deref-in-Or-2.result.now c.in-Or.is c.deref-in-Or.ensures c.deref-in-Or-2.ensures in
     record {
-      item = IfOk-equal c.emit_either.result _ _ _ c.emit_either.ensures.item (ap (λ (e : Term). c.args.item.now + term_size (scope_of c.args.scope.now).index e) (sym is));
+      item = on_ok_weaker c.emit_either.result (item_as (scope_of c.args.scope.now).index c.args.item.now c.emit_either.new.item (term_of c.args.expr.now) _ is) c.emit_either.ensures.item;
       emits = on_ok_weaker c.emit_either.result (λ p. jump_as c.args.places.now (homes_of c.args.homes.now) (scope_of c.args.scope.now) c.args.sense c.args.to c.args.item.now c.args.draft.now c.emit_either.new.draft (term_of c.args.expr.now) (Either (term_of c.deref-in-Or.result.now) (term_of c.deref-in-Or-2.result.now)) is p) c.emit_either.ensures.emits;
     }
 
@@ -598,7 +574,7 @@ emit_loose-returns-in-Lit t c =
     let in_range : SFits w128 c.in-Lit.value = search rules in
     record {
       register = IfOk-weaker c.emit_literal.result _ _ (λ r p. p ∙ ap (literal_home c.args.places.now c.args.item.now) (to_z-of_z w128 c.in-Lit.value in_range) ∙ ap (home c.args.places.now (homes_of c.args.homes.now) (scope_of c.args.scope.now).index c.args.item.now) (sym is)) c.emit_literal.ensures.register;
-      item = IfOk-equal c.emit_literal.result _ _ _ c.emit_literal.ensures.item (ap (λ (e : Term). c.args.item.now + term_size (scope_of c.args.scope.now).index e) (sym is));
+      item = on_ok_weaker c.emit_literal.result (item_as (scope_of c.args.scope.now).index c.args.item.now c.emit_literal.new.item (term_of c.args.expr.now) _ is) c.emit_literal.ensures.item;
       emits = on_ok_weaker c.emit_literal.result (λ p. loose_literal c.args.places.now (homes_of c.args.homes.now) (scope_of c.args.scope.now) c.args.extent c.args.want c.args.item.now c.args.draft.now c.emit_literal.new.draft (term_of c.args.expr.now) c.in-Lit.value (to_z w128 (of_z w128 c.in-Lit.value)) is (to_z-of_z w128 c.in-Lit.value in_range) p) c.emit_literal.ensures.emits;
     }
 
@@ -615,8 +591,8 @@ pub emit_loose-returns-in-Binary : goal.emit_loose-returns-in-Binary
 emit_loose-returns-in-Binary t c =
     let is : term_of c.args.expr.now ≡ Operation c.in-Binary.op (term_of c.deref.result.now) (term_of c.deref-in-Binary.result.now) = binary_of c.args.expr.now c.in-Binary.op c.in-Binary.left c.in-Binary.right c.deref.result.now c.deref-in-Binary.result.now c.in-Binary.is c.deref.ensures c.deref-in-Binary.ensures in
     record {
-      register = IfOk-weaker c.emit_two.result _ _ (λ r p. p ∙ ap (home c.args.places.now (homes_of c.args.homes.now) (scope_of c.args.scope.now).index c.args.item.now) (sym is)) c.emit_two.ensures.register;
-      item = IfOk-equal c.emit_two.result _ _ _ c.emit_two.ensures.item (ap (λ (e : Term). c.args.item.now + term_size (scope_of c.args.scope.now).index e) (sym is));
+      register = home_as c.args.places.now (homes_of c.args.homes.now) (scope_of c.args.scope.now).index c.args.item.now (term_of c.args.expr.now) (Operation c.in-Binary.op (term_of c.deref.result.now) (term_of c.deref-in-Binary.result.now)) register_number c.emit_two.result is c.emit_two.ensures.register;
+      item = on_ok_weaker c.emit_two.result (item_as (scope_of c.args.scope.now).index c.args.item.now c.emit_two.new.item (term_of c.args.expr.now) _ is) c.emit_two.ensures.item;
       emits = on_ok_weaker c.emit_two.result (λ p. loose_as c.args.places.now (homes_of c.args.homes.now) (scope_of c.args.scope.now) c.args.extent c.args.want c.args.item.now c.args.draft.now c.emit_two.new.draft (term_of c.args.expr.now) (Operation c.in-Binary.op (term_of c.deref.result.now) (term_of c.deref-in-Binary.result.now)) is p) c.emit_two.ensures.emits;
     }
 
@@ -624,8 +600,8 @@ pub emit_loose-returns-in-Read : goal.emit_loose-returns-in-Read
 emit_loose-returns-in-Read t c =
     let is : term_of c.args.expr.now ≡ Element (name_of c.in-Read.array) (term_of c.deref-in-Read.result.now) = read_of c.args.expr.now c.in-Read.array c.in-Read.index c.deref-in-Read.result.now c.in-Read.is c.deref-in-Read.ensures in
     record {
-      register = IfOk-weaker c.emit_read.result _ _ (λ r p. p ∙ ap (home c.args.places.now (homes_of c.args.homes.now) (scope_of c.args.scope.now).index c.args.item.now) (sym is)) c.emit_read.ensures.register;
-      item = IfOk-equal c.emit_read.result _ _ _ c.emit_read.ensures.item (ap (λ (e : Term). c.args.item.now + term_size (scope_of c.args.scope.now).index e) (sym is));
+      register = home_as c.args.places.now (homes_of c.args.homes.now) (scope_of c.args.scope.now).index c.args.item.now (term_of c.args.expr.now) (Element (name_of c.in-Read.array) (term_of c.deref-in-Read.result.now)) register_number c.emit_read.result is c.emit_read.ensures.register;
+      item = on_ok_weaker c.emit_read.result (item_as (scope_of c.args.scope.now).index c.args.item.now c.emit_read.new.item (term_of c.args.expr.now) _ is) c.emit_read.ensures.item;
       emits = on_ok_weaker c.emit_read.result (λ p. loose_as c.args.places.now (homes_of c.args.homes.now) (scope_of c.args.scope.now) c.args.extent c.args.want c.args.item.now c.args.draft.now c.emit_read.new.draft (term_of c.args.expr.now) (Element (name_of c.in-Read.array) (term_of c.deref-in-Read.result.now)) is (record { labels = p.labels; code = λ rest. p.code rest })) c.emit_read.ensures.emits;
     }
 
@@ -720,11 +696,7 @@ emit_one_of-returns-in_ok-emit_jump-in_default t c =
     record {
       register = IfOk-weaker c.emit_pick.result _ _ (λ r p. p ∙ ap (reg_of c.args.places.now) jump.item) c.emit_pick.ensures.register;
       item = on_any c.emit_pick.result (c.emit_pick.ensures.item ∙ ap (λ (b : ℕ). b + 1) jump.item);
-      emits = on_ok c.emit_pick.result c.emit_pick.ensures.emits (λ p. record {
-        labels = picked_labels c.args.draft.now.labels (labels (scope_of c.args.scope.now).index (term_of c.args.cond.now)) c.label.new.self.labels c.label-2.new.self.labels c.emit_jump.new.draft.labels c.emit_pick.new.draft.labels c.in_ok-other.ensures.count c.in_ok-end.ensures.count jump.emits.labels p.labels;
-        code = λ rest. p.code rest ∙ jump.emits.code _ ∙ ap (λ (l : List DraftEntry). c.label-2.new.self.entries ++ l) (picked_is c.args.places.now (homes_of c.args.homes.now) (scope_of c.args.scope.now) c.args.item.now c.args.draft.now.labels c.label-2.new.self.labels c.emit_jump.new.item c.in_ok-other.other (term_of c.args.cond.now) c.args.a.number c.args.b.number rest (no_flags (scope_of c.args.scope.now) c.args.cond.now c.in_default.not-Compare) c.in_ok-other.ensures.next (two_more c.args.draft.now.labels c.label.new.self.labels c.label-2.new.self.labels c.in_ok-other.ensures.count c.in_ok-end.ensures.count) jump.item)
-            ∙ ap (λ (l : List DraftEntry). l ++ one_of_code c.args.places.now (homes_of c.args.homes.now) (scope_of c.args.scope.now) c.args.item.now c.args.draft.now.labels (term_of c.args.cond.now) c.args.a.number c.args.b.number rest) (c.in_ok-end.ensures.entries ∙ c.in_ok-other.ensures.entries);
-      });
+      emits = on_ok c.emit_pick.result c.emit_pick.ensures.emits (picked_emits c.args.places.now (homes_of c.args.homes.now) (scope_of c.args.scope.now) c.args.item.now c.emit_jump.new.item c.in_ok-other.other c.args.draft.now c.label.new.self c.label-2.new.self c.emit_jump.new.draft c.emit_pick.new.draft (term_of c.args.cond.now) c.args.a.number c.args.b.number (no_flags (scope_of c.args.scope.now) c.args.cond.now c.in_default.not-Compare) c.in_ok-other.ensures.next jump.item c.in_ok-other.ensures.count c.in_ok-other.ensures.entries c.in_ok-end.ensures.count c.in_ok-end.ensures.entries jump.emits);
     }
 
 -- ---- what a `match` has left over
