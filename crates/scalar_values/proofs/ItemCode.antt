@@ -1,5 +1,5 @@
 -- The code of operators, loads and branches, put together from that of the words which calls append.
-use Rattle.std.proofs.Common.{◌≡◌, ℕ, ◌+◌, Bool, true, false, List, [], ◌∷◌, Option, Some, None, refl, sym, subst, ap, ◌∙◌, ◌<◌, ◌-◌, arith}
+use Rattle.std.proofs.Common.{◌≡◌, ℕ, ◌+◌, Bool, true, false, List, [], ◌∷◌, Option, Some, None, refl, sym, subst, ap, ◌∙◌, ◌<◌, ◌-◌, arith, ◌++◌}
 use Rattle.std.specs.Prelude.{ℤ, not, if◌then◌else◌}
 use Rattle.machine_model.specs.InstructionTable.{Listed}
 use Rattle.a64_code.specs.Table.{sbfm, ubfm, subs, sub, orr, orn, csel}
@@ -12,6 +12,8 @@ use Rattle.kernel_tree.specs.declared.ops.UnaryOp.TheVariants as unary
 use Rattle.kernel_tree.specs.Wrap.{bits_of, is_signed}
 use Rattle.kernel_meaning.specs.Operators.{shift_count}
 use Rattle.kernel_meaning.specs.TypeValues.{fits}
+use Rattle.label_fix.specs.Draft.{Drafted}
+use Rattle.label_fix.specs.Emits.{Emits}
 use Rattle.label_fix.specs.DraftRun.{Kind, Always, If, DraftEntry, Put, Branch, Place, word_of}
 use Rattle.label_fix.specs.Finished.{is_plain}
 use Rattle.scalar_words.specs.Words.{word_code, settle_word, copy_word, extending, extend_word, is_narrow, condition, at_type, operation_code}
@@ -194,3 +196,19 @@ no_not false v e f = refl
 pub not_not : (b v : Bool) → v ≡ not b → v ≡ false → b ≡ true
 not_not true v e f = refl
 not_not false v e f = absurd cc
+
+-- ---- what calls emit, one after another
+
+pub pick_emits : (d d1 d2 d3 d4 d5 : Drafted) (r e a b other end : ℕ) → r ≡ e → end ≡ other + 1 → Emits d d1 d.labels (word_code (copy_word r a)) → Emits d1 d2 d1.labels (λ rest. Branch Always end ∷ rest) → Emits d2 d3 d2.labels (λ rest. Place other ∷ rest) → Emits d3 d4 d3.labels (word_code (copy_word r b)) → Emits d4 d5 d4.labels (λ rest. Place end ∷ rest)
+    → Emits d d5 d.labels (pick_code e a b other)
+pick_emits d d1 d2 d3 d4 d5 r e a b other end f g p q s t u = record {
+  labels = u.labels ∙ t.labels ∙ s.labels ∙ q.labels ∙ p.labels;
+  code = λ rest. u.code rest ∙ t.code _ ∙ s.code _ ∙ q.code _ ∙ p.code _ ∙ ap (λ l. d.entries ++ l) (picked r e a b other end rest f g);
+}
+
+pub compared_emits : (d d1 d2 : Drafted) (op : CompareOp) (sense signed : Bool) (want : Option Ty) (number : Option ℕ) (a c to k : ℕ) (w : Listed) → zero_test op number ≡ None → signed ≡ signed_side want → w ≡ compare_word number a c → k ≡ turned sense (condition op signed)
+    → Emits d d1 d.labels (λ rest. Put w ∷ rest) → Emits d1 d2 d1.labels (λ rest. Branch (If k) to ∷ rest) → Emits d d2 d.labels (branch_code op sense (signed_side want) number a c to)
+compared_emits d d1 d2 op sense signed want number a c to k w e0 e1 e2 e3 p q = record {
+  labels = q.labels ∙ p.labels;
+  code = λ rest. q.code rest ∙ p.code _ ∙ ap (λ l. d.entries ++ l) (compared op sense signed want number a c to k w rest e0 e1 e2 e3);
+}
