@@ -45,9 +45,6 @@ absolute leaves op t d a rest e = rw e refl
 pub at_none : (want : Option Ty) (code : Ty → List DraftEntry) (rest : List DraftEntry) → want ≡ None → rest ≡ at_type want code rest
 at_none want code rest e = rw e refl
 
-pub at_some : (want : Option Ty) (t : Ty) (code : Ty → List DraftEntry) (rest : List DraftEntry) → want ≡ Some t → code t ≡ at_type want code rest
-at_some want t code rest e = rw e refl
-
 pub unary_at : (leaves : Bool) (op : UnaryOp) (want : Option Ty) (t : Ty) (d e a : ℕ) (rest : List DraftEntry) → want ≡ Some t → d ≡ e → unary_code leaves op t d a rest ≡ at_type want (λ t. unary_code leaves op t e a rest) rest
 unary_at leaves op want t d e a rest e0 e1 = rw (e0, e1) refl
 
@@ -181,13 +178,6 @@ second_place end n m k p q h e f g i = omega arith
 
 pub picked : (d e a b other end : ℕ) (rest : List DraftEntry) → d ≡ e → end ≡ other + 1 → word_code (copy_word d a) (Branch Always end ∷ Place other ∷ word_code (copy_word d b) (Place end ∷ rest)) ≡ pick_code e a b other rest
 picked d e a b other end rest e0 e1 = rw (e0, e1) refl
-
--- ---- whether a branch asks for zero
-
-pub same_kind : (sense zero : Bool) (k : Kind) (r : ℕ) → sense ≡ zero → k ≡ zero_kind true r → k ≡ zero_kind (same_sense sense zero) r
-same_kind true zero k r e h = h ∙ ap (λ b. zero_kind b r) e
-same_kind false true k r e h = absurd cc
-same_kind false false k r e h = h
 
 pub no_not : (b v : Bool) → v ≡ not b → v ≡ true → b ≡ false
 no_not true v e f = absurd cc
