@@ -19,15 +19,15 @@ use Rattle.kernel_tree.specs.declared.ops.Ty.{Ty}
 use Rattle.scalar_values.specs.Sides.{side_view}
 use Rattle.value_code.specs.ValueRegisters.{home, literal_home}
 use Rattle.value_code.specs.ItemWords.{Register}
-use Rattle.value_code.specs.Code.{HasParts, labels, added_number, is_fused, is_led, right_side, IsHeld, loose_code, jump_code, one_of_code}
+use Rattle.value_code.specs.Code.{HasParts, labels, added_number, is_fused, is_led, right_side, IsHeld, loose_code}
 use Rattle.value_code.specs.declared.extent.Extent.TheVariants.{Whole}
-use Rattle.scalar_values.proofs.OperatorCode.{two_is, led_sides, straight_sides}
-use Rattle.value_code.proofs.TermCode.{unary_is, shift_is, cast_is, parts_binary, operation_labels, parts_shift, parts_cast, compare_is, compared_labels, chosen_is, chosen_labels, two_more, compared_size, literal_item, literal_labels, held_code, side_number, side_parts, side_whole, placed_is, placed_labels, computed_is, both_is, either_is, joined_labels, choice_is, choice_labels, offset_code, offset_labels, computed_labels, on_ok, on_and}
-use Rattle.value_code.proofs.IndexCode.{index_is}
+use Rattle.value_code.proofs.TermCode.{compared_size, literal_item, literal_labels, held_code, side_number, side_parts, side_whole, on_ok, on_and}
 use Rattle.value_code.proofs.NearOffsets.{no_items}
 use Rattle.scalar_values.proofs.TermItems.{on_any, with_value, then_is, else_is, left_below, right_below, truth_below, value_below, index_below, own_room, next_fits, whole_fits, part_room, after_room, left_room, right_room, led_fits, last_fits, last_room, either_left_room, either_mark_fits, either_right_room, either_last_fits, compared_room, compared_fits, truth_fits, not_fits, chosen_fits, chosen_room, still_given, over_given, both_given, either_given, compared_given, other_given, end_given, end_next, one_item, one_part, two_parts, two_items, both_items, either_items, choice_items, indexed_items, placed_item, placed_items, literal_size, computed_items, computed_home, offset_items, offset_home, by_number, by_part, by_register, loose_as, jump_as, loose_literal, loose_variable, compared_both}
-use Rattle.scalar_values.proofs.TermCalls.{unary_call, unary_room, shift_call, shift_room, cast_call, cast_room, two_call, read_call, yes_call, no_call, one_of_call, left_call, right_call, compare_call, chosen_call, both_call, either_call, not_call, sides_below, left_side_below, right_side_below, side_below, left_compared_below, right_compared_below, left_compared_room, two_labels}
-use Rattle.scalar_values.proofs.TermKinds.{no_truth, no_value, no_parts, no_flags, picked_is, picked_labels}
+use Rattle.scalar_values.proofs.TermCalls.{unary_call, unary_room, shift_call, shift_room, cast_call, cast_room, two_call, read_call, yes_call, no_call, one_of_call, left_call, right_call, compare_call, chosen_call, both_call, either_call, not_call, sides_below, left_side_below, right_side_below, side_below, left_compared_below, right_compared_below, left_compared_room}
+use Rattle.scalar_values.proofs.TermKinds.{no_truth, no_value, no_parts, no_flags}
+use Rattle.scalar_values.proofs.PartKinds.{and_of, binary_of, cast_of, compare_of, not_of, or_of, read_of, select_of, shift_of, unary_of}
+use Rattle.scalar_values.proofs.TermEmits.{unary_emits, shift_emits, cast_emits, choice_emits, two_emits, led_emits, straight_emits, binary_parts, shift_parts, cast_parts, compare_emits, both_emits, either_emits, chosen_emits, picked_emits, placed_emits, element_emits, offset_emits, index_emits, item_as, home_as}
 use Rattle.scalar_values.proofs.emit.+terms.Goals as goal
 use Rattle.scalar_values.proofs.emit.+terms.Goals.{emit_both-then-sense, emit_both-else-sense, emit_either-then-sense, emit_either-else-sense}
 
@@ -35,13 +35,7 @@ pub emit_two-returns : goal.emit_two-returns
 emit_two-returns t c = record {
   register = with_value c.want_operator.result c.take-r.result _ c.and.ensures (c.take-r.ensures.register ∙ ap (reg_of c.args.places.now) c.in_ok-sides.ensures.item);
   item = on_any c.and.result (two_items c.args.item.now (term_size (scope_of c.args.scope.now).index (term_of c.args.left.now)) (term_size (scope_of c.args.scope.now).index (term_of c.args.right.now)) c.emit_sides.new.item c.take-r.new.item c.in_ok-sides.ensures.item c.take-r.ensures.item);
-  emits = on_and c.want_operator.result c.take-r.result c.and.ensures c.want_operator.ensures (λ p. record {
-    labels = p.labels ∙ c.in_ok-sides.ensures.emits.labels;
-    code = λ rest. p.code rest ∙ c.in_ok-sides.ensures.emits.code _ ∙ ap (λ (l : List DraftEntry). c.args.draft.now.entries ++ l)
-        (two_is c.args.places.now (homes_of c.args.homes.now) (scope_of c.args.scope.now) c.args.extent c.binary_asks-asked.result.0 c.args.want c.args.item.now c.args.draft.now.labels c.args.op (term_of c.args.left.now) (term_of c.args.right.now) (side_view c.in_ok-sides.sides.0) c.binary_asks-asked.result.1 c.take-r.result.number c.in_ok-sides.sides.1.number rest
-        c.binary_asks-asked.ensures.asked c.in_ok-sides.ensures.side c.binary_asks-asked.ensures.settles
-        (c.take-r.ensures.register ∙ ap (reg_of c.args.places.now) c.in_ok-sides.ensures.item) c.in_ok-sides.ensures.other);
-  });
+  emits = on_and c.want_operator.result c.take-r.result c.and.ensures c.want_operator.ensures (two_emits c.args.places.now (homes_of c.args.homes.now) (scope_of c.args.scope.now) c.args.extent c.binary_asks-asked.result.0 c.args.want c.args.item.now c.emit_sides.new.item c.args.draft.now c.emit_sides.new.draft c.want_operator.new.draft c.args.op (term_of c.args.left.now) (term_of c.args.right.now) (side_view c.in_ok-sides.sides.0) c.binary_asks-asked.result.1 c.take-r.result.number c.in_ok-sides.sides.1.number c.binary_asks-asked.ensures.asked c.in_ok-sides.ensures.side c.binary_asks-asked.ensures.settles c.take-r.ensures.register c.in_ok-sides.ensures.item c.in_ok-sides.ensures.other c.in_ok-sides.ensures.emits);
 }
 
 -- a left side that stands in the word
@@ -50,11 +44,7 @@ emit_sides-returns-in_ok-r t c = record {
   side = c.part_side-side.ensures ∙ then_is (is_led c.args.places.now (homes_of c.args.homes.now) (scope_of c.args.scope.now) c.args.op c.args.extent c.args.want c.args.item.now (term_of c.args.left.now) (term_of c.args.right.now)) _ _ (sym c.is_led.ensures.led ∙ c.if-is_led.true);
   other = c.in_ok-r.ensures.register ∙ ap (λ (b : ℕ). home c.args.places.now (homes_of c.args.homes.now) (scope_of c.args.scope.now).index b (term_of c.args.right.now)) c.in_ok-emit_parts.ensures.item ∙ then_is (is_led c.args.places.now (homes_of c.args.homes.now) (scope_of c.args.scope.now) c.args.op c.args.extent c.args.want c.args.item.now (term_of c.args.left.now) (term_of c.args.right.now)) _ _ (sym c.is_led.ensures.led ∙ c.if-is_led.true);
   item = c.in_ok-r.ensures.item ∙ ap (λ (b : ℕ). b + term_size (scope_of c.args.scope.now).index (term_of c.args.right.now)) c.in_ok-emit_parts.ensures.item;
-  emits = record {
-    labels = two_labels c.args.draft.now.labels (labels (scope_of c.args.scope.now).index (term_of c.args.left.now)) (labels (scope_of c.args.scope.now).index (term_of c.args.right.now)) c.emit_parts.new.draft.labels _ c.in_ok-emit_parts.ensures.emits.labels c.in_ok-r.ensures.emits.labels;
-    code = λ rest. c.in_ok-r.ensures.emits.code rest ∙ c.in_ok-emit_parts.ensures.emits.code _ ∙ ap (λ (l : List DraftEntry). c.args.draft.now.entries ++ l)
-        (led_sides c.args.places.now (homes_of c.args.homes.now) (scope_of c.args.scope.now) c.args.extent c.args.want c.args.item.now c.args.draft.now.labels (c.emit_parts.new.item + 1) c.emit_parts.new.draft.labels c.args.op (term_of c.args.left.now) (term_of c.args.right.now) rest (sym c.is_led.ensures.led ∙ c.if-is_led.true) c.in_ok-emit_parts.ensures.item c.in_ok-emit_parts.ensures.emits.labels);
-  };
+  emits = led_emits c.args.places.now (homes_of c.args.homes.now) (scope_of c.args.scope.now) c.args.extent c.args.want c.args.item.now (c.emit_parts.new.item + 1) c.args.draft.now c.emit_parts.new.draft c.emit_loose.new.draft c.args.op (term_of c.args.left.now) (term_of c.args.right.now) (sym c.is_led.ensures.led ∙ c.if-is_led.true) c.in_ok-emit_parts.ensures.item c.in_ok-emit_parts.ensures.emits c.in_ok-r.ensures.emits;
 }
 
 -- and one that does not
@@ -63,11 +53,7 @@ emit_sides-returns-in_ok-side t c = record {
   side = c.in_ok-side.ensures.side ∙ ap (λ (b : ℕ). right_side c.args.places.now (homes_of c.args.homes.now) (scope_of c.args.scope.now) c.args.op c.args.extent c.args.want b (term_of c.args.right.now)) c.in_ok-r-2.ensures.item ∙ else_is (is_led c.args.places.now (homes_of c.args.homes.now) (scope_of c.args.scope.now) c.args.op c.args.extent c.args.want c.args.item.now (term_of c.args.left.now) (term_of c.args.right.now)) _ _ (sym c.is_led.ensures.led ∙ c.if-is_led.false);
   other = c.in_ok-r-2.ensures.register ∙ else_is (is_led c.args.places.now (homes_of c.args.homes.now) (scope_of c.args.scope.now) c.args.op c.args.extent c.args.want c.args.item.now (term_of c.args.left.now) (term_of c.args.right.now)) _ _ (sym c.is_led.ensures.led ∙ c.if-is_led.false);
   item = c.in_ok-side.ensures.item ∙ ap (λ (b : ℕ). b + term_size (scope_of c.args.scope.now).index (term_of c.args.right.now)) c.in_ok-r-2.ensures.item;
-  emits = record {
-    labels = two_labels c.args.draft.now.labels (labels (scope_of c.args.scope.now).index (term_of c.args.left.now)) (labels (scope_of c.args.scope.now).index (term_of c.args.right.now)) c.emit_loose-else-is_led.new.draft.labels _ c.in_ok-r-2.ensures.emits.labels c.in_ok-side.ensures.emits.labels;
-    code = λ rest. c.in_ok-side.ensures.emits.code rest ∙ c.in_ok-r-2.ensures.emits.code _ ∙ ap (λ (l : List DraftEntry). c.args.draft.now.entries ++ l)
-        (straight_sides c.args.places.now (homes_of c.args.homes.now) (scope_of c.args.scope.now) c.args.extent c.args.want c.args.item.now c.args.draft.now.labels c.emit_loose-else-is_led.new.item c.emit_loose-else-is_led.new.draft.labels c.args.op (term_of c.args.left.now) (term_of c.args.right.now) rest (sym c.is_led.ensures.led ∙ c.if-is_led.false) c.in_ok-r-2.ensures.item c.in_ok-r-2.ensures.emits.labels);
-  };
+  emits = straight_emits c.args.places.now (homes_of c.args.homes.now) (scope_of c.args.scope.now) c.args.extent c.args.want c.args.item.now c.emit_loose-else-is_led.new.item c.args.draft.now c.emit_loose-else-is_led.new.draft c.emit_side.new.draft c.args.op (term_of c.args.left.now) (term_of c.args.right.now) (sym c.is_led.ensures.led ∙ c.if-is_led.false) c.in_ok-r-2.ensures.item c.in_ok-r-2.ensures.emits c.in_ok-side.ensures.emits;
 }
 
 pub emit_both-returns : goal.emit_both-returns
@@ -75,12 +61,7 @@ emit_both-returns t c =
     let first : c.if-sense.first ≡ (if c.args.sense then c.in_ok-over.over else c.args.to) = elim c.if-sense.branch [ emit_both-then-sense w ↦ w.first-is ∙ sym (ap (λ (v : Bool). if v then c.in_ok-over.over else c.args.to) w.if-sense.true) | emit_both-else-sense w ↦ w.first-is ∙ sym (ap (λ (v : Bool). if v then c.in_ok-over.over else c.args.to) w.if-sense.false) ] in
     record {
       item = on_any c.emit_placed.result (both_items c.args.item.now (term_size (scope_of c.args.scope.now).index (term_of c.args.left.now)) (term_size (scope_of c.args.scope.now).index (term_of c.args.right.now)) c.emit_jump.new.item c.emit_jump-2.new.item c.in_ok-emit_jump.ensures.item c.in_ok-emit_jump-2.ensures.item);
-      emits = on_ok c.emit_placed.result c.emit_placed.ensures (λ p. record {
-        labels = joined_labels c.args.draft.now.labels c.label.new.self.labels c.emit_jump.new.draft.labels c.emit_jump-2.new.draft.labels c.emit_placed.new.draft.labels _ _ c.in_ok-over.ensures.count c.in_ok-emit_jump.ensures.emits.labels c.in_ok-emit_jump-2.ensures.emits.labels p.labels;
-        code = λ rest. p.code rest ∙ c.in_ok-emit_jump-2.ensures.emits.code _ ∙ c.in_ok-emit_jump.ensures.emits.code _ ∙ ap (λ (l : List DraftEntry). c.label.new.self.entries ++ l)
-            (both_is c.args.places.now (homes_of c.args.homes.now) (scope_of c.args.scope.now) c.args.sense c.args.to c.in_ok-over.over c.if-sense.first c.args.item.now c.args.draft.now.labels c.emit_jump.new.item c.label.new.self.labels c.emit_jump.new.draft.labels (term_of c.args.left.now) (term_of c.args.right.now) rest first c.in_ok-over.ensures.next c.in_ok-over.ensures.count c.in_ok-emit_jump.ensures.item c.in_ok-emit_jump.ensures.emits.labels)
-            ∙ ap (λ (l : List DraftEntry). l ++ jump_code c.args.places.now (homes_of c.args.homes.now) (scope_of c.args.scope.now) c.args.sense c.args.to c.args.item.now c.args.draft.now.labels (Both (term_of c.args.left.now) (term_of c.args.right.now)) rest) c.in_ok-over.ensures.entries;
-      });
+      emits = on_ok c.emit_placed.result c.emit_placed.ensures (both_emits c.args.places.now (homes_of c.args.homes.now) (scope_of c.args.scope.now) c.args.sense c.args.to c.in_ok-over.over c.if-sense.first c.args.item.now c.emit_jump.new.item c.args.draft.now c.label.new.self c.emit_jump.new.draft c.emit_jump-2.new.draft c.emit_placed.new.draft (term_of c.args.left.now) (term_of c.args.right.now) first c.in_ok-over.ensures.next c.in_ok-over.ensures.count c.in_ok-over.ensures.entries c.in_ok-emit_jump.ensures.item c.in_ok-emit_jump.ensures.emits c.in_ok-emit_jump-2.ensures.emits);
     }
 
 pub emit_either-returns : goal.emit_either-returns
@@ -88,12 +69,7 @@ emit_either-returns t c =
     let first : c.if-sense.first ≡ (if c.args.sense then c.args.to else c.in_ok-over.over) = elim c.if-sense.branch [ emit_either-then-sense w ↦ w.first-is ∙ sym (ap (λ (v : Bool). if v then c.args.to else c.in_ok-over.over) w.if-sense.true) | emit_either-else-sense w ↦ w.first-is ∙ sym (ap (λ (v : Bool). if v then c.args.to else c.in_ok-over.over) w.if-sense.false) ] in
     record {
       item = on_any c.emit_placed.result (either_items c.args.item.now (term_size (scope_of c.args.scope.now).index (term_of c.args.left.now)) (term_size (scope_of c.args.scope.now).index (term_of c.args.right.now)) c.emit_jump.new.item c.emit_jump-2.new.item c.in_ok-emit_jump.ensures.item c.in_ok-emit_jump-2.ensures.item);
-      emits = on_ok c.emit_placed.result c.emit_placed.ensures (λ p. record {
-        labels = joined_labels c.args.draft.now.labels c.label.new.self.labels c.emit_jump.new.draft.labels c.emit_jump-2.new.draft.labels c.emit_placed.new.draft.labels _ _ c.in_ok-over.ensures.count c.in_ok-emit_jump.ensures.emits.labels c.in_ok-emit_jump-2.ensures.emits.labels p.labels;
-        code = λ rest. p.code rest ∙ c.in_ok-emit_jump-2.ensures.emits.code _ ∙ c.in_ok-emit_jump.ensures.emits.code _ ∙ ap (λ (l : List DraftEntry). c.label.new.self.entries ++ l)
-            (either_is c.args.places.now (homes_of c.args.homes.now) (scope_of c.args.scope.now) c.args.sense c.args.to c.in_ok-over.over c.if-sense.first c.args.item.now c.args.draft.now.labels c.emit_jump.new.item c.label.new.self.labels c.emit_jump.new.draft.labels (term_of c.args.left.now) (term_of c.args.right.now) rest first c.in_ok-over.ensures.next c.in_ok-over.ensures.count c.in_ok-emit_jump.ensures.item c.in_ok-emit_jump.ensures.emits.labels)
-            ∙ ap (λ (l : List DraftEntry). l ++ jump_code c.args.places.now (homes_of c.args.homes.now) (scope_of c.args.scope.now) c.args.sense c.args.to c.args.item.now c.args.draft.now.labels (Either (term_of c.args.left.now) (term_of c.args.right.now)) rest) c.in_ok-over.ensures.entries;
-      });
+      emits = on_ok c.emit_placed.result c.emit_placed.ensures (either_emits c.args.places.now (homes_of c.args.homes.now) (scope_of c.args.scope.now) c.args.sense c.args.to c.in_ok-over.over c.if-sense.first c.args.item.now c.emit_jump.new.item c.args.draft.now c.label.new.self c.emit_jump.new.draft c.emit_jump-2.new.draft c.emit_placed.new.draft (term_of c.args.left.now) (term_of c.args.right.now) first c.in_ok-over.ensures.next c.in_ok-over.ensures.count c.in_ok-over.ensures.entries c.in_ok-emit_jump.ensures.item c.in_ok-emit_jump.ensures.emits c.in_ok-emit_jump-2.ensures.emits);
     }
 
 pub emit_loose-returns-in_ok-b-in-Select : goal.emit_loose-returns-in_ok-b-in-Select
@@ -102,17 +78,13 @@ emit_loose-returns-in_ok-b-in-Select t c =
     let x = term_of c.deref-in-Select.result.now in
     let y = term_of c.deref-in-Select-2.result.now in
     let k = term_of c.deref-in-Select-3.result.now in
-    let is : term_of c.args.expr.now ≡ Choice k x y = rw (c.in-Select.is, c.deref-in-Select.ensures, c.deref-in-Select-2.ensures, c.deref-in-Select-3.ensures) refl in
+    let is : term_of c.args.expr.now ≡ Choice k x y = select_of c.args.expr.now c.in-Select.cond c.in-Select.yes c.in-Select.no c.deref-in-Select-3.result.now c.deref-in-Select.result.now c.deref-in-Select-2.result.now c.in-Select.is c.deref-in-Select-3.ensures c.deref-in-Select.ensures c.deref-in-Select-2.ensures in
     let first = c.in_ok-a-in-Select.ensures in
     let second = c.in_ok-b-in-Select.ensures in
     record {
       register = IfOk-weaker c.emit_one_of.result _ _ (λ r p. p ∙ ap (λ (b : ℕ). reg_of c.args.places.now (b + term_size (scope_of c.args.scope.now).index (term_of c.deref-in-Select-3.result.now))) (c.in_ok-b-in-Select.ensures.item ∙ ap (λ (b : ℕ). b + term_size (scope_of c.args.scope.now).index (term_of c.deref-in-Select-2.result.now)) c.in_ok-a-in-Select.ensures.item) ∙ ap (home c.args.places.now (homes_of c.args.homes.now) (scope_of c.args.scope.now).index c.args.item.now) (sym is)) c.emit_one_of.ensures.register;
       item = on_ok_weaker c.emit_one_of.result (choice_items c.args.item.now (term_size (scope_of c.args.scope.now).index (term_of c.args.expr.now)) (term_size (scope_of c.args.scope.now).index (term_of c.deref-in-Select.result.now)) (term_size (scope_of c.args.scope.now).index (term_of c.deref-in-Select-2.result.now)) (term_size (scope_of c.args.scope.now).index (term_of c.deref-in-Select-3.result.now)) c.emit_loose-in-Select.new.item c.emit_loose-in-Select-2.new.item c.emit_one_of.new.item (ap (term_size (scope_of c.args.scope.now).index) is) c.in_ok-a-in-Select.ensures.item c.in_ok-b-in-Select.ensures.item) c.emit_one_of.ensures.item;
-      emits = on_ok c.emit_one_of.result c.emit_one_of.ensures.emits (λ p. record {
-        labels = choice_labels s.index c.args.draft.now.labels c.emit_loose-in-Select.new.draft.labels c.emit_loose-in-Select-2.new.draft.labels _ k x y (term_of c.args.expr.now) is first.emits.labels second.emits.labels p.labels;
-        code = λ rest. p.code rest ∙ second.emits.code _ ∙ first.emits.code _ ∙ ap (λ (l : List DraftEntry). c.args.draft.now.entries ++ l)
-            (choice_is c.args.places.now (homes_of c.args.homes.now) s c.args.extent c.args.want c.args.item.now c.args.draft.now.labels c.emit_loose-in-Select.new.item c.emit_loose-in-Select.new.draft.labels c.emit_loose-in-Select-2.new.item c.emit_loose-in-Select-2.new.draft.labels k x y (term_of c.args.expr.now) c.in_ok-a-in-Select.a.number c.in_ok-b-in-Select.b.number rest is first.register second.register second.item second.emits.labels first.item first.emits.labels);
-      });
+      emits = on_ok c.emit_one_of.result c.emit_one_of.ensures.emits (choice_emits c.args.places.now (homes_of c.args.homes.now) s c.args.extent c.args.want c.args.item.now c.emit_loose-in-Select.new.item c.emit_loose-in-Select-2.new.item c.args.draft.now c.emit_loose-in-Select.new.draft c.emit_loose-in-Select-2.new.draft c.emit_one_of.new.draft k x y (term_of c.args.expr.now) c.in_ok-a-in-Select.a.number c.in_ok-b-in-Select.b.number is first.register second.register first.item second.item first.emits second.emits);
     }
 
 -- a right side that its word holds as a number
@@ -145,10 +117,7 @@ emit_number-returns-in-Some t c =
     record {
       register = IfOk-weaker c.emit_offset.result _ _ (λ r p. p ∙ offset_home (stream_offset (scope_of c.args.scope.now).index (term_of c.args.number.now)) _ _ c.in-Some.ensures.word) c.emit_offset.ensures.register;
       item = on_any c.emit_offset.result (offset_items (stream_offset (scope_of c.args.scope.now).index (term_of c.args.number.now)) _ c.args.item.now (term_size (scope_of c.args.scope.now).index (term_of c.args.number.now)) c.in-Some.ensures.word);
-      emits = on_ok c.emit_offset.result c.emit_offset.ensures.emits (λ p. record {
-        labels = p.labels ∙ offset_labels (stream_offset s.index e) _ c.args.draft.now.labels (labels s.index e) c.in-Some.ensures.word;
-        code = λ rest. p.code rest ∙ ap (λ (l : List DraftEntry). c.args.draft.now.entries ++ l) (offset_code (stream_offset s.index e) _ _ rest c.in-Some.ensures.word);
-      });
+      emits = on_ok c.emit_offset.result c.emit_offset.ensures.emits (offset_emits c.args.places.now (homes_of c.args.homes.now) s c.args.item.now c.args.draft.now c.emit_offset.new.draft e _ c.in-Some.ensures.word);
     }
 
 pub emit_number-returns-in-None : goal.emit_number-returns-in-None
@@ -158,11 +127,7 @@ emit_number-returns-in-None t c =
     record {
       register = IfOk-weaker c.emit_loose.result _ _ (λ r p. p ∙ computed_home (stream_offset (scope_of c.args.scope.now).index (term_of c.args.number.now)) _ (sym c.in-None.ensures.word)) c.emit_loose.ensures.register;
       item = IfOk-equal c.emit_loose.result _ _ _ c.emit_loose.ensures.item (ap (λ (k : ℕ). c.args.item.now + k) (computed_items (stream_offset (scope_of c.args.scope.now).index (term_of c.args.number.now)) (term_size (scope_of c.args.scope.now).index (term_of c.args.number.now)) (sym c.in-None.ensures.word)));
-      emits = on_ok c.emit_loose.result c.emit_loose.ensures.emits (λ p. record {
-        labels = p.labels ∙ computed_labels (stream_offset s.index e) c.args.draft.now.labels (labels s.index e) (sym c.in-None.ensures.word);
-        code = λ rest. p.code rest ∙ ap (λ (l : List DraftEntry). c.args.draft.now.entries ++ l)
-            (index_is c.args.places.now (homes_of c.args.homes.now) (scope_of c.args.scope.now) c.args.item.now c.args.draft.now.labels e c.first-want.result rest (sym c.in-None.ensures.word) (c.first-want.ensures ∙ ap (λ (o : Option Ty). first o (Some ty.U64)) c.own_type.ensures));
-      });
+      emits = on_ok c.emit_loose.result c.emit_loose.ensures.emits (index_emits c.args.places.now (homes_of c.args.homes.now) s c.args.item.now c.args.draft.now c.emit_loose.new.draft e c.first-want.result (sym c.in-None.ensures.word) (c.first-want.ensures ∙ ap (λ (o : Option Ty). first o (Some ty.U64)) c.own_type.ensures));
     }
 
 -- ---- values of operators
@@ -171,47 +136,34 @@ pub emit_loose-returns-in_ok-a-in-Unary : goal.emit_loose-returns-in_ok-a-in-Una
 emit_loose-returns-in_ok-a-in-Unary t c =
     let s = scope_of c.args.scope.now in
     let e = term_of c.deref-arg.result.now in
-    let is : term_of c.args.expr.now ≡ Unary c.in-Unary.op e = rw (c.in-Unary.is, c.deref-arg.ensures) refl in
+    let is : term_of c.args.expr.now ≡ Unary c.in-Unary.op e = unary_of c.args.expr.now c.in-Unary.op c.in-Unary.arg c.deref-arg.result.now c.in-Unary.is c.deref-arg.ensures in
     record {
       register = IfOk-weaker c.want_unary.result _ _ (λ r p. p ∙ ap (reg_of c.args.places.now) c.in_ok-a-in-Unary.ensures.item ∙ ap (home c.args.places.now (homes_of c.args.homes.now) (scope_of c.args.scope.now).index c.args.item.now) (sym is)) c.want_unary.ensures.register;
       item = on_any c.want_unary.result (one_item c.args.item.now (term_size (scope_of c.args.scope.now).index (term_of c.args.expr.now)) (term_size (scope_of c.args.scope.now).index (term_of c.deref-arg.result.now)) c.emit_loose.new.item c.want_unary.new.item (ap (term_size (scope_of c.args.scope.now).index) is) c.in_ok-a-in-Unary.ensures.item c.want_unary.ensures.item);
-      emits = on_ok c.want_unary.result c.want_unary.ensures.emits (λ p. record {
-        labels = p.labels ∙ c.in_ok-a-in-Unary.ensures.emits.labels ∙ ap (λ (e : Term). c.args.draft.now.labels + labels s.index e) (sym is);
-        code = λ rest. p.code rest ∙ c.in_ok-a-in-Unary.ensures.emits.code _ ∙ ap (λ (l : List DraftEntry). c.args.draft.now.entries ++ l)
-            (unary_is c.args.places.now (homes_of c.args.homes.now) s c.args.extent c.unary_asks-asked.result.0 c.args.want c.args.item.now c.args.draft.now.labels c.in-Unary.op e (term_of c.args.expr.now) c.unary_asks-asked.result.1 (reg_of c.args.places.now c.emit_loose.new.item) c.in_ok-a-in-Unary.a.number rest is c.unary_asks-asked.ensures.asked c.unary_asks-asked.ensures.settles (ap (reg_of c.args.places.now) c.in_ok-a-in-Unary.ensures.item) c.in_ok-a-in-Unary.ensures.register);
-      });
+      emits = on_ok c.want_unary.result c.want_unary.ensures.emits (unary_emits c.args.places.now (homes_of c.args.homes.now) s c.args.extent c.unary_asks-asked.result.0 c.args.want c.args.item.now c.emit_loose.new.item c.args.draft.now c.emit_loose.new.draft c.want_unary.new.draft c.in-Unary.op e (term_of c.args.expr.now) c.unary_asks-asked.result.1 c.in_ok-a-in-Unary.a.number is c.unary_asks-asked.ensures.asked c.unary_asks-asked.ensures.settles c.in_ok-a-in-Unary.ensures.item c.in_ok-a-in-Unary.ensures.register c.in_ok-a-in-Unary.ensures.emits);
     }
 
 pub emit_loose-returns-in_ok-a-in-Shift : goal.emit_loose-returns-in_ok-a-in-Shift
 emit_loose-returns-in_ok-a-in-Shift t c =
     let s = scope_of c.args.scope.now in
     let e = term_of c.deref-arg-in-Shift.result.now in
-    let is : term_of c.args.expr.now ≡ Shift c.in-Shift.left_shift e c.in-Shift.count = rw (c.in-Shift.is, c.deref-arg-in-Shift.ensures) refl in
+    let is : term_of c.args.expr.now ≡ Shift c.in-Shift.left_shift e c.in-Shift.count = shift_of c.args.expr.now c.in-Shift.left_shift c.in-Shift.arg c.in-Shift.count c.deref-arg-in-Shift.result.now c.in-Shift.is c.deref-arg-in-Shift.ensures in
     let in_range : SFits w128 c.in-Shift.count = search rules in
     record {
       register = IfOk-weaker c.want_shift.result _ _ (λ r p. p ∙ ap (reg_of c.args.places.now) c.in_ok-a-in-Shift.ensures.item ∙ ap (home c.args.places.now (homes_of c.args.homes.now) (scope_of c.args.scope.now).index c.args.item.now) (sym is)) c.want_shift.ensures.register;
       item = on_any c.want_shift.result (one_item c.args.item.now (term_size (scope_of c.args.scope.now).index (term_of c.args.expr.now)) (term_size (scope_of c.args.scope.now).index (term_of c.deref-arg-in-Shift.result.now)) c.emit_loose-in-Shift.new.item c.want_shift.new.item (ap (term_size (scope_of c.args.scope.now).index) is) c.in_ok-a-in-Shift.ensures.item c.want_shift.ensures.item);
-      emits = on_ok c.want_shift.result c.want_shift.ensures.emits (λ p. record {
-        labels = p.labels ∙ c.in_ok-a-in-Shift.ensures.emits.labels ∙ ap (λ (e : Term). c.args.draft.now.labels + labels s.index e) (sym is);
-        code = λ rest. p.code rest ∙ c.in_ok-a-in-Shift.ensures.emits.code _ ∙ ap (λ (l : List DraftEntry). c.args.draft.now.entries ++ l)
-            (shift_is c.args.places.now (homes_of c.args.homes.now) s c.args.extent c.shift_asks-asked.result.0 c.args.want c.args.item.now c.args.draft.now.labels c.in-Shift.left_shift e (term_of c.args.expr.now) c.in-Shift.count (to_z w128 (of_z w128 c.in-Shift.count)) c.shift_asks-asked.result.1 (reg_of c.args.places.now c.emit_loose-in-Shift.new.item) c.in_ok-a-in-Shift.a.number rest
-            is (to_z-of_z w128 c.in-Shift.count in_range) c.shift_asks-asked.ensures.asked c.shift_asks-asked.ensures.settles (ap (reg_of c.args.places.now) c.in_ok-a-in-Shift.ensures.item) c.in_ok-a-in-Shift.ensures.register);
-      });
+      emits = on_ok c.want_shift.result c.want_shift.ensures.emits (shift_emits c.args.places.now (homes_of c.args.homes.now) s c.args.extent c.shift_asks-asked.result.0 c.args.want c.args.item.now c.emit_loose-in-Shift.new.item c.args.draft.now c.emit_loose-in-Shift.new.draft c.want_shift.new.draft c.in-Shift.left_shift e (term_of c.args.expr.now) c.in-Shift.count (to_z w128 (of_z w128 c.in-Shift.count)) c.shift_asks-asked.result.1 c.in_ok-a-in-Shift.a.number is (to_z-of_z w128 c.in-Shift.count in_range) c.shift_asks-asked.ensures.asked c.shift_asks-asked.ensures.settles c.in_ok-a-in-Shift.ensures.item c.in_ok-a-in-Shift.ensures.register c.in_ok-a-in-Shift.ensures.emits);
     }
 
 pub emit_loose-returns-in_ok-a-in-Cast : goal.emit_loose-returns-in_ok-a-in-Cast
 emit_loose-returns-in_ok-a-in-Cast t c =
     let s = scope_of c.args.scope.now in
     let e = term_of c.deref-arg-in-Cast.result.now in
-    let is : term_of c.args.expr.now ≡ Conversion e c.in-Cast.ty = rw (c.in-Cast.is, c.deref-arg-in-Cast.ensures) refl in
+    let is : term_of c.args.expr.now ≡ Conversion e c.in-Cast.ty = cast_of c.args.expr.now c.in-Cast.arg c.in-Cast.ty c.deref-arg-in-Cast.result.now c.in-Cast.is c.deref-arg-in-Cast.ensures in
     record {
       register = IfOk-weaker c.want_cast.result _ _ (λ r p. p ∙ ap (reg_of c.args.places.now) c.in_ok-a-in-Cast.ensures.item ∙ ap (home c.args.places.now (homes_of c.args.homes.now) (scope_of c.args.scope.now).index c.args.item.now) (sym is)) c.want_cast.ensures.register;
       item = on_any c.want_cast.result (one_item c.args.item.now (term_size (scope_of c.args.scope.now).index (term_of c.args.expr.now)) (term_size (scope_of c.args.scope.now).index (term_of c.deref-arg-in-Cast.result.now)) c.emit_loose-in-Cast.new.item c.want_cast.new.item (ap (term_size (scope_of c.args.scope.now).index) is) c.in_ok-a-in-Cast.ensures.item c.want_cast.ensures.item);
-      emits = on_ok c.want_cast.result c.want_cast.ensures.emits (λ p. record {
-        labels = p.labels ∙ c.in_ok-a-in-Cast.ensures.emits.labels ∙ ap (λ (e : Term). c.args.draft.now.labels + labels s.index e) (sym is);
-        code = λ rest. p.code rest ∙ c.in_ok-a-in-Cast.ensures.emits.code _ ∙ ap (λ (l : List DraftEntry). c.args.draft.now.entries ++ l)
-            (cast_is c.args.places.now (homes_of c.args.homes.now) s c.args.extent c.converted_extent-asked.result c.own_type-from.result c.args.want c.args.item.now c.args.draft.now.labels e (term_of c.args.expr.now) c.in-Cast.ty c.within_type.result (reg_of c.args.places.now c.emit_loose-in-Cast.new.item) c.in_ok-a-in-Cast.a.number rest is c.own_type-from.ensures c.converted_extent-asked.ensures c.within_type.ensures (ap (reg_of c.args.places.now) c.in_ok-a-in-Cast.ensures.item) c.in_ok-a-in-Cast.ensures.register);
-      });
+      emits = on_ok c.want_cast.result c.want_cast.ensures.emits (cast_emits c.args.places.now (homes_of c.args.homes.now) s c.args.extent c.converted_extent-asked.result c.own_type-from.result c.args.want c.args.item.now c.emit_loose-in-Cast.new.item c.args.draft.now c.emit_loose-in-Cast.new.draft c.want_cast.new.draft e (term_of c.args.expr.now) c.in-Cast.ty c.within_type.result c.in_ok-a-in-Cast.a.number is c.own_type-from.ensures c.converted_extent-asked.ensures c.within_type.ensures c.in_ok-a-in-Cast.ensures.item c.in_ok-a-in-Cast.ensures.register c.in_ok-a-in-Cast.ensures.emits);
     }
 
 -- ---- values that stand in the word of their user
@@ -221,45 +173,32 @@ emit_parts-returns-in_ok-emit_loose-in-Binary t c =
     let s = scope_of c.args.scope.now in
     let x = term_of c.deref.result.now in
     let y = term_of c.deref-in-Binary.result.now in
-    let is : term_of c.args.expr.now ≡ Operation c.in-Binary.op x y = rw (c.in-Binary.is, c.deref.ensures, c.deref-in-Binary.ensures) refl in
+    let is : term_of c.args.expr.now ≡ Operation c.in-Binary.op x y = binary_of c.args.expr.now c.in-Binary.op c.in-Binary.left c.in-Binary.right c.deref.result.now c.deref-in-Binary.result.now c.in-Binary.is c.deref.ensures c.deref-in-Binary.ensures in
     let first = c.in_ok-emit_loose-in-Binary.ensures in
     record {
       item = on_ok_weaker c.emit_loose-in-Binary.result (two_parts c.args.item.now (term_size (scope_of c.args.scope.now).index (term_of c.args.expr.now)) (term_size (scope_of c.args.scope.now).index (term_of c.deref.result.now)) (term_size (scope_of c.args.scope.now).index (term_of c.deref-in-Binary.result.now)) c.emit_loose.new.item c.emit_loose-in-Binary.new.item (ap (term_size (scope_of c.args.scope.now).index) is) c.in_ok-emit_loose-in-Binary.ensures.item) c.emit_loose-in-Binary.ensures.item;
-      emits = on_ok c.emit_loose-in-Binary.result c.emit_loose-in-Binary.ensures.emits (λ p. record {
-        labels = operation_labels s.index c.args.draft.now.labels c.emit_loose.new.draft.labels _ c.in-Binary.op x y (term_of c.args.expr.now) is first.emits.labels p.labels;
-        code = λ rest. p.code rest ∙ first.emits.code _ ∙ ap (λ (l : List DraftEntry). c.args.draft.now.entries ++ l)
-            (parts_binary c.args.places.now (homes_of c.args.homes.now) s c.args.extent c.binary_asks-asked.result.0 c.args.want c.args.item.now c.args.draft.now.labels c.emit_loose.new.item c.emit_loose.new.draft.labels c.in-Binary.op x y (term_of c.args.expr.now) rest is c.binary_asks-asked.ensures.asked first.item first.emits.labels);
-      });
+      emits = on_ok c.emit_loose-in-Binary.result c.emit_loose-in-Binary.ensures.emits (binary_parts c.args.places.now (homes_of c.args.homes.now) s c.args.extent c.binary_asks-asked.result.0 c.args.want c.args.item.now c.emit_loose.new.item c.args.draft.now c.emit_loose.new.draft c.emit_loose-in-Binary.new.draft c.in-Binary.op x y (term_of c.args.expr.now) is c.binary_asks-asked.ensures.asked first.item first.emits);
     }
 
 pub emit_parts-returns-in-Shift : goal.emit_parts-returns-in-Shift
 emit_parts-returns-in-Shift t c =
     let s = scope_of c.args.scope.now in
     let e = term_of c.deref-arg.result.now in
-    let is : term_of c.args.expr.now ≡ Shift c.in-Shift.left_shift e c.in-Shift.count = rw (c.in-Shift.is, c.deref-arg.ensures) refl in
+    let is : term_of c.args.expr.now ≡ Shift c.in-Shift.left_shift e c.in-Shift.count = shift_of c.args.expr.now c.in-Shift.left_shift c.in-Shift.arg c.in-Shift.count c.deref-arg.result.now c.in-Shift.is c.deref-arg.ensures in
     let in_range : SFits w128 c.in-Shift.count = search rules in
     record {
       item = on_ok_weaker c.emit_loose-in-Shift.result (one_part c.args.item.now (term_size (scope_of c.args.scope.now).index (term_of c.args.expr.now)) (term_size (scope_of c.args.scope.now).index (term_of c.deref-arg.result.now)) c.emit_loose-in-Shift.new.item (ap (term_size (scope_of c.args.scope.now).index) is)) c.emit_loose-in-Shift.ensures.item;
-      emits = on_ok c.emit_loose-in-Shift.result c.emit_loose-in-Shift.ensures.emits (λ p. record {
-        labels = p.labels ∙ ap (λ (e : Term). c.args.draft.now.labels + labels s.index e) (sym is);
-        code = λ rest. p.code rest ∙ ap (λ (l : List DraftEntry). c.args.draft.now.entries ++ l)
-            (parts_shift c.args.places.now (homes_of c.args.homes.now) s c.args.extent c.shift_asks-asked.result.0 c.args.want c.args.item.now c.args.draft.now.labels c.in-Shift.left_shift e (term_of c.args.expr.now) c.in-Shift.count (to_z w128 (of_z w128 c.in-Shift.count)) rest
-            is (to_z-of_z w128 c.in-Shift.count in_range) c.shift_asks-asked.ensures.asked);
-      });
+      emits = on_ok c.emit_loose-in-Shift.result c.emit_loose-in-Shift.ensures.emits (shift_parts c.args.places.now (homes_of c.args.homes.now) s c.args.extent c.shift_asks-asked.result.0 c.args.want c.args.item.now c.args.draft.now c.emit_loose-in-Shift.new.draft c.in-Shift.left_shift e (term_of c.args.expr.now) c.in-Shift.count (to_z w128 (of_z w128 c.in-Shift.count)) is (to_z-of_z w128 c.in-Shift.count in_range) c.shift_asks-asked.ensures.asked);
     }
 
 pub emit_parts-returns-in-Cast : goal.emit_parts-returns-in-Cast
 emit_parts-returns-in-Cast t c =
     let s = scope_of c.args.scope.now in
     let e = term_of c.deref-arg-in-Cast.result.now in
-    let is : term_of c.args.expr.now ≡ Conversion e c.in-Cast.ty = rw (c.in-Cast.is, c.deref-arg-in-Cast.ensures) refl in
+    let is : term_of c.args.expr.now ≡ Conversion e c.in-Cast.ty = cast_of c.args.expr.now c.in-Cast.arg c.in-Cast.ty c.deref-arg-in-Cast.result.now c.in-Cast.is c.deref-arg-in-Cast.ensures in
     record {
       item = on_ok_weaker c.emit_loose-in-Cast.result (one_part c.args.item.now (term_size (scope_of c.args.scope.now).index (term_of c.args.expr.now)) (term_size (scope_of c.args.scope.now).index (term_of c.deref-arg-in-Cast.result.now)) c.emit_loose-in-Cast.new.item (ap (term_size (scope_of c.args.scope.now).index) is)) c.emit_loose-in-Cast.ensures.item;
-      emits = on_ok c.emit_loose-in-Cast.result c.emit_loose-in-Cast.ensures.emits (λ p. record {
-        labels = p.labels ∙ ap (λ (e : Term). c.args.draft.now.labels + labels s.index e) (sym is);
-        code = λ rest. p.code rest ∙ ap (λ (l : List DraftEntry). c.args.draft.now.entries ++ l)
-            (parts_cast c.args.places.now (homes_of c.args.homes.now) s c.args.extent c.converted_extent-asked.result c.own_type-from.result c.args.want c.args.item.now c.args.draft.now.labels e (term_of c.args.expr.now) c.in-Cast.ty rest is c.own_type-from.ensures c.converted_extent-asked.ensures);
-      });
+      emits = on_ok c.emit_loose-in-Cast.result c.emit_loose-in-Cast.ensures.emits (cast_parts c.args.places.now (homes_of c.args.homes.now) s c.args.extent c.converted_extent-asked.result c.own_type-from.result c.args.want c.args.item.now c.args.draft.now c.emit_loose-in-Cast.new.draft e (term_of c.args.expr.now) c.in-Cast.ty is c.own_type-from.ensures c.converted_extent-asked.ensures);
     }
 
 -- ---- conditions
@@ -269,15 +208,11 @@ emit_jump-returns-in_ok-a-in-Compare t c =
     let s = scope_of c.args.scope.now in
     let x = term_of c.deref.result.now in
     let y = term_of c.deref-in-Compare.result.now in
-    let is : term_of c.args.expr.now ≡ Comparison c.in-Compare.op x y = rw (c.in-Compare.is, c.deref.ensures, c.deref-in-Compare.ensures) refl in
+    let is : term_of c.args.expr.now ≡ Comparison c.in-Compare.op x y = compare_of c.args.expr.now c.in-Compare.op c.in-Compare.left c.in-Compare.right c.deref.result.now c.deref-in-Compare.result.now c.in-Compare.is c.deref.ensures c.deref-in-Compare.ensures in
     let sides = c.in_ok-a-in-Compare.ensures in
     record {
       item = on_any c.emit_branch.result (compared_size (scope_of c.args.scope.now).index c.args.item.now c.emit_compared.new.item c.in-Compare.op (term_of c.deref.result.now) (term_of c.deref-in-Compare.result.now) (term_of c.args.expr.now) is c.in_ok-a-in-Compare.ensures.item);
-      emits = on_ok c.emit_branch.result c.emit_branch.ensures (λ p. record {
-        labels = compared_labels s.index c.args.draft.now.labels _ c.in-Compare.op x y (term_of c.args.expr.now) is (p.labels ∙ sides.emits.labels);
-        code = λ rest. p.code rest ∙ sides.emits.code _ ∙ ap (λ (l : List DraftEntry). c.args.draft.now.entries ++ l)
-            (compare_is c.args.places.now (homes_of c.args.homes.now) s c.args.sense c.args.to c.side_type-want.result c.args.item.now c.args.draft.now.labels c.in-Compare.op x y (term_of c.args.expr.now) c.compared_number-number.result c.in_ok-a-in-Compare.a.number c.in_ok-a-in-Compare.b.number rest is c.side_type-want.ensures c.compared_number-number.ensures.number sides.left sides.right);
-      });
+      emits = on_ok c.emit_branch.result c.emit_branch.ensures (compare_emits c.args.places.now (homes_of c.args.homes.now) s c.args.sense c.args.to c.side_type-want.result c.args.item.now c.args.draft.now c.emit_compared.new.draft c.emit_branch.new.draft c.in-Compare.op x y (term_of c.args.expr.now) c.compared_number-number.result c.in_ok-a-in-Compare.a.number c.in_ok-a-in-Compare.b.number is c.side_type-want.ensures c.compared_number-number.ensures.number sides.left sides.right sides.emits);
     }
 
 pub emit_one_of-returns-in_ok-put-in-Compare : goal.emit_one_of-returns-in_ok-put-in-Compare
@@ -285,20 +220,12 @@ emit_one_of-returns-in_ok-put-in-Compare t c =
     let s = scope_of c.args.scope.now in
     let x = term_of c.deref.result.now in
     let y = term_of c.deref-in-Compare.result.now in
-    let is : term_of c.args.cond.now ≡ Comparison c.in-Compare.op x y = rw (c.in-Compare.is, c.deref.ensures, c.deref-in-Compare.ensures) refl in
+    let is : term_of c.args.cond.now ≡ Comparison c.in-Compare.op x y = compare_of c.args.cond.now c.in-Compare.op c.in-Compare.left c.in-Compare.right c.deref.result.now c.deref-in-Compare.result.now c.in-Compare.is c.deref.ensures c.deref-in-Compare.ensures in
     let sides = c.in_ok-p-in-Compare.ensures in
     record {
       register = IfOk-weaker c.emit_chosen.result _ _ (λ r p. p ∙ ap (reg_of c.args.places.now) (compared_size (scope_of c.args.scope.now).index c.args.item.now c.emit_compared.new.item c.in-Compare.op (term_of c.deref.result.now) (term_of c.deref-in-Compare.result.now) (term_of c.args.cond.now) is c.in_ok-p-in-Compare.ensures.item)) c.emit_chosen.ensures.register;
       item = on_any c.emit_chosen.result (c.emit_chosen.ensures.item ∙ ap (λ (b : ℕ). b + 1) (compared_size (scope_of c.args.scope.now).index c.args.item.now c.emit_compared.new.item c.in-Compare.op (term_of c.deref.result.now) (term_of c.deref-in-Compare.result.now) (term_of c.args.cond.now) is c.in_ok-p-in-Compare.ensures.item));
-      emits = on_ok c.emit_chosen.result c.emit_chosen.ensures.emits (λ p. record {
-        labels = chosen_labels s.index c.args.draft.now.labels c.label.new.self.labels c.label-2.new.self.labels c.emit_compared.new.draft.labels c.put.new.self.labels c.emit_chosen.new.draft.labels c.in-Compare.op x y (term_of c.args.cond.now) is c.in_ok-other.ensures.count c.in_ok-end.ensures.count sides.emits.labels c.in_ok-put-in-Compare.ensures.labels p.labels;
-        code = λ rest. p.code rest ∙ c.in_ok-put-in-Compare.ensures.code _ ∙ sides.emits.code _ ∙ ap (λ (l : List DraftEntry). c.label-2.new.self.entries ++ l)
-            (chosen_is c.args.places.now (homes_of c.args.homes.now) s c.side_type-want.result c.args.item.now c.args.draft.now.labels c.label-2.new.self.labels c.in-Compare.op x y (term_of c.args.cond.now) c.compared_number-number.result (word_view c.compare_word.result) c.in_ok-p-in-Compare.p.number c.in_ok-p-in-Compare.q.number (reg_of c.args.places.now (c.emit_compared.new.item + 1)) c.args.a.number c.args.b.number rest
-            is c.side_type-want.ensures c.compared_number-number.ensures.number c.compare_word.ensures.word sides.left sides.right
-            (two_more c.args.draft.now.labels c.label.new.self.labels c.label-2.new.self.labels c.in_ok-other.ensures.count c.in_ok-end.ensures.count)
-            (ap (reg_of c.args.places.now) (compared_size s.index c.args.item.now c.emit_compared.new.item c.in-Compare.op x y (term_of c.args.cond.now) is sides.item)))
-            ∙ ap (λ (l : List DraftEntry). l ++ one_of_code c.args.places.now (homes_of c.args.homes.now) s c.args.item.now c.args.draft.now.labels (term_of c.args.cond.now) c.args.a.number c.args.b.number rest) (c.in_ok-end.ensures.entries ∙ c.in_ok-other.ensures.entries);
-      });
+      emits = on_ok c.emit_chosen.result c.emit_chosen.ensures.emits (chosen_emits c.args.places.now (homes_of c.args.homes.now) s c.side_type-want.result c.args.item.now c.emit_compared.new.item c.args.draft.now c.label.new.self c.label-2.new.self c.emit_compared.new.draft c.put.new.self c.emit_chosen.new.draft c.in-Compare.op x y (term_of c.args.cond.now) c.compared_number-number.result (word_view c.compare_word.result) c.in_ok-p-in-Compare.p.number c.in_ok-p-in-Compare.q.number c.args.a.number c.args.b.number is c.side_type-want.ensures c.compared_number-number.ensures.number c.compare_word.ensures.word sides.left sides.right sides.item c.in_ok-other.ensures.count c.in_ok-other.ensures.entries c.in_ok-end.ensures.count c.in_ok-end.ensures.entries sides.emits c.in_ok-put-in-Compare.ensures);
     }
 
 -- ---- right sides
@@ -359,11 +286,7 @@ emit_read-returns-in-Some t c =
     record {
       register = IfOk-weaker c.emit_load.result _ _ (λ r p. p ∙ ap (reg_of c.args.places.now) (placed_item c.args.item.now (index_items (scope_of c.args.scope.now).index (term_of c.args.index.now)) none)) c.emit_load.ensures.register;
       item = on_any c.emit_load.result (placed_items c.args.item.now (index_items (scope_of c.args.scope.now).index (term_of c.args.index.now)) c.emit_load.new.item none c.emit_load.ensures.item);
-      emits = on_ok c.emit_load.result c.emit_load.ensures.emits (λ p. record {
-        labels = p.labels ∙ placed_labels L hs s c.args.draft.now.labels a e c.in-Some.place.number place;
-        code = λ rest. p.code rest ∙ ap (λ (l : List DraftEntry). c.args.draft.now.entries ++ l)
-            (placed_is L hs s c.args.extent None c.args.item.now c.args.draft.now.labels a e c.array_type-ty.result (reg_of L c.args.item.now) c.in-Some.place.number c.index.result.number rest c.array_type-ty.ensures place refl c.index.ensures);
-      });
+      emits = on_ok c.emit_load.result c.emit_load.ensures.emits (placed_emits L hs s c.args.extent None c.args.item.now c.args.draft.now c.emit_load.new.draft a e c.array_type-ty.result c.in-Some.place.number c.index.result.number c.array_type-ty.ensures place c.index.ensures);
     }
 
 pub emit_read-returns-in_ok-x-in-None : goal.emit_read-returns-in_ok-x-in-None
@@ -378,47 +301,43 @@ emit_read-returns-in_ok-x-in-None t c =
     record {
       register = IfOk-weaker c.emit_load-in-None.result _ _ (λ r p. p ∙ ap (reg_of c.args.places.now) c.in_ok-x-in-None.ensures.item) c.emit_load-in-None.ensures.register;
       item = on_any c.emit_load-in-None.result (indexed_items c.args.item.now (index_items (scope_of c.args.scope.now).index (term_of c.args.index.now)) c.emit_number.new.item c.emit_load-in-None.new.item c.in_ok-x-in-None.ensures.item c.emit_load-in-None.ensures.item);
-      emits = on_ok c.emit_load-in-None.result c.emit_load-in-None.ensures.emits (λ p. record {
-        labels = p.labels ∙ index.emits.labels;
-        code = λ rest. p.code rest ∙ index.emits.code _ ∙ ap (λ (l : List DraftEntry). c.args.draft.now.entries ++ l)
-            (computed_is L hs s c.args.extent None c.args.item.now c.args.draft.now.labels a e c.array_type-ty.result (reg_of L c.emit_number.new.item) c.register_at.result.number c.in_ok-x-in-None.x.number rest c.array_type-ty.ensures place (ap (reg_of L) index.item) c.register_at.ensures index.register);
-      });
+      emits = on_ok c.emit_load-in-None.result c.emit_load-in-None.ensures.emits (element_emits L hs s c.args.extent None c.args.item.now c.emit_number.new.item c.args.draft.now c.emit_number.new.draft c.emit_load-in-None.new.draft a e c.array_type-ty.result c.register_at.result.number c.in_ok-x-in-None.x.number c.array_type-ty.ensures place index.item c.register_at.ensures index.register index.emits);
     }
 
 -- ---- what calls ask for: operands below what is emitted, of their kinds, whose items are numbered
 
 pub emit_loose-emit_loose-requires : goal.emit_loose-emit_loose-requires
-emit_loose-emit_loose-requires t c = unary_call (scope_of c.args.scope.now).index t c.args.item.now c.in-Unary.op (term_of c.args.expr.now) (term_of c.deref-arg.result.now) (rw (c.in-Unary.is, c.deref-arg.ensures) refl) c.decreases c.requires.kind c.requires.fits
+emit_loose-emit_loose-requires t c = unary_call (scope_of c.args.scope.now).index t c.args.item.now c.in-Unary.op (term_of c.args.expr.now) (term_of c.deref-arg.result.now) (unary_of c.args.expr.now c.in-Unary.op c.in-Unary.arg c.deref-arg.result.now c.in-Unary.is c.deref-arg.ensures) c.decreases c.requires.kind c.requires.fits
 
 pub emit_loose-want_unary-requires : goal.emit_loose-want_unary-requires
-emit_loose-want_unary-requires t c = unary_room (scope_of c.args.scope.now).index c.args.item.now c.emit_loose.new.item c.in-Unary.op (term_of c.args.expr.now) (term_of c.deref-arg.result.now) (rw (c.in-Unary.is, c.deref-arg.ensures) refl) c.in_ok-a-in-Unary.ensures.item c.requires.fits
+emit_loose-want_unary-requires t c = unary_room (scope_of c.args.scope.now).index c.args.item.now c.emit_loose.new.item c.in-Unary.op (term_of c.args.expr.now) (term_of c.deref-arg.result.now) (unary_of c.args.expr.now c.in-Unary.op c.in-Unary.arg c.deref-arg.result.now c.in-Unary.is c.deref-arg.ensures) c.in_ok-a-in-Unary.ensures.item c.requires.fits
 
 pub emit_loose-emit_loose-requires-in-Shift : goal.emit_loose-emit_loose-requires-in-Shift
-emit_loose-emit_loose-requires-in-Shift t c = shift_call (scope_of c.args.scope.now).index t c.args.item.now c.in-Shift.left_shift c.in-Shift.count (term_of c.args.expr.now) (term_of c.deref-arg-in-Shift.result.now) (rw (c.in-Shift.is, c.deref-arg-in-Shift.ensures) refl) c.decreases c.requires.kind c.requires.fits
+emit_loose-emit_loose-requires-in-Shift t c = shift_call (scope_of c.args.scope.now).index t c.args.item.now c.in-Shift.left_shift c.in-Shift.count (term_of c.args.expr.now) (term_of c.deref-arg-in-Shift.result.now) (shift_of c.args.expr.now c.in-Shift.left_shift c.in-Shift.arg c.in-Shift.count c.deref-arg-in-Shift.result.now c.in-Shift.is c.deref-arg-in-Shift.ensures) c.decreases c.requires.kind c.requires.fits
 
 pub emit_loose-want_shift-requires : goal.emit_loose-want_shift-requires
-emit_loose-want_shift-requires t c = shift_room (scope_of c.args.scope.now).index c.args.item.now c.emit_loose-in-Shift.new.item c.in-Shift.left_shift c.in-Shift.count (term_of c.args.expr.now) (term_of c.deref-arg-in-Shift.result.now) (rw (c.in-Shift.is, c.deref-arg-in-Shift.ensures) refl) c.in_ok-a-in-Shift.ensures.item c.requires.fits
+emit_loose-want_shift-requires t c = shift_room (scope_of c.args.scope.now).index c.args.item.now c.emit_loose-in-Shift.new.item c.in-Shift.left_shift c.in-Shift.count (term_of c.args.expr.now) (term_of c.deref-arg-in-Shift.result.now) (shift_of c.args.expr.now c.in-Shift.left_shift c.in-Shift.arg c.in-Shift.count c.deref-arg-in-Shift.result.now c.in-Shift.is c.deref-arg-in-Shift.ensures) c.in_ok-a-in-Shift.ensures.item c.requires.fits
 
 pub emit_loose-emit_loose-requires-in-Cast : goal.emit_loose-emit_loose-requires-in-Cast
-emit_loose-emit_loose-requires-in-Cast t c = cast_call (scope_of c.args.scope.now).index t c.args.item.now c.in-Cast.ty (term_of c.args.expr.now) (term_of c.deref-arg-in-Cast.result.now) (rw (c.in-Cast.is, c.deref-arg-in-Cast.ensures) refl) c.decreases c.requires.kind c.requires.fits
+emit_loose-emit_loose-requires-in-Cast t c = cast_call (scope_of c.args.scope.now).index t c.args.item.now c.in-Cast.ty (term_of c.args.expr.now) (term_of c.deref-arg-in-Cast.result.now) (cast_of c.args.expr.now c.in-Cast.arg c.in-Cast.ty c.deref-arg-in-Cast.result.now c.in-Cast.is c.deref-arg-in-Cast.ensures) c.decreases c.requires.kind c.requires.fits
 
 pub emit_loose-want_cast-requires : goal.emit_loose-want_cast-requires
-emit_loose-want_cast-requires t c = cast_room (scope_of c.args.scope.now).index c.args.item.now c.emit_loose-in-Cast.new.item c.in-Cast.ty (term_of c.args.expr.now) (term_of c.deref-arg-in-Cast.result.now) (rw (c.in-Cast.is, c.deref-arg-in-Cast.ensures) refl) c.in_ok-a-in-Cast.ensures.item c.requires.fits
+emit_loose-want_cast-requires t c = cast_room (scope_of c.args.scope.now).index c.args.item.now c.emit_loose-in-Cast.new.item c.in-Cast.ty (term_of c.args.expr.now) (term_of c.deref-arg-in-Cast.result.now) (cast_of c.args.expr.now c.in-Cast.arg c.in-Cast.ty c.deref-arg-in-Cast.result.now c.in-Cast.is c.deref-arg-in-Cast.ensures) c.in_ok-a-in-Cast.ensures.item c.requires.fits
 
 pub emit_loose-emit_two-requires : goal.emit_loose-emit_two-requires
-emit_loose-emit_two-requires t c = two_call (scope_of c.args.scope.now).index t c.args.item.now c.in-Binary.op (term_of c.args.expr.now) (term_of c.deref.result.now) (term_of c.deref-in-Binary.result.now) (rw (c.in-Binary.is, c.deref.ensures, c.deref-in-Binary.ensures) refl) c.decreases c.requires.kind c.requires.fits
+emit_loose-emit_two-requires t c = two_call (scope_of c.args.scope.now).index t c.args.item.now c.in-Binary.op (term_of c.args.expr.now) (term_of c.deref.result.now) (term_of c.deref-in-Binary.result.now) (binary_of c.args.expr.now c.in-Binary.op c.in-Binary.left c.in-Binary.right c.deref.result.now c.deref-in-Binary.result.now c.in-Binary.is c.deref.ensures c.deref-in-Binary.ensures) c.decreases c.requires.kind c.requires.fits
 
 pub emit_loose-emit_read-requires : goal.emit_loose-emit_read-requires
-emit_loose-emit_read-requires t c = read_call (scope_of c.args.scope.now).index t c.args.item.now (name_of c.in-Read.array) (term_of c.args.expr.now) (term_of c.deref-in-Read.result.now) (rw (c.in-Read.is, c.deref-in-Read.ensures) refl) c.decreases c.requires.kind c.requires.fits
+emit_loose-emit_read-requires t c = read_call (scope_of c.args.scope.now).index t c.args.item.now (name_of c.in-Read.array) (term_of c.args.expr.now) (term_of c.deref-in-Read.result.now) (read_of c.args.expr.now c.in-Read.array c.in-Read.index c.deref-in-Read.result.now c.in-Read.is c.deref-in-Read.ensures) c.decreases c.requires.kind c.requires.fits
 
 pub emit_loose-emit_loose-requires-in-Select : goal.emit_loose-emit_loose-requires-in-Select
-emit_loose-emit_loose-requires-in-Select t c = yes_call (scope_of c.args.scope.now).index t c.args.item.now (term_of c.args.expr.now) (term_of c.in-Select.cond.value) (term_of c.deref-in-Select.result.now) (term_of c.in-Select.no.value) (rw (c.in-Select.is, c.deref-in-Select.ensures) refl) c.decreases c.requires.kind c.requires.fits
+emit_loose-emit_loose-requires-in-Select t c = yes_call (scope_of c.args.scope.now).index t c.args.item.now (term_of c.args.expr.now) (term_of c.in-Select.cond.value) (term_of c.deref-in-Select.result.now) (term_of c.in-Select.no.value) (select_of c.args.expr.now c.in-Select.cond c.in-Select.yes c.in-Select.no c.in-Select.cond.value c.deref-in-Select.result.now c.in-Select.no.value c.in-Select.is refl c.deref-in-Select.ensures refl) c.decreases c.requires.kind c.requires.fits
 
 pub emit_loose-emit_loose-requires-in-Select-2 : goal.emit_loose-emit_loose-requires-in-Select-2
-emit_loose-emit_loose-requires-in-Select-2 t c = no_call (scope_of c.args.scope.now).index t c.args.item.now c.emit_loose-in-Select.new.item (term_of c.args.expr.now) (term_of c.in-Select.cond.value) (term_of c.deref-in-Select.result.now) (term_of c.deref-in-Select-2.result.now) (rw (c.in-Select.is, c.deref-in-Select.ensures, c.deref-in-Select-2.ensures) refl) c.decreases c.requires.kind c.requires.fits c.in_ok-a-in-Select.ensures.item
+emit_loose-emit_loose-requires-in-Select-2 t c = no_call (scope_of c.args.scope.now).index t c.args.item.now c.emit_loose-in-Select.new.item (term_of c.args.expr.now) (term_of c.in-Select.cond.value) (term_of c.deref-in-Select.result.now) (term_of c.deref-in-Select-2.result.now) (select_of c.args.expr.now c.in-Select.cond c.in-Select.yes c.in-Select.no c.in-Select.cond.value c.deref-in-Select.result.now c.deref-in-Select-2.result.now c.in-Select.is refl c.deref-in-Select.ensures c.deref-in-Select-2.ensures) c.decreases c.requires.kind c.requires.fits c.in_ok-a-in-Select.ensures.item
 
 pub emit_loose-emit_one_of-requires : goal.emit_loose-emit_one_of-requires
-emit_loose-emit_one_of-requires t c = one_of_call (scope_of c.args.scope.now).index t c.args.item.now c.emit_loose-in-Select.new.item c.emit_loose-in-Select-2.new.item (term_of c.args.expr.now) (term_of c.deref-in-Select-3.result.now) (term_of c.deref-in-Select.result.now) (term_of c.deref-in-Select-2.result.now) (rw (c.in-Select.is, c.deref-in-Select.ensures, c.deref-in-Select-2.ensures, c.deref-in-Select-3.ensures) refl) c.decreases c.requires.kind c.requires.fits c.in_ok-a-in-Select.ensures.item c.in_ok-b-in-Select.ensures.item
+emit_loose-emit_one_of-requires t c = one_of_call (scope_of c.args.scope.now).index t c.args.item.now c.emit_loose-in-Select.new.item c.emit_loose-in-Select-2.new.item (term_of c.args.expr.now) (term_of c.deref-in-Select-3.result.now) (term_of c.deref-in-Select.result.now) (term_of c.deref-in-Select-2.result.now) (select_of c.args.expr.now c.in-Select.cond c.in-Select.yes c.in-Select.no c.deref-in-Select-3.result.now c.deref-in-Select.result.now c.deref-in-Select-2.result.now c.in-Select.is c.deref-in-Select-3.ensures c.deref-in-Select.ensures c.deref-in-Select-2.ensures) c.decreases c.requires.kind c.requires.fits c.in_ok-a-in-Select.ensures.item c.in_ok-b-in-Select.ensures.item
 
 pub emit_two-emit_sides-requires : goal.emit_two-emit_sides-requires
 emit_two-emit_sides-requires t c = (sides_below t (max (term_depth (term_of c.args.left.now)) (term_depth (term_of c.args.right.now))) c.decreases, (c.requires.left, (c.requires.right, c.requires.fits)))
@@ -442,16 +361,16 @@ pub emit_side-emit_loose-requires : goal.emit_side-emit_loose-requires
 emit_side-emit_loose-requires t c = (value_below t (term_depth (term_of c.args.expr.now)) c.decreases, (c.requires.kind, c.requires.fits))
 
 pub emit_parts-emit_loose-requires : goal.emit_parts-emit_loose-requires
-emit_parts-emit_loose-requires t c = left_call (scope_of c.args.scope.now).index t c.args.item.now c.in-Binary.op (term_of c.args.expr.now) (term_of c.deref.result.now) (term_of c.deref-in-Binary.result.now) (rw (c.in-Binary.is, c.deref.ensures, c.deref-in-Binary.ensures) refl) c.decreases c.requires.kind c.requires.fits
+emit_parts-emit_loose-requires t c = left_call (scope_of c.args.scope.now).index t c.args.item.now c.in-Binary.op (term_of c.args.expr.now) (term_of c.deref.result.now) (term_of c.deref-in-Binary.result.now) (binary_of c.args.expr.now c.in-Binary.op c.in-Binary.left c.in-Binary.right c.deref.result.now c.deref-in-Binary.result.now c.in-Binary.is c.deref.ensures c.deref-in-Binary.ensures) c.decreases c.requires.kind c.requires.fits
 
 pub emit_parts-emit_loose-requires-in-Binary : goal.emit_parts-emit_loose-requires-in-Binary
-emit_parts-emit_loose-requires-in-Binary t c = right_call (scope_of c.args.scope.now).index t c.args.item.now c.emit_loose.new.item c.in-Binary.op (term_of c.args.expr.now) (term_of c.deref.result.now) (term_of c.deref-in-Binary.result.now) (rw (c.in-Binary.is, c.deref.ensures, c.deref-in-Binary.ensures) refl) c.decreases c.requires.kind c.requires.fits c.in_ok-emit_loose-in-Binary.ensures.item
+emit_parts-emit_loose-requires-in-Binary t c = right_call (scope_of c.args.scope.now).index t c.args.item.now c.emit_loose.new.item c.in-Binary.op (term_of c.args.expr.now) (term_of c.deref.result.now) (term_of c.deref-in-Binary.result.now) (binary_of c.args.expr.now c.in-Binary.op c.in-Binary.left c.in-Binary.right c.deref.result.now c.deref-in-Binary.result.now c.in-Binary.is c.deref.ensures c.deref-in-Binary.ensures) c.decreases c.requires.kind c.requires.fits c.in_ok-emit_loose-in-Binary.ensures.item
 
 pub emit_parts-emit_loose-requires-in-Shift : goal.emit_parts-emit_loose-requires-in-Shift
-emit_parts-emit_loose-requires-in-Shift t c = shift_call (scope_of c.args.scope.now).index t c.args.item.now c.in-Shift.left_shift c.in-Shift.count (term_of c.args.expr.now) (term_of c.deref-arg.result.now) (rw (c.in-Shift.is, c.deref-arg.ensures) refl) c.decreases c.requires.kind c.requires.fits
+emit_parts-emit_loose-requires-in-Shift t c = shift_call (scope_of c.args.scope.now).index t c.args.item.now c.in-Shift.left_shift c.in-Shift.count (term_of c.args.expr.now) (term_of c.deref-arg.result.now) (shift_of c.args.expr.now c.in-Shift.left_shift c.in-Shift.arg c.in-Shift.count c.deref-arg.result.now c.in-Shift.is c.deref-arg.ensures) c.decreases c.requires.kind c.requires.fits
 
 pub emit_parts-emit_loose-requires-in-Cast : goal.emit_parts-emit_loose-requires-in-Cast
-emit_parts-emit_loose-requires-in-Cast t c = cast_call (scope_of c.args.scope.now).index t c.args.item.now c.in-Cast.ty (term_of c.args.expr.now) (term_of c.deref-arg-in-Cast.result.now) (rw (c.in-Cast.is, c.deref-arg-in-Cast.ensures) refl) c.decreases c.requires.kind c.requires.fits
+emit_parts-emit_loose-requires-in-Cast t c = cast_call (scope_of c.args.scope.now).index t c.args.item.now c.in-Cast.ty (term_of c.args.expr.now) (term_of c.deref-arg-in-Cast.result.now) (cast_of c.args.expr.now c.in-Cast.arg c.in-Cast.ty c.deref-arg-in-Cast.result.now c.in-Cast.is c.deref-arg-in-Cast.ensures) c.decreases c.requires.kind c.requires.fits
 
 pub emit_compared-emit_loose-requires : goal.emit_compared-emit_loose-requires
 emit_compared-emit_loose-requires t c = (left_compared_below t (term_depth (term_of c.args.left.now)) (term_depth (term_of c.args.right.now)) c.decreases, (c.requires.left, left_compared_room c.args.item.now (term_size (scope_of c.args.scope.now).index (term_of c.args.left.now)) (term_size (scope_of c.args.scope.now).index (term_of c.args.right.now)) c.requires.fits))
@@ -460,19 +379,19 @@ pub emit_compared-emit_loose-requires-in-None : goal.emit_compared-emit_loose-re
 emit_compared-emit_loose-requires-in-None t c = (right_compared_below t (term_depth (term_of c.args.left.now)) (term_depth (term_of c.args.right.now)) c.decreases, (c.requires.right, compared_room c.args.item.now (term_size (scope_of c.args.scope.now).index (term_of c.args.left.now)) (term_size (scope_of c.args.scope.now).index (term_of c.args.right.now)) c.emit_loose.new.item c.requires.fits c.in_ok-a.ensures.item))
 
 pub emit_jump-emit_compared-requires : goal.emit_jump-emit_compared-requires
-emit_jump-emit_compared-requires t c = compare_call (scope_of c.args.scope.now).index t c.args.item.now c.in-Compare.op (term_of c.args.expr.now) (term_of c.deref.result.now) (term_of c.deref-in-Compare.result.now) (rw (c.in-Compare.is, c.deref.ensures, c.deref-in-Compare.ensures) refl) c.decreases c.requires.kind c.compared_number-number.ensures.held c.requires.fits
+emit_jump-emit_compared-requires t c = compare_call (scope_of c.args.scope.now).index t c.args.item.now c.in-Compare.op (term_of c.args.expr.now) (term_of c.deref.result.now) (term_of c.deref-in-Compare.result.now) (compare_of c.args.expr.now c.in-Compare.op c.in-Compare.left c.in-Compare.right c.deref.result.now c.deref-in-Compare.result.now c.in-Compare.is c.deref.ensures c.deref-in-Compare.ensures) c.decreases c.requires.kind c.compared_number-number.ensures.held c.requires.fits
 
 pub emit_one_of-emit_compared-requires : goal.emit_one_of-emit_compared-requires
-emit_one_of-emit_compared-requires t c = chosen_call (scope_of c.args.scope.now).index t c.args.item.now c.in-Compare.op (term_of c.args.cond.now) (term_of c.deref.result.now) (term_of c.deref-in-Compare.result.now) (rw (c.in-Compare.is, c.deref.ensures, c.deref-in-Compare.ensures) refl) c.decreases c.requires.kind c.compared_number-number.ensures.held c.requires.fits
+emit_one_of-emit_compared-requires t c = chosen_call (scope_of c.args.scope.now).index t c.args.item.now c.in-Compare.op (term_of c.args.cond.now) (term_of c.deref.result.now) (term_of c.deref-in-Compare.result.now) (compare_of c.args.cond.now c.in-Compare.op c.in-Compare.left c.in-Compare.right c.deref.result.now c.deref-in-Compare.result.now c.in-Compare.is c.deref.ensures c.deref-in-Compare.ensures) c.decreases c.requires.kind c.compared_number-number.ensures.held c.requires.fits
 
 pub emit_jump-emit_both-requires : goal.emit_jump-emit_both-requires
-emit_jump-emit_both-requires t c = both_call (scope_of c.args.scope.now).index t c.args.item.now (term_of c.args.expr.now) (term_of c.deref-in-And.result.now) (term_of c.deref-in-And-2.result.now) (rw (c.in-And.is, c.deref-in-And.ensures, c.deref-in-And-2.ensures) refl) c.decreases c.requires.given c.requires.kind c.requires.fits
+emit_jump-emit_both-requires t c = both_call (scope_of c.args.scope.now).index t c.args.item.now (term_of c.args.expr.now) (term_of c.deref-in-And.result.now) (term_of c.deref-in-And-2.result.now) (and_of c.args.expr.now c.in-And.left c.in-And.right c.deref-in-And.result.now c.deref-in-And-2.result.now c.in-And.is c.deref-in-And.ensures c.deref-in-And-2.ensures) c.decreases c.requires.given c.requires.kind c.requires.fits
 
 pub emit_jump-emit_either-requires : goal.emit_jump-emit_either-requires
-emit_jump-emit_either-requires t c = either_call (scope_of c.args.scope.now).index t c.args.item.now (term_of c.args.expr.now) (term_of c.deref-in-Or.result.now) (term_of c.deref-in-Or-2.result.now) (rw (c.in-Or.is, c.deref-in-Or.ensures, c.deref-in-Or-2.ensures) refl) c.decreases c.requires.given c.requires.kind c.requires.fits
+emit_jump-emit_either-requires t c = either_call (scope_of c.args.scope.now).index t c.args.item.now (term_of c.args.expr.now) (term_of c.deref-in-Or.result.now) (term_of c.deref-in-Or-2.result.now) (or_of c.args.expr.now c.in-Or.left c.in-Or.right c.deref-in-Or.result.now c.deref-in-Or-2.result.now c.in-Or.is c.deref-in-Or.ensures c.deref-in-Or-2.ensures) c.decreases c.requires.given c.requires.kind c.requires.fits
 
 pub emit_jump-emit_jump-requires : goal.emit_jump-emit_jump-requires
-emit_jump-emit_jump-requires t c = not_call (scope_of c.args.scope.now).index t c.args.item.now (term_of c.args.expr.now) (term_of c.deref-in-Not.result.now) (rw (c.in-Not.is, c.deref-in-Not.ensures) refl) c.decreases c.requires.given c.requires.kind c.requires.fits
+emit_jump-emit_jump-requires t c = not_call (scope_of c.args.scope.now).index t c.args.item.now (term_of c.args.expr.now) (term_of c.deref-in-Not.result.now) (not_of c.args.expr.now c.in-Not.arg c.deref-in-Not.result.now c.in-Not.is c.deref-in-Not.ensures) c.decreases c.requires.given c.requires.kind c.requires.fits
 
 pub emit_both-returns-in_err-over : goal.emit_both-returns-in_err-over
 emit_both-returns-in_err-over t c = record { item = IfOk-from_err _ _ c.from_residual.ensures.0; emits = IfOk-from_err _ _ c.from_residual.ensures.0 }
@@ -606,7 +525,7 @@ emit_compared-returns-in_ok-b-in-None t c = record {
 
 pub emit_jump-overflow_add-item : goal.emit_jump-overflow_add-item
 emit_jump-overflow_add-item t c =
-    let is : term_of c.args.expr.now ≡ Comparison c.in-Compare.op (term_of c.deref.result.now) (term_of c.deref-in-Compare.result.now) = rw (c.in-Compare.is, c.deref.ensures, c.deref-in-Compare.ensures) refl in
+    let is : term_of c.args.expr.now ≡ Comparison c.in-Compare.op (term_of c.deref.result.now) (term_of c.deref-in-Compare.result.now) = compare_of c.args.expr.now c.in-Compare.op c.in-Compare.left c.in-Compare.right c.deref.result.now c.deref-in-Compare.result.now c.in-Compare.is c.deref.ensures c.deref-in-Compare.ensures in
     truth_fits c.args.item.now (term_size (scope_of c.args.scope.now).index (term_of c.deref.result.now)) (term_size (scope_of c.args.scope.now).index (term_of c.deref-in-Compare.result.now)) (term_size (scope_of c.args.scope.now).index (term_of c.args.expr.now)) c.emit_compared.new.item (ap (term_size (scope_of c.args.scope.now).index) is) c.requires.fits c.in_ok-a-in-Compare.ensures.item
 
 pub emit_jump-emit_branch-requires : goal.emit_jump-emit_branch-requires
@@ -614,28 +533,28 @@ emit_jump-emit_branch-requires t c = compared_given c.args.to c.args.draft.now.l
 
 pub emit_jump-returns-in-And : goal.emit_jump-returns-in-And
 emit_jump-returns-in-And t c =
-    let is : term_of c.args.expr.now ≡ Both (term_of c.deref-in-And.result.now) (term_of c.deref-in-And-2.result.now) = rw (c.in-And.is, c.deref-in-And.ensures, c.deref-in-And-2.ensures) refl in
+    let is : term_of c.args.expr.now ≡ Both (term_of c.deref-in-And.result.now) (term_of c.deref-in-And-2.result.now) = and_of c.args.expr.now c.in-And.left c.in-And.right c.deref-in-And.result.now c.deref-in-And-2.result.now c.in-And.is c.deref-in-And.ensures c.deref-in-And-2.ensures in
     record {
-      item = IfOk-equal c.emit_both.result _ _ _ c.emit_both.ensures.item (ap (λ (e : Term). c.args.item.now + term_size (scope_of c.args.scope.now).index e) (sym is));
+      item = on_ok_weaker c.emit_both.result (item_as (scope_of c.args.scope.now).index c.args.item.now c.emit_both.new.item (term_of c.args.expr.now) _ is) c.emit_both.ensures.item;
       emits = on_ok_weaker c.emit_both.result (λ p. jump_as c.args.places.now (homes_of c.args.homes.now) (scope_of c.args.scope.now) c.args.sense c.args.to c.args.item.now c.args.draft.now c.emit_both.new.draft (term_of c.args.expr.now) (Both (term_of c.deref-in-And.result.now) (term_of c.deref-in-And-2.result.now)) is p) c.emit_both.ensures.emits;
     }
 
 pub emit_jump-returns-in-Or : goal.emit_jump-returns-in-Or
 emit_jump-returns-in-Or t c =
-    let is : term_of c.args.expr.now ≡ Either (term_of c.deref-in-Or.result.now) (term_of c.deref-in-Or-2.result.now) = rw (c.in-Or.is, c.deref-in-Or.ensures, c.deref-in-Or-2.ensures) refl in
+    let is : term_of c.args.expr.now ≡ Either (term_of c.deref-in-Or.result.now) (term_of c.deref-in-Or-2.result.now) = or_of c.args.expr.now c.in-Or.left c.in-Or.right c.deref-in-Or.result.now c.deref-in-Or-2.result.now c.in-Or.is c.deref-in-Or.ensures c.deref-in-Or-2.ensures in
     record {
-      item = IfOk-equal c.emit_either.result _ _ _ c.emit_either.ensures.item (ap (λ (e : Term). c.args.item.now + term_size (scope_of c.args.scope.now).index e) (sym is));
+      item = on_ok_weaker c.emit_either.result (item_as (scope_of c.args.scope.now).index c.args.item.now c.emit_either.new.item (term_of c.args.expr.now) _ is) c.emit_either.ensures.item;
       emits = on_ok_weaker c.emit_either.result (λ p. jump_as c.args.places.now (homes_of c.args.homes.now) (scope_of c.args.scope.now) c.args.sense c.args.to c.args.item.now c.args.draft.now c.emit_either.new.draft (term_of c.args.expr.now) (Either (term_of c.deref-in-Or.result.now) (term_of c.deref-in-Or-2.result.now)) is p) c.emit_either.ensures.emits;
     }
 
 pub emit_jump-overflow_add-item-in-Not : goal.emit_jump-overflow_add-item-in-Not
 emit_jump-overflow_add-item-in-Not t c =
-    let is : term_of c.args.expr.now ≡ Not (term_of c.deref-in-Not.result.now) = rw (c.in-Not.is, c.deref-in-Not.ensures) refl in
+    let is : term_of c.args.expr.now ≡ Not (term_of c.deref-in-Not.result.now) = not_of c.args.expr.now c.in-Not.arg c.deref-in-Not.result.now c.in-Not.is c.deref-in-Not.ensures in
     not_fits c.args.item.now (term_size (scope_of c.args.scope.now).index (term_of c.deref-in-Not.result.now)) (term_size (scope_of c.args.scope.now).index (term_of c.args.expr.now)) c.emit_jump.new.item (ap (term_size (scope_of c.args.scope.now).index) is) c.requires.fits c.in_ok-emit_jump-in-Not.ensures.item
 
 pub emit_jump-returns-in_ok-emit_jump-in-Not : goal.emit_jump-returns-in_ok-emit_jump-in-Not
 emit_jump-returns-in_ok-emit_jump-in-Not t c =
-    let is : term_of c.args.expr.now ≡ Not (term_of c.deref-in-Not.result.now) = rw (c.in-Not.is, c.deref-in-Not.ensures) refl in
+    let is : term_of c.args.expr.now ≡ Not (term_of c.deref-in-Not.result.now) = not_of c.args.expr.now c.in-Not.arg c.deref-in-Not.result.now c.in-Not.is c.deref-in-Not.ensures in
     record {
       item = one_part c.args.item.now (term_size (scope_of c.args.scope.now).index (term_of c.args.expr.now)) (term_size (scope_of c.args.scope.now).index (term_of c.deref-in-Not.result.now)) c.emit_jump.new.item (ap (term_size (scope_of c.args.scope.now).index) is) c.in_ok-emit_jump-in-Not.ensures.item;
       emits = jump_as c.args.places.now (homes_of c.args.homes.now) (scope_of c.args.scope.now) c.args.sense c.args.to c.args.item.now c.args.draft.now c.emit_jump.new.draft (term_of c.args.expr.now) (Not (term_of c.deref-in-Not.result.now)) is (record { labels = c.in_ok-emit_jump-in-Not.ensures.emits.labels; code = λ rest. c.in_ok-emit_jump-in-Not.ensures.emits.code rest });
@@ -655,7 +574,7 @@ emit_loose-returns-in-Lit t c =
     let in_range : SFits w128 c.in-Lit.value = search rules in
     record {
       register = IfOk-weaker c.emit_literal.result _ _ (λ r p. p ∙ ap (literal_home c.args.places.now c.args.item.now) (to_z-of_z w128 c.in-Lit.value in_range) ∙ ap (home c.args.places.now (homes_of c.args.homes.now) (scope_of c.args.scope.now).index c.args.item.now) (sym is)) c.emit_literal.ensures.register;
-      item = IfOk-equal c.emit_literal.result _ _ _ c.emit_literal.ensures.item (ap (λ (e : Term). c.args.item.now + term_size (scope_of c.args.scope.now).index e) (sym is));
+      item = on_ok_weaker c.emit_literal.result (item_as (scope_of c.args.scope.now).index c.args.item.now c.emit_literal.new.item (term_of c.args.expr.now) _ is) c.emit_literal.ensures.item;
       emits = on_ok_weaker c.emit_literal.result (λ p. loose_literal c.args.places.now (homes_of c.args.homes.now) (scope_of c.args.scope.now) c.args.extent c.args.want c.args.item.now c.args.draft.now c.emit_literal.new.draft (term_of c.args.expr.now) c.in-Lit.value (to_z w128 (of_z w128 c.in-Lit.value)) is (to_z-of_z w128 c.in-Lit.value in_range) p) c.emit_literal.ensures.emits;
     }
 
@@ -670,19 +589,19 @@ emit_loose-returns-in-Var t c =
 
 pub emit_loose-returns-in-Binary : goal.emit_loose-returns-in-Binary
 emit_loose-returns-in-Binary t c =
-    let is : term_of c.args.expr.now ≡ Operation c.in-Binary.op (term_of c.deref.result.now) (term_of c.deref-in-Binary.result.now) = rw (c.in-Binary.is, c.deref.ensures, c.deref-in-Binary.ensures) refl in
+    let is : term_of c.args.expr.now ≡ Operation c.in-Binary.op (term_of c.deref.result.now) (term_of c.deref-in-Binary.result.now) = binary_of c.args.expr.now c.in-Binary.op c.in-Binary.left c.in-Binary.right c.deref.result.now c.deref-in-Binary.result.now c.in-Binary.is c.deref.ensures c.deref-in-Binary.ensures in
     record {
-      register = IfOk-weaker c.emit_two.result _ _ (λ r p. p ∙ ap (home c.args.places.now (homes_of c.args.homes.now) (scope_of c.args.scope.now).index c.args.item.now) (sym is)) c.emit_two.ensures.register;
-      item = IfOk-equal c.emit_two.result _ _ _ c.emit_two.ensures.item (ap (λ (e : Term). c.args.item.now + term_size (scope_of c.args.scope.now).index e) (sym is));
+      register = home_as c.args.places.now (homes_of c.args.homes.now) (scope_of c.args.scope.now).index c.args.item.now (term_of c.args.expr.now) (Operation c.in-Binary.op (term_of c.deref.result.now) (term_of c.deref-in-Binary.result.now)) register_number c.emit_two.result is c.emit_two.ensures.register;
+      item = on_ok_weaker c.emit_two.result (item_as (scope_of c.args.scope.now).index c.args.item.now c.emit_two.new.item (term_of c.args.expr.now) _ is) c.emit_two.ensures.item;
       emits = on_ok_weaker c.emit_two.result (λ p. loose_as c.args.places.now (homes_of c.args.homes.now) (scope_of c.args.scope.now) c.args.extent c.args.want c.args.item.now c.args.draft.now c.emit_two.new.draft (term_of c.args.expr.now) (Operation c.in-Binary.op (term_of c.deref.result.now) (term_of c.deref-in-Binary.result.now)) is p) c.emit_two.ensures.emits;
     }
 
 pub emit_loose-returns-in-Read : goal.emit_loose-returns-in-Read
 emit_loose-returns-in-Read t c =
-    let is : term_of c.args.expr.now ≡ Element (name_of c.in-Read.array) (term_of c.deref-in-Read.result.now) = rw (c.in-Read.is, c.deref-in-Read.ensures) refl in
+    let is : term_of c.args.expr.now ≡ Element (name_of c.in-Read.array) (term_of c.deref-in-Read.result.now) = read_of c.args.expr.now c.in-Read.array c.in-Read.index c.deref-in-Read.result.now c.in-Read.is c.deref-in-Read.ensures in
     record {
-      register = IfOk-weaker c.emit_read.result _ _ (λ r p. p ∙ ap (home c.args.places.now (homes_of c.args.homes.now) (scope_of c.args.scope.now).index c.args.item.now) (sym is)) c.emit_read.ensures.register;
-      item = IfOk-equal c.emit_read.result _ _ _ c.emit_read.ensures.item (ap (λ (e : Term). c.args.item.now + term_size (scope_of c.args.scope.now).index e) (sym is));
+      register = home_as c.args.places.now (homes_of c.args.homes.now) (scope_of c.args.scope.now).index c.args.item.now (term_of c.args.expr.now) (Element (name_of c.in-Read.array) (term_of c.deref-in-Read.result.now)) register_number c.emit_read.result is c.emit_read.ensures.register;
+      item = on_ok_weaker c.emit_read.result (item_as (scope_of c.args.scope.now).index c.args.item.now c.emit_read.new.item (term_of c.args.expr.now) _ is) c.emit_read.ensures.item;
       emits = on_ok_weaker c.emit_read.result (λ p. loose_as c.args.places.now (homes_of c.args.homes.now) (scope_of c.args.scope.now) c.args.extent c.args.want c.args.item.now c.args.draft.now c.emit_read.new.draft (term_of c.args.expr.now) (Element (name_of c.in-Read.array) (term_of c.deref-in-Read.result.now)) is (record { labels = p.labels; code = λ rest. p.code rest })) c.emit_read.ensures.emits;
     }
 
@@ -698,7 +617,7 @@ emit_number-emit_loose-requires t c = (value_below t (term_depth (term_of c.args
 
 pub emit_one_of-overflow_add-item : goal.emit_one_of-overflow_add-item
 emit_one_of-overflow_add-item t c =
-    let is : term_of c.args.cond.now ≡ Comparison c.in-Compare.op (term_of c.deref.result.now) (term_of c.deref-in-Compare.result.now) = rw (c.in-Compare.is, c.deref.ensures, c.deref-in-Compare.ensures) refl in
+    let is : term_of c.args.cond.now ≡ Comparison c.in-Compare.op (term_of c.deref.result.now) (term_of c.deref-in-Compare.result.now) = compare_of c.args.cond.now c.in-Compare.op c.in-Compare.left c.in-Compare.right c.deref.result.now c.deref-in-Compare.result.now c.in-Compare.is c.deref.ensures c.deref-in-Compare.ensures in
     chosen_fits c.args.item.now (term_size (scope_of c.args.scope.now).index (term_of c.deref.result.now)) (term_size (scope_of c.args.scope.now).index (term_of c.deref-in-Compare.result.now)) (term_size (scope_of c.args.scope.now).index (term_of c.args.cond.now)) c.emit_compared.new.item (ap (term_size (scope_of c.args.scope.now).index) is) c.requires.fits c.in_ok-p-in-Compare.ensures.item
 
 pub emit_one_of-put-requires : goal.emit_one_of-put-requires
@@ -706,7 +625,7 @@ emit_one_of-put-requires t c = record { plain = c.compare_word.ensures.plain }
 
 pub emit_one_of-emit_chosen-requires : goal.emit_one_of-emit_chosen-requires
 emit_one_of-emit_chosen-requires t c =
-    let is : term_of c.args.cond.now ≡ Comparison c.in-Compare.op (term_of c.deref.result.now) (term_of c.deref-in-Compare.result.now) = rw (c.in-Compare.is, c.deref.ensures, c.deref-in-Compare.ensures) refl in
+    let is : term_of c.args.cond.now ≡ Comparison c.in-Compare.op (term_of c.deref.result.now) (term_of c.deref-in-Compare.result.now) = compare_of c.args.cond.now c.in-Compare.op c.in-Compare.left c.in-Compare.right c.deref.result.now c.deref-in-Compare.result.now c.in-Compare.is c.deref.ensures c.deref-in-Compare.ensures in
     chosen_room c.args.item.now (term_size (scope_of c.args.scope.now).index (term_of c.deref.result.now)) (term_size (scope_of c.args.scope.now).index (term_of c.deref-in-Compare.result.now)) (term_size (scope_of c.args.scope.now).index (term_of c.args.cond.now)) c.emit_compared.new.item (ap (term_size (scope_of c.args.scope.now).index) is) c.requires.fits c.in_ok-p-in-Compare.ensures.item
 
 pub emit_one_of-emit_jump-requires : goal.emit_one_of-emit_jump-requires
@@ -777,11 +696,7 @@ emit_one_of-returns-in_ok-emit_jump-in_default t c =
     record {
       register = IfOk-weaker c.emit_pick.result _ _ (λ r p. p ∙ ap (reg_of c.args.places.now) jump.item) c.emit_pick.ensures.register;
       item = on_any c.emit_pick.result (c.emit_pick.ensures.item ∙ ap (λ (b : ℕ). b + 1) jump.item);
-      emits = on_ok c.emit_pick.result c.emit_pick.ensures.emits (λ p. record {
-        labels = picked_labels c.args.draft.now.labels (labels (scope_of c.args.scope.now).index (term_of c.args.cond.now)) c.label.new.self.labels c.label-2.new.self.labels c.emit_jump.new.draft.labels c.emit_pick.new.draft.labels c.in_ok-other.ensures.count c.in_ok-end.ensures.count jump.emits.labels p.labels;
-        code = λ rest. p.code rest ∙ jump.emits.code _ ∙ ap (λ (l : List DraftEntry). c.label-2.new.self.entries ++ l) (picked_is c.args.places.now (homes_of c.args.homes.now) (scope_of c.args.scope.now) c.args.item.now c.args.draft.now.labels c.label-2.new.self.labels c.emit_jump.new.item c.in_ok-other.other (term_of c.args.cond.now) c.args.a.number c.args.b.number rest (no_flags (scope_of c.args.scope.now) c.args.cond.now c.in_default.not-Compare) c.in_ok-other.ensures.next (two_more c.args.draft.now.labels c.label.new.self.labels c.label-2.new.self.labels c.in_ok-other.ensures.count c.in_ok-end.ensures.count) jump.item)
-            ∙ ap (λ (l : List DraftEntry). l ++ one_of_code c.args.places.now (homes_of c.args.homes.now) (scope_of c.args.scope.now) c.args.item.now c.args.draft.now.labels (term_of c.args.cond.now) c.args.a.number c.args.b.number rest) (c.in_ok-end.ensures.entries ∙ c.in_ok-other.ensures.entries);
-      });
+      emits = on_ok c.emit_pick.result c.emit_pick.ensures.emits (picked_emits c.args.places.now (homes_of c.args.homes.now) (scope_of c.args.scope.now) c.args.item.now c.emit_jump.new.item c.in_ok-other.other c.args.draft.now c.label.new.self c.label-2.new.self c.emit_jump.new.draft c.emit_pick.new.draft (term_of c.args.cond.now) c.args.a.number c.args.b.number (no_flags (scope_of c.args.scope.now) c.args.cond.now c.in_default.not-Compare) c.in_ok-other.ensures.next jump.item c.in_ok-other.ensures.count c.in_ok-other.ensures.entries c.in_ok-end.ensures.count c.in_ok-end.ensures.entries jump.emits);
     }
 
 -- ---- what a `match` has left over

@@ -1,22 +1,28 @@
-use Rattle.std.proofs.Common.{◌≡◌, ℕ, List, ◌++◌, Option, Some, refl, ap, ◌∙◌}
-use Rattle.std.specs.Prelude.{◌∷◌}
-use Rattle.machine_model.specs.InstructionTable.{Listed}
-use Rattle.kernel_tree.specs.declared.ops.Ty.{Ty}
+use Rattle.std.proofs.Common.{List, ◌++◌, refl, ap, ◌∙◌}
+use Rattle.label_fix.specs.DraftRun.{DraftEntry}
 use Rattle.label_fix.specs.Draft.{word_view}
-use Rattle.label_fix.specs.DraftRun.{DraftEntry, Put}
-use Rattle.scalar_words.specs.Layout.{reg_of}
-use Rattle.value_code.specs.ItemWords.{load, load_code}
 use Rattle.value_code.proofs.TermCode.{on_and}
+use Rattle.scalar_values.proofs.TermItems.{with_value}
 use Rattle.scalar_values.proofs.operations.emit_load.Goals as goal
+use Rattle.scalar_words.specs.Layout.{reg_of}
+use Rattle.scalar_values.proofs.ItemCode.{load_plain, load_some, load_none}
 
-load_is : (want : Option Ty) (t : Ty) (word : Listed) (d e p r : ℕ) (rest : List DraftEntry) → want ≡ Some t → word ≡ load t d p r → d ≡ e → Put word ∷ rest ≡ load_code want e p r rest
-load_is want t word d e p r rest e0 e1 e2 = rw (e0, e1, e2) refl
+pub put-requires : goal.put-requires
+put-requires c = record { plain = load_plain c.in-Some.ty (word_view c.load.result) c.take-d.result.number c.args.p.number c.args.r.number c.load.ensures }
 
-pub returns-in-Some-clause-emits : goal.returns-in-Some-clause-emits
-returns-in-Some-clause-emits c =
-    on_and c.put.result c.take-d.result c.and.ensures c.put.ensures (λ p. record {
-      labels = p.labels;
-      code = λ rest. p.code rest
-          ∙ ap (λ (l : List DraftEntry). c.args.draft.now.entries ++ l)
-          (load_is c.args.ty c.in-Some.ty (word_view c.load.result) c.take-d.result.number (reg_of c.args.places.now c.args.item.now) c.args.p.number c.args.r.number rest c.in-Some.is c.load.ensures c.take-d.ensures.register);
-    })
+pub returns-in-None : goal.returns-in-None
+returns-in-None c = record {
+  register = c.take-d.ensures.register;
+  item = c.take-d.ensures.item;
+  emits = record { labels = refl; code = λ rest. ap (λ (l : List DraftEntry). c.args.draft.now.entries ++ l) (load_none c.args.ty _ _ _ rest c.in-None.is) };
+}
+
+pub returns-in-Some : goal.returns-in-Some
+returns-in-Some c = record {
+  register = with_value c.put.result c.take-d.result _ c.and.ensures c.take-d.ensures.register;
+  item = c.take-d.ensures.item;
+  emits = on_and c.put.result c.take-d.result c.and.ensures c.put.ensures (λ p. record {
+    labels = p.labels;
+    code = λ rest. p.code rest ∙ ap (λ (l : List DraftEntry). c.args.draft.now.entries ++ l) (load_some c.args.ty c.in-Some.ty (word_view c.load.result) c.take-d.result.number (reg_of c.args.places.now c.args.item.now) c.args.p.number c.args.r.number rest c.in-Some.is c.load.ensures c.take-d.ensures.register);
+  });
+}
