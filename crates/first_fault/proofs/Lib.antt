@@ -7,6 +7,7 @@ mod BreakSteps
 mod ReadLanes
 mod SingleReads
 mod EarlyReads
+mod SuppressedLanes
 mod OutcomeLists
 pub mod RegionRuns
 pub mod RegionItems
