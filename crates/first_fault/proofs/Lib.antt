@@ -21,6 +21,7 @@ pub mod LiveTruths
 pub mod LoopFits
 pub mod Spelled
 pub mod Sizes
+mod MostWords
 pub mod Writables
 mod RegionPuts
 mod Examples
