@@ -7,7 +7,7 @@ use Rattle.kernel_meaning.specs.Eval.{Names}
 use Rattle.kernel_meaning.specs.Iterate.{iterate}
 use Rattle.kernel_meaning.specs.Ends.{Broke as BrokeOut}
 use Rattle.kernel_meaning.specs.ScalarRun.{iterations}
-use Rattle.chunk_emit.specs.Head.{Ground, IsGround, Between, most_lanes, limit}
+use Rattle.chunk_emit.specs.Head.{Ground, IsGround, Between, width, most_lanes, limit}
 use Rattle.first_fault.specs.Region.{Broke, lane_left}
 use Rattle.first_fault.specs.RegionCode.{Early, Single}
 use Rattle.first_fault.specs.RegionRuns.{Why, by_break, by_fault, by_stop}
@@ -24,17 +24,17 @@ halts_left iteration_end cut (inr h) = faults h
 
 -- of a chunk
 pub chunk_reasons : NextHalts → (g : Ground) (i n : ℕ) (cur : Names) (m : Memory) (sum : List ℕ → ℕ → ℤ) → IsGround g → Between g i cur sum → n ≤ most_lanes g → i + n ≤ limit g → Reasons g i n cur m LeftOut Early
-chunk_reasons halts g i n cur m sum ground between few within k lt cut left out names is goes all more = by left
+chunk_reasons halts g i n cur m sum ground between few within k lt d c e s t most leads left out names is goes all more = by left
   where
     halted : lane_left (way_in g m (i + k) blank) ≡ None → LeftOut (iterate (var_scope g.kernel) g.for_loop (i + k) out.memory names) all
     halted none =
         halts_left (iterate (var_scope g.kernel) g.for_loop (i + k) out.memory names) all
         (halts g i k cur names sum (blank_lanes m) out ground between (is_chunk g i k m (omega (arith, lt, few)) (omega (arith, lt, within))) (omega (arith, lt, few)) (omega (arith, lt, within)) is goes none)
 
-    by : Why Early (way_in g m (i + k) blank) cut → LeftOut (iterate (var_scope g.kernel) g.for_loop (i + k) out.memory names) all
+    by : Why Early (width g) (way_in g m (i + k) blank) leads k → LeftOut (iterate (var_scope g.kernel) g.for_loop (i + k) out.memory names) all
     by (by_break e) = halted (ap lane_left e)
     by (by_fault early e) = halted (ap lane_left e)
-    by (by_stop early some) = suppressed (omega (arith, some, more))
+    by (by_stop early some on) = suppressed (omega (arith, some, more))
 
 -- ---- of one iteration
 
@@ -54,8 +54,8 @@ unfolding iterations
 nothing_done g i m cur = refl
 
 pub iteration_reasons : (g : Ground) (i : ℕ) (cur : Names) (m : Memory) {sum : List ℕ → ℕ → ℤ} → IsGround g → Between g i cur sum → Reasons g i 1 cur m (λ iteration_end cut. Breaks iteration_end) Single
-iteration_reasons g i cur m ground between (suc k) lt cut left out names is goes all more = absurd (omega (arith, lt))
-iteration_reasons g i cur m ground between zero lt cut left out names is goes all more = by left
+iteration_reasons g i cur m ground between (suc k) lt d c e s t most leads left out names is goes all more = absurd (omega (arith, lt))
+iteration_reasons g i cur m ground between zero lt d c e s t most leads left out names is goes all more = by left
   where
     here : i + 0 ≡ i
     here = omega arith
@@ -68,7 +68,7 @@ iteration_reasons g i cur m ground between zero lt cut left out names is goes al
         ap (λ j. iterate (var_scope g.kernel) g.for_loop j out.memory names) here ∙ ap (λ memory. iterate (var_scope g.kernel) g.for_loop i memory names) (sym (going_memory stands))
         ∙ ap (iterate (var_scope g.kernel) g.for_loop i m) (sym (going_names stands))
 
-    by : Why Single (way_in g m (i + 0) blank) cut → Breaks (iterate (var_scope g.kernel) g.for_loop (i + 0) out.memory names)
+    by : Why Single (width g) (way_in g m (i + 0) blank) leads 0 → Breaks (iterate (var_scope g.kernel) g.for_loop (i + 0) out.memory names)
     by (by_break e) = subst Breaks (sym same) (broke_iteration m (iterate (var_scope g.kernel) g.for_loop i m cur) (region_iteration g i cur m ground between blank Broke (ap (λ j. way_in g m j blank) (sym here) ∙ e)))
     by (by_fault early e) = absurd cc
-    by (by_stop early some) = absurd cc
+    by (by_stop early some on) = absurd cc

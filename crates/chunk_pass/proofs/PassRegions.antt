@@ -77,7 +77,7 @@ region_iteration g i cur m ground h lane way is =
 -- a reason of the pass from that of the region, for n lanes from iteration i on
 abbrev pub Reasons : Ground → (i n : ℕ) → Names → Memory → (BlockEnd Names → ℕ → Type 0) → Mode → Type 0
 Reasons g i n cur m why mode =
-    (k : ℕ) → k < n → (cut : ℕ) → Why mode (way_in g m (i + k) blank) cut → (out : Lanes) (names : Names) → by_item (acts_of g.names (items_of g)) k i (blank_lanes m) ≡ Fine out → iterations (var_scope g.kernel) g.for_loop k i m cur ≡ Going out.memory names → (all : ℕ) → cut ≤ all
+    (k : ℕ) → k < n → (d : Laid) (c e : List DraftEntry) (s t : State) (most : ℕ) (leads : Leads d c s e t most) → Why mode (width g) (way_in g m (i + k) blank) leads k → (out : Lanes) (names : Names) → by_item (acts_of g.names (items_of g)) k i (blank_lanes m) ≡ Fine out → iterations (var_scope g.kernel) g.for_loop k i m cur ≡ Going out.memory names → (all : ℕ) → leads.cut ≤ all
     → why (iterate (var_scope g.kernel) g.for_loop (i + k) out.memory names) all
 
 -- ---- the region, and the rest
@@ -97,7 +97,7 @@ module _
 
   module _ (why : BlockEnd Names → ℕ → Type 0) (mode : Mode) (reasons : Reasons g i n cur m why mode) (most : ℕ) {code inner : List DraftEntry} {from : State} {a b : ℕ} (before : Leads d code from inner s a)
       (le : a + b + (length (items_words (width g) (layout g) (rest_of (items_of g))) + 1) ≤ most) (holds : Holds (layout g) begun (loop_start g.kernel + 1) (blank_lanes m) s) where
-    through : (k : ℕ) (new : ℕ → Lane) (mid : State) → k ≤ n → ((e : ℕ) → e < k → way_in g m (i + e) blank ≡ On (new (i + e))) → (leads : Leads d inner s (following_words g rest) mid b) → (k < n → Why mode (way_in g m (i + k) blank) leads.cut) → Inside mode (layout g) begun s k (following_region g.kernel g.for_loop) new mid
+    through : (k : ℕ) (new : ℕ → Lane) (mid : State) → k ≤ n → ((e : ℕ) → e < k → way_in g m (i + e) blank ≡ On (new (i + e))) → (leads : Leads d inner s (following_words g rest) mid b) → (k < n → Why mode (width g) (way_in g m (i + k) blank) leads k) → Inside mode (layout g) begun s k (following_region g.kernel g.for_loop) new mid
         → Passes why g n i cur m d code from rest most
     through k new mid kn come leads left inside =
         let near = nearer (a + b) (omega arith) before leads in
@@ -108,7 +108,7 @@ module _
         ap (λ items. by_item (acts_of g.names items) k i (blank_lanes m)) (sym split.whole) ∙ acts_append g.names (region_of (items_of g)) (rest_of (items_of g)) k i (blank_lanes m)
         ∙ ap (λ o. go_on o (by_item (acts_of g.names (rest_of (items_of g))) k i)) start.done in
         rest_pass fine fails g ground h assigned d rest (blank_lanes m) refl (is_chunk g i k m (omega (arith, kn, few)) (omega (arith, kn, within))) (rest_of (items_of g)) why n most kn near.leads le
-        (λ lt out names is goes all more. reasons k lt leads.cut (left lt) out names is goes all (omega (arith, more, near.more)))
+        (λ lt out names is goes all more. reasons k lt d inner (following_words g rest) s mid b leads (left lt) out names is goes all (omega (arith, more, near.more)))
         parts (λ e lt. (new (i + e), come e lt))
         (items_run (layout g) (setting g i k sum s.x mid.stops) d _ (rest_of (items_of g)) (following_region g.kernel g.for_loop) start.lanes mid assigned (fits_at k mid.stops).rest start.holds)
 

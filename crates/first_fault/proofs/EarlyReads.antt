@@ -38,9 +38,10 @@ use Rattle.chunk_emit.proofs.ItemLanes.{first_none}
 use Rattle.first_fault.specs.Region.{Way}
 use Rattle.first_fault.specs.RegionCode.{Early, first_fault_word, non_fault_word, read_faults}
 use Rattle.first_fault.specs.Prefix.{Inside}
+use Rattle.first_fault.specs.SuppressedLanes.{Suppresses}
 use Rattle.first_fault.specs.RegionRuns.{Why, by_fault, by_stop, RegionOutcome, stops, comes}
 use Rattle.first_fault.proofs.PrefixBits.{scaled, narrow, First, missing, found, first_is}
-use Rattle.first_fault.proofs.Stretches.{Pair, pair}
+use Rattle.first_fault.proofs.Stretches.{Pair, pair, suppressed_here}
 use Rattle.first_fault.proofs.PrefixSteps.{prefix, low, length_is, few_all}
 use Rattle.first_fault.proofs.BreakSteps.{byte_and}
 use Rattle.first_fault.proofs.ReadLanes as reads
@@ -155,17 +156,19 @@ module _ {l : Layout} (fit : Assigned l) {f : Setting} {a : State} {p0 : ℕ} {t
         (after_read None n (omega arith) state (λ e en. h.ffr refl e en ∙ sym (lt-ltb e n en)))
 
     -- lane v is suppressed
-    outcome_some : (i : VectorInstruction) (v : ℕ) → v < n → on v ≡ true → do_vector i u ≡ Went (loaded_state (Some v)) → cuts_in (Vector i) u ≡ not (faults v) → IsState (loaded_state (Some v)) → ((e : ℕ) → e < v → (on e && faults e) ≡ false) → Result i
-    outcome_some i v vn yes' does is state none =
+    outcome_some : (i : VectorInstruction) (v : ℕ) → v < n → on v ≡ true → do_vector i u ≡ Went (loaded_state (Some v)) → cuts_in (Vector i) u ≡ not (faults v) → IsState (loaded_state (Some v)) → (faults v ≡ false → Suppresses f.w i u v) → ((e : ℕ) → e < v → (on e && faults e) ≡ false) → Result i
+    outcome_some i v vn yes' does is state cuts none =
         comes v new (narrowed_state (Some v)) (omega (arith, vn)) (λ e ev. reads.passes fit h0 p ls mask array x ty c wide h exact place place_is e (omega (arith, ev, vn)) (none e ev)) (two_words i (Some v) does is).leads (λ lt. why (faults v) refl)
         (after_read (Some v) v (omega (arith, vn)) state (λ e en.
         bit-bits_of (kept_bit u.ffr (width_bytes form.element * v)) 32 (width_bytes f.w * e) (low fit h0 e (omega (arith, en, few_all fit h0 h)))
         ∙ ap (λ w. bit u.ffr (width_bytes f.w * e) && ltb (width_bytes f.w * e) (width_bytes w * v)) element_is
         ∙ ap₂ (λ a b. a && b) (h.ffr refl e en) (scaled (width_bytes f.w) e v (some-bytes f.w))))
       where
-        why : (b : Bool) → faults v ≡ b → Why Early (way (f.i + v) (ls (f.i + v))) (two_words i (Some v) does is).leads.cut
+        why : (b : Bool) → faults v ≡ b → Why Early f.w (way (f.i + v) (ls (f.i + v))) (two_words i (Some v) does is).leads v
         why true eq = by_fault refl (reads.falls fit h0 p ls mask array x ty c wide h exact place place_is v vn (ap₂ (λ a b. a && b) yes' eq))
-        why false eq = by_stop refl (counted i (Some v) (two_words i (Some v) does is) (ap not eq))
+        why false eq =
+            let both = two_words i (Some v) does is in
+            by_stop refl (counted i (Some v) both (ap not eq)) (suppressed_here f.w d i (puts (read_faults ∷ []) rest) rest u (narrowed_state (Some v)) (is_cut faults (Some v)) v both (cuts eq))
 
 -- ---- under a mask: a load that never faults
 
@@ -213,6 +216,7 @@ module _ {l : Layout} (fit : Assigned l) {f : Setting} {a : State} {p0 : ℕ} {t
         let went : do_vector code u ≡ Went (following (Some v)) = does ∙ ap (λ o. Went (following o)) eq in
         let on_v = (and_parts (lane_on v) (bad v || stop_at u.stops (rank lane_on v)) yes').0 in
         outcome_some fit h0 p ls mask array x ty c wide makes used d rest h exact places place_is lane_on code v (reads.below fit h0 p ls mask array x ty c wide h exact places place_is v (omega (arith, hi)) on_v) on_v went (ap (is_cut bad) eq) (is_following (Some v) went)
+        (λ reads_v. record { width = (reads.is fit h0 p ls mask array x ty c wide h exact places place_is).element; free = ap (is_cut bad) eq ∙ ap not reads_v; first = eq })
         (λ e ev. no_fault (lane_on e) (bad e) (stop_at u.stops (rank lane_on e)) (none e (omega arith) ev))
 
     pub masked_reads : Ends code
@@ -320,6 +324,7 @@ module _ {l : Layout} (fit : Assigned l) {f : Setting} {a : State} {p0 : ℕ} {t
         ∙ ap (is_cut wrong) eq in
         let on_v = (and_parts (top_on v) (ltb 0 v) (and_parts (top_on v && ltb 0 v) (wrong v || stop_at u.stops (rank (left (Some 0)) v)) yes').0).0 in
         outcome_some fit h0 p ls None array x ty c wide makes used d rest h exact spots spots_are (left (Some 0)) first_code v (reads.below fit h0 p ls None array x ty c wide h exact spots spots_are v (omega (arith, hi)) on_v) on_v went cut (is_reached (Some 0) (Some v) went)
+        (λ reads_v. record { width = (reads.is fit h0 p ls None array x ty c wide h exact spots spots_are).element; free = cut ∙ ap not reads_v; first = ap (λ o1. first_true (gone o1) many 0) first_on ∙ eq })
         (λ e ev. no_fault_at (ap is_some good) e (λ pos. none e (omega arith) ev))
 
     by_fault_at : (b : Bool) → wrong 0 ≡ b → TopEnds

@@ -7,6 +7,7 @@ mod BreakSteps
 mod ReadLanes
 mod SingleReads
 mod EarlyReads
+mod SuppressedLanes
 mod OutcomeLists
 pub mod RegionRuns
 pub mod RegionItems
@@ -20,6 +21,7 @@ pub mod LiveTruths
 pub mod LoopFits
 pub mod Spelled
 pub mod Sizes
+mod MostWords
 pub mod Writables
 mod RegionPuts
 mod Examples

@@ -3,6 +3,7 @@ use Rattle.std.proofs.Common.{◌≡◌, ℕ, ◌+◌, ◌*◌, ◌%◌, ◌^◌
 use Rattle.std.specs.Prelude.{slice_index, slice_index_or}
 use Rattle.std.proofs.lemmas.Bool.{cases_lt}
 use Rattle.std.proofs.lemmas.List.{length-append}
+use Rattle.guest_types.specs.declared.length.Width.{Width}
 use Rattle.guest_types.specs.Length.{width_bits}
 use Rattle.guest_types.specs.Elements.{active}
 use Rattle.guest_types.specs.LaneMemory.{lane_address}
@@ -31,8 +32,9 @@ use Rattle.first_fault.specs.RegionCode.{Mode, Early, Single, narrow_words, load
 use Rattle.first_fault.specs.Fits.{FitsStep, FitsRegion}
 use Rattle.label_fix.specs.Stretches.{Leads}
 use Rattle.first_fault.specs.Prefix.{Inside}
+use Rattle.first_fault.specs.SuppressedLanes.{SuppressedOn}
 use Rattle.first_fault.specs.RegionRuns.{Why, by_break, by_fault, by_stop, RegionOutcome, stops, comes}
-use Rattle.first_fault.proofs.Stretches.{rest_at, word_leads, follow, follow-cut, stop_following}
+use Rattle.first_fault.proofs.Stretches.{rest_at, word_leads, follow, follow-cut, suppressed_first, suppressed_second, stop_following}
 use Rattle.first_fault.proofs.PrefixSteps.{prefix, inside_later, operand_right}
 use Rattle.first_fault.proofs.PureSteps.{narrowed, value_steps, truth_steps}
 use Rattle.first_fault.proofs.BreakSteps.{break_steps}
@@ -43,10 +45,10 @@ use Rattle.chunk_emit.proofs.ItemRuns.{puts-append}
 
 -- ---- stretches in sequence
 
-weaken : {mode : Mode} {x y : Way} {m n : ℕ} → (x ≡ Broke → y ≡ Broke) → (x ≡ Fell → y ≡ Fell) → m ≤ n → Why mode x m → Why mode y n
-weaken f g le (by_break e) = by_break (f e)
-weaken f g le (by_fault early e) = by_fault early (g e)
-weaken f g le (by_stop early lt) = by_stop early (omega (arith, lt, le))
+weaken : {mode : Mode} {w : Width} {x y : Way} {d : Laid} {c e h j : List DraftEntry} {s t u v : State} {m n lane : ℕ} {a : Leads d c s e t m} {b : Leads d h u j v n} → (x ≡ Broke → y ≡ Broke) → (x ≡ Fell → y ≡ Fell) → a.cut ≤ b.cut → (SuppressedOn w a lane → SuppressedOn w b lane) → Why mode w x a lane → Why mode w y b lane
+weaken f g le on (by_break e) = by_break (f e)
+weaken f g le on (by_fault early e) = by_fault early (g e)
+weaken f g le on (by_stop early lt here) = by_stop early (omega (arith, lt, le)) (on here)
 
 -- words after which the lanes are as before
 pub outcome_following : {mode : Mode} {l : Layout} {f : Setting} {d : Laid} {a : State} {n q m k : ℕ} {ls : ℕ → Lane} {code mid rest : List DraftEntry} {s u : State} {way : ℕ → Lane → Way} (most : ℕ) → most ≡ m + k → Leads d code s mid u m → RegionOutcome mode l f d a n q k ls mid u rest way → RegionOutcome mode l f d a n q most ls code s rest way
@@ -54,7 +56,7 @@ outcome_following most total leads (stops some fell st) = stops some fell (stop_
 outcome_following {m = m} {k = k} most total leads (comes c new end le pass on why inside) =
     let both : m + k ≤ most = omega (arith, total) in
     let cut = follow-cut most both leads on in
-    comes c new end le pass (follow most both leads on) (λ lt. weaken (λ e. e) (λ e. e) (omega (arith, cut)) (why lt)) inside
+    comes c new end le pass (follow most both leads on) (λ lt. weaken (λ e. e) (λ e. e) (omega (arith, cut)) (suppressed_second most both leads on) (why lt)) inside
 
 outcome_then : {mode : Mode} {l : Layout} {f : Setting} {d : Laid} {a : State} {n p q m k : ℕ} {ls : ℕ → Lane} {s : State} {code mid rest : List DraftEntry} (most : ℕ) (g h : ℕ → Lane → Way) → most ≡ m + k → RegionOutcome mode l f d a n p m ls code s mid g
     → ((c : ℕ) (new : ℕ → Lane) (u : State) → c ≤ n → Inside mode l f a c p new u → RegionOutcome mode l f d a c q k new mid u rest h) → RegionOutcome mode l f d a n q most ls code s rest (λ j b. way_on (g j b) (h j))
@@ -70,9 +72,9 @@ outcome_then {mode = mode} {l = l} {f = f} {d = d} {a = a} {n = n} {q = q} {m = 
         let cut = follow-cut most both leads leads2 in
         comes c2 new2 u2 (omega (arith, le, le2)) (λ e lt. ap (λ w. way_on w (h (f.i + e))) (pass e (omega (arith, lt, le2))) ∙ pass2 e lt) (follow most both leads leads2)
         (λ lt. ⊎_elim
-        (λ less. let same = ap (λ w. way_on w (h (f.i + c2))) (pass c2 less) in weaken (λ e. same ∙ e) (λ e. same ∙ e) (omega (arith, cut)) (why2 less))
+        (λ less. let same = ap (λ w. way_on w (h (f.i + c2))) (pass c2 less) in weaken (λ e. same ∙ e) (λ e. same ∙ e) (omega (arith, cut)) (suppressed_second most both leads leads2) (why2 less))
         (λ ge. (let e : c ≡ c2 = omega (arith, ge, le2) in
-        weaken (λ x. ap (λ w. way_on w (h (f.i + c2))) x) (λ x. ap (λ w. way_on w (h (f.i + c2))) x) (omega (arith, cut)) (subst (λ c. Why mode (g (f.i + c) (ls (f.i + c))) leads.cut) e (why (omega (arith, lt, e))))))
+        weaken (λ x. ap (λ w. way_on w (h (f.i + c2))) x) (λ x. ap (λ w. way_on w (h (f.i + c2))) x) (omega (arith, cut)) (suppressed_first most both leads leads2) (subst (λ c. Why mode f.w (g (f.i + c) (ls (f.i + c))) leads c) e (why (omega (arith, lt, e))))))
         (cases_lt c2 c))
         inside2
 

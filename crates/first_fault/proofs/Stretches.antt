@@ -1,5 +1,6 @@
 -- Stretches that lead on, with the free elements that they suppress.
 use Rattle.std.proofs.Common.{◌≡◌, ℕ, suc, ◌+◌, ◌≤◌, Bool, false, cond, List, [], ◌∷◌, length, refl, ap, ◌∙◌, subst, arith}
+use Rattle.guest_types.specs.declared.length.Width.{Width}
 use Rattle.guest_types.specs.Memory.{Memory}
 use Rattle.machine_model.specs.declared.outcome.StopKind.{StopKind}
 use Rattle.machine_model.specs.InstructionTable.{Listed, Vector}
@@ -12,6 +13,7 @@ use Rattle.label_fix.specs.Stretches.{Leads, Stops}
 use Rattle.lane_emit.specs.Stretch.{VectorInstruction, and_then, do_all}
 use Rattle.chunk_emit.specs.ChunkCode.{vectors, puts}
 use Rattle.label_fix.specs.Suppressions.{count_on, cuts}
+use Rattle.first_fault.specs.SuppressedLanes.{Suppresses, SuppressedOn}
 
 pub rest_at : {d : Laid} {c : List DraftEntry} {s : State} (most : ℕ) → Leads d c s c s most
 rest_at {d = d} {c = c} {s = s} most = record {
@@ -93,9 +95,48 @@ pub follow-cut : {d : Laid} {c e g : List DraftEntry} {s t u : State} {m n : ℕ
 unfolding follow
 follow-cut most le a b = refl
 
--- a word that may suppress a free element, and one that does not
+-- ---- how many words
+
+word-count : (d : Laid) (i : Listed) (rest : List DraftEntry) (s t : State) (b : Bool) (h : effect i s ≡ Went t) (is : cuts_in i s ≡ b) → (word_leads {d = d} {i = i} {rest = rest} {s = s} {t = t} b h is).count ≡ 1
+unfolding word_leads
+word-count d i rest s t b h is = refl
+
+follow-count : {d : Laid} {c e g : List DraftEntry} {s t u : State} {m n : ℕ} (most : ℕ) (le : m + n ≤ most) (a : Leads d c s e t m) (b : Leads d e t g u n) → (follow most le a b).count ≡ a.count + b.count
+unfolding follow
+follow-count most le a b = refl
+
+-- ---- of two stretches, that on whose way a free element of a lane is suppressed
+
+pub suppressed_first : {w : Width} {d : Laid} {c e g : List DraftEntry} {s t u : State} {m n lane : ℕ} (most : ℕ) (le : m + n ≤ most) (a : Leads d c s e t m) (b : Leads d e t g u n) → SuppressedOn w a lane → SuppressedOn w (follow most le a b) lane
+suppressed_first most le a b on = record {
+  before = on.before;
+  within = let words = follow-count most le a b in omega (arith, on.within, words);
+  load = on.load;
+  after = on.after;
+  state = on.state;
+  by = on.by;
+  suppresses = on.suppresses;
+}
+
+pub suppressed_second : {w : Width} {d : Laid} {c e g : List DraftEntry} {s t u : State} {m n lane : ℕ} (most : ℕ) (le : m + n ≤ most) (a : Leads d c s e t m) (b : Leads d e t g u n) → SuppressedOn w b lane → SuppressedOn w (follow most le a b) lane
+suppressed_second {d = d} {c = c} {s = s} most le a b on = record {
+  before = a.count + on.before;
+  within = let words = follow-count most le a b in omega (arith, on.within, words);
+  load = on.load;
+  after = on.after;
+  state = on.state;
+  by = λ k taken.
+      let e : a.count + on.before + k ≡ a.count + (on.before + k) = omega arith in
+      let f : taken + a.count + on.before ≡ taken + (a.count + on.before) = omega arith in
+      ap (λ j. draft_run d j taken c s) e ∙ a.by (on.before + k) taken ∙ on.by k (taken + a.count) ∙ ap (λ n. draft_run d k n (Put (Vector on.load) ∷ on.after) on.state) f;
+  suppresses = on.suppresses;
+}
+
+-- ---- a word that may suppress a free element, and one that does not
+
 pub record Pair (d : Laid) (c : List DraftEntry) (s : State) (e : List DraftEntry) (t : State) (b : Bool) : Type 0 where
   pub leads : Leads d c s e t 2
+  pub words : leads.count ≡ 2
   pub is : leads.cut ≡ cond b 1 0
 
 pub pair : (d : Laid) (i j : Listed) (rest : List DraftEntry) (s t v : State) (b : Bool) → effect i s ≡ Went t → cuts_in i s ≡ b → effect j t ≡ Went v → cuts_in j t ≡ false → Pair d (Put i ∷ Put j ∷ rest) s rest v b
@@ -105,5 +146,21 @@ pair d i j rest s t v b h is k none =
     let second : Leads d (Put j ∷ rest) t rest v 1 = word_leads false k none in
     record {
       leads = follow 2 le first second;
+      words = follow-count 2 le first second ∙ ap (λ n. n + second.count) (word-count d i (Put j ∷ rest) s t b h is) ∙ ap (λ n. 1 + n) (word-count d j rest t v false k none);
       is = follow-cut 2 le first second ∙ ap (λ n. n + second.cut) (word-cut d i (Put j ∷ rest) s t b h is) ∙ ap (λ n. cond b 1 0 + n) (word-cut d j rest t v false k none) ∙ omega arith;
     }
+
+-- its first word suppresses its free element of a lane
+pub suppressed_here : (w : Width) (d : Laid) (i : VectorInstruction) (more rest : List DraftEntry) (s t : State) (b : Bool) (lane : ℕ) (p : Pair d (Put (Vector i) ∷ more) s rest t b) → Suppresses w i s lane → SuppressedOn w p.leads lane
+suppressed_here w d i more rest s t b lane p h = record {
+  before = 0;
+  within = let words = p.words in omega (arith, words);
+  load = i;
+  after = more;
+  state = s;
+  by = λ k taken.
+      let e : 0 + k ≡ k = omega arith in
+      let f : taken ≡ taken + 0 = omega arith in
+      ap (λ j. draft_run d j taken (Put (Vector i) ∷ more) s) e ∙ ap (λ n. draft_run d k n (Put (Vector i) ∷ more) s) f;
+  suppresses = h;
+}

@@ -2,6 +2,7 @@ pub mod Region
 pub mod RegionCode
 pub mod Fits
 pub mod Prefix
+pub mod SuppressedLanes
 pub mod RegionRuns
 pub mod Rest
 pub mod BreakRegion

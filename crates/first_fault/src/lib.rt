@@ -19,9 +19,10 @@ pub use emit::{emit_exits, emit_single};
 pub use laws::writable_items;
 
 /// The code of the region over a chunk, with every stop list: a prefix of the lanes comes through, with their values in the
-/// registers and P0 exactly these lanes; the first lane left out breaks, faults, or a free element was suppressed. It stops
-/// with Read only where the first lane comes to a read and faults there. Memory, P1, the general registers but X26 and the
-/// vector registers of values from before the loop are as they were. It takes at most as many steps as it has words.
+/// registers and P0 exactly these lanes; the first lane left out breaks, faults, or a free element of that lane was
+/// suppressed, by a load of this code. It stops with Read only where the first lane comes to a read and faults there. Memory,
+/// P1, the general registers but X26 and the vector registers of values from before the loop are as they were. It takes at
+/// most as many steps as it has words.
 pub fn exits_run()
     ensures { ExitsRun }
 {}

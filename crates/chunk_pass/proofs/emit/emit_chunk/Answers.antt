@@ -26,7 +26,7 @@ returns c =
     let l : Layout = layout_in c.args.layout.now in
     let items : List Item = view c.args.items.now in
     record {
-      labels = c.in_ok-put-2.ensures.labels ∙ c.in_ok-emit_items.ensures.labels ∙ c.in_ok-emit_exits.ensures.labels ∙ c.in_ok-emit_loop_index.ensures.labels ∙ c.in_ok-put.ensures.labels;
+      labels = c.in_ok-put-2.ensures.labels ∙ c.in_ok-emit_items.ensures.labels ∙ c.in_ok-emit_exits.ensures.emits.labels ∙ c.in_ok-emit_loop_index.ensures.labels ∙ c.in_ok-put.ensures.labels;
       code = λ rest.
           let last : List DraftEntry = Put (advance_word w) ∷ rest in
           let following : List DraftEntry = puts (items_words w l (rest_of items)) last in
@@ -36,7 +36,7 @@ returns c =
           ∙ ap (λ x. c.emit_items.new.draft.entries ++ Put x ∷ rest) (c.advance.ensures ∙ ap advance_word c.width-2.ensures)
           ∙ c.in_ok-emit_items.ensures.code last
           ∙ ap (λ its. c.emit_exits.new.draft.entries ++ puts (items_words w l its) last) c.rest.ensures
-          ∙ c.in_ok-emit_exits.ensures.code following
+          ∙ c.in_ok-emit_exits.ensures.emits.code following
           ∙ ap (λ its. c.emit_loop_index.new.draft.entries ++ puts (exits_words w l its) following) c.region.ensures
           ∙ c.in_ok-emit_loop_index.ensures.code read
           ∙ c.in_ok-put.ensures.code held_index_code

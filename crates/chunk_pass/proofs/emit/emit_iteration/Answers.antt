@@ -30,7 +30,7 @@ returns c =
     let l : Layout = layout_in c.args.layout.now in
     let items : List Item = view c.args.items.now in
     record {
-      labels = c.in_ok-put-3.ensures.labels ∙ c.in_ok-emit_items.ensures.labels ∙ c.in_ok-emit_single.ensures.labels ∙ c.in_ok-put-2.ensures.labels ∙ c.in_ok-put.ensures.labels;
+      labels = c.in_ok-put-3.ensures.labels ∙ c.in_ok-emit_items.ensures.labels ∙ c.in_ok-emit_single.ensures.emits.labels ∙ c.in_ok-put-2.ensures.labels ∙ c.in_ok-put.ensures.labels;
       code = λ rest.
           let last : List DraftEntry = Put (advance_word w) ∷ rest in
           let following : List DraftEntry = puts (items_words w l (rest_of items)) last in
@@ -39,7 +39,7 @@ returns c =
           ∙ ap (λ x. c.emit_items.new.draft.entries ++ Put x ∷ rest) (c.advance.ensures ∙ ap advance_word c.width-2.ensures)
           ∙ c.in_ok-emit_items.ensures.code last
           ∙ ap (λ its. c.emit_single.new.draft.entries ++ puts (items_words w l its) last) c.rest.ensures
-          ∙ c.in_ok-emit_single.ensures.code following
+          ∙ c.in_ok-emit_single.ensures.emits.code following
           ∙ ap (λ its. c.put-2.new.self.entries ++ puts (single_words w l its) following) c.region.ensures
           ∙ c.in_ok-put-2.ensures.code read
           ∙ ap (λ x. c.put.new.self.entries ++ Put x ∷ read) (c.first_lane.ensures ∙ ap (λ v. Vector (word whilelo (0 ∷ 31 ∷ 26 ∷ size_of v ∷ []))) c.width.ensures)
