@@ -1,8 +1,7 @@
 //! The code of the break region.
 
 ghost use Rattle.std.specs.Prelude.{◌≡◌, ◌+◌, ◌*◌, ◌<◌, ◌≤◌, [], ◌∷◌, length, OnOk, if◌then◌else◌};
-ghost use Rattle.label_fix.specs.Emits.{Emits, EmitsBefore, puts};
-ghost use Rattle.label_fix.specs.Finished.{size};
+ghost use Rattle.label_fix.specs.Emits.{Emits, EmitsBefore, AppendsWords, puts};
 ghost use Rattle.loop_form.specs.LoopView.{op_of, view_of, view};
 ghost use Rattle.lane_emit.specs.ItemCode as lane;
 ghost use Rattle.chunk_emit.specs.Registers as layouts;
@@ -221,7 +220,7 @@ pub fn emit_exits(
     draft: &mut Draft,
 ) -> Result<(), AllocError>
     requires { AreWritable (width_in layout.now) (view items.now) }
-    ensures words { OnOk result (size draft.new.entries ≤ size draft.old.entries + (1 + 5 * length items.now)) }
+    ensures words { OnOk result (AppendsWords draft.old draft.new (1 + 5 * length items.now)) }
     ensures emits { let words = region.exits_words (width_in layout.now) (layout_in layout.now) (view items.now) in
         OnOk result (Emits draft.old draft.new draft.old.labels (puts words)) }
 {
@@ -237,7 +236,7 @@ pub fn emit_single(
     draft: &mut Draft,
 ) -> Result<(), AllocError>
     requires { AreWritable (width_in layout.now) (view items.now) }
-    ensures words { OnOk result (size draft.new.entries ≤ size draft.old.entries + 4 * length items.now) }
+    ensures words { OnOk result (AppendsWords draft.old draft.new (4 * length items.now)) }
     ensures emits { let words = region.single_words (width_in layout.now) (layout_in layout.now) (view items.now) in
         OnOk result (Emits draft.old draft.new draft.old.labels (puts words)) }
 {
