@@ -1,6 +1,6 @@
 //! The code of the break region.
 
-ghost use Rattle.std.specs.Prelude.{◌≡◌, ◌+◌, ◌*◌, ◌<◌, ◌≤◌, [], ◌∷◌, length, OnOk, if◌then◌else◌};
+ghost use Rattle.std.specs.Prelude.{◌≡◌, ◌+◌, ◌*◌, ◌<◌, [], ◌∷◌, length, OnOk, if◌then◌else◌};
 ghost use Rattle.label_fix.specs.Emits.{Emits, EmitsBefore, AppendsWords, puts};
 ghost use Rattle.loop_form.specs.LoopView.{op_of, view_of, view};
 ghost use Rattle.lane_emit.specs.ItemCode as lane;
