@@ -14,7 +14,7 @@ use Rattle.kernel_compile.proofs.ReservedWords.{lanes_alone}
 use Rattle.kernel_compile.proofs.VectorJoin.{IsJoined}
 use Rattle.kernel_compile.proofs.VectorFiles.{Promised, vector_file}
 use Rattle.kernel_compile.proofs.VectorEmitted.{Emitted, is_whole, label_given, label_placed, few_words}
-use Rattle.kernel_compile.proofs.emit.emit_lanes.Goals as goal
+use Rattle.kernel_compile.proofs.emit.emit_vector_code.Goals as goal
 
 sound : (kernel : Checked) → check_fault (program kernel) ≡ None
 unfolding program
