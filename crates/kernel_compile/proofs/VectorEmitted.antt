@@ -1,5 +1,5 @@
 -- What the emitting calls of a kernel with a vector part leave in a draft.
-use Rattle.std.proofs.Common.{◌≡◌, ℕ, ◌+◌, ◌*◌, ◌<◌, ◌≤◌, List, [], ◌∷◌, ◌++◌, length, append-nil, Option, Some, None, sym, ap, ◌∙◌, subst, arith}
+use Rattle.std.proofs.Common.{◌≡◌, ℕ, ◌+◌, ◌*◌, ◌<◌, ◌≤◌, List, [], ◌∷◌, ◌++◌, append-nil, Option, Some, None, sym, ap, ◌∙◌, subst, arith}
 use Rattle.kernel_tree.specs.Plain.{PlainLoop, Returned, Program}
 use Rattle.kernel_tree.specs.Items.{size_of, loop_index}
 use Rattle.label_fix.specs.DraftRun.{DraftEntry, Branch, Place, Always}
@@ -10,9 +10,7 @@ use Rattle.reg_assign.specs.Registers.{Assignment}
 use Rattle.dependence.specs.Apart.{used_of}
 use Rattle.loop_code.specs.Kernel.{begin_code, begin_labels, scalar_code, scalar_labels, for_loop_labels}
 use Rattle.overlap_guard.specs.Guard.{is_free, guard_code}
-use Rattle.overlap_guard.proofs.Placed.{guard_words}
 use Rattle.vector_emit.specs.VectorCode.{vector_code}
-use Rattle.vector_emit.proofs.CodeSizes.{vector_size}
 use Rattle.kernel_compile.proofs.VectorPlaced.{guard_end, whole_code, grows_by, whole_once}
 use Rattle.kernel_compile.proofs.VectorJoin.{scalar_part, guard_part, vector_part}
 use Rattle.kernel_compile.proofs.VectorFiles.{IsWhole}
@@ -87,14 +85,10 @@ module _ {R : ℕ → ℕ} {k : Program} {a b : Assignment} {vector scalar n0 n1
         placed = subst Once (sym all) (whole_once R k a b n3 n5 n6 (omega (arith, x, y, first_label)) (omega (arith, u, v)) d.guarded);
       }
 
-  -- by the words of the code before the loop and of scalar code
-  pub few_words : length (used_of k) ≤ 7 → size e2 ≤ size e1 + (40 + 8 * size_of k) → size e4 ≤ size e3 + (64 + 16 * size_of k) → size e7 ≤ 860 + 56 * size_of k
-  few_words few begin loop =
+  -- by the words of each part
+  pub few_words : size e2 ≤ size e1 + (40 + 8 * size_of k) → size e4 ≤ size e3 + (64 + 16 * size_of k) → size e6 ≤ size e5 + 464 → size e7 ≤ size e6 + (200 + 32 * size_of k) → size e7 ≤ 860 + 56 * size_of k
+  few_words begin loop guard lanes =
       let none : size e1 ≡ 0 = ap size (d.same ∙ d.none) in
       let branch : size e3 ≡ size e2 + 1 = ap size (sym (append-nil e3) ∙ d.branch []) ∙ size-append e2 (Branch Always vector ∷ []) in
       let place : size e5 ≡ size e4 = ap size (sym (append-nil e5) ∙ d.place []) ∙ size-append e4 (Place vector ∷ []) ∙ (let z : size e4 + 0 ≡ size e4 = omega arith in z) in
-      let guard : size e6 ≡ size e5 + size (guard_code k scalar n5 []) = ap size (sym (append-nil e6) ∙ d.guard []) ∙ size-append e5 (guard_code k scalar n5 []) in
-      let lanes : size e7 ≡ size e6 + size (vector_code R k a b scalar n6 []) = ap size (sym (append-nil e7) ∙ d.lanes []) ∙ size-append e6 (vector_code R k a b scalar n6 []) in
-      let tests = guard_words k scalar n5 [] few in
-      let most = vector_size R k a b scalar n6 [] in
-      omega (arith, begin, loop, none, branch, place, guard, lanes, tests, most)
+      omega (arith, begin, loop, none, branch, place, guard, lanes)

@@ -11,7 +11,7 @@ ghost use Rattle.promises.specs.Faithful.{FreeFaithful, FreeEnds, CloseFaithful}
 ghost use Rattle.promises.specs.Refusals.{too_many, IsRefusal};
 ghost use Rattle.promises.specs.Reserved.{LeavesReserved};
 
-use crate::emit::{emit_iterations, emit_lanes};
+use crate::emit::{emit_scalar_code, emit_vector_code};
 use crate::registers::{scalar_registers, vector_registers};
 use dependence::reason::Class;
 use kernel_tree::Checked;
@@ -72,7 +72,7 @@ fn scalar_words(alloc: Global, kernel: &Checked) -> Result<Vec<u32>, CompileFaul
     faithful_files();
     scalar_files();
     let regs = scalar_registers(alloc, kernel)?;
-    let words = emit_iterations(alloc, kernel, &regs)?;
+    let words = emit_scalar_code(alloc, kernel, &regs)?;
     Ok(words)
 }
 
@@ -87,6 +87,6 @@ fn vector_words(alloc: Global, kernel: &Checked) -> Result<Vec<u32>, CompileFaul
 {
     let regs = vector_registers(alloc, kernel)?;
     let facts = loop_facts(alloc, kernel)?;
-    let words = emit_lanes(alloc, &facts, &regs)?;
+    let words = emit_vector_code(alloc, &facts, &regs)?;
     Ok(words)
 }

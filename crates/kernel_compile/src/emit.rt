@@ -25,7 +25,7 @@ use std::alloc::{AllocError, Global};
 use vector_emit::{emit_vector, vector_runs};
 
 /// The words of the code that runs iterations one by one, with registers for the intervals of class X.
-pub fn emit_iterations(
+pub fn emit_scalar_code(
     alloc: Global,
     kernel: &Checked,
     regs: &Assigned,
@@ -51,7 +51,7 @@ pub fn emit_iterations(
 
 /// The words of the code that runs a chunk of iterations at once where arrays lie apart. The vector part stands last, since
 /// it ends in scalar code, and so does the guard before it where they do not.
-pub fn emit_lanes(
+pub fn emit_vector_code(
     alloc: Global,
     facts: &LoopFacts<'_>,
     regs: &VectorRegs,

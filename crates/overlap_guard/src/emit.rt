@@ -3,6 +3,7 @@
 ghost use Rattle.std.specs.Prelude.{◌≡◌, ◌<◌, ◌≤◌, ◌+◌, ◌*◌, pos, ◌*ℤ◌, unsigned_abs, ◌||◌, OnOk};
 ghost use Rattle.std.specs.List.{list_any};
 ghost use Rattle.label_fix.specs.Emits.{Emits};
+ghost use Rattle.label_fix.specs.Finished.{size};
 ghost use Rattle.dependence.specs.declared.used.Extent.{Extent};
 ghost use Rattle.dependence.specs.Apart.{is_stored, used_of};
 ghost use Rattle.loop_form.specs.View.{program};
@@ -14,7 +15,7 @@ ghost use Rattle.guest_types.specs.Length.{width_bytes};
 ghost use Rattle.kernel_tree.specs.Limits.{most_offset};
 
 use crate::instructions::{bytes_at, compare, element_at, greater, part, step, tested, with_top};
-use crate::laws::fit_arrays;
+use crate::laws::{few_arrays, fit_arrays};
 use crate::used::arrays;
 use a64_code::{AddSubOp, Cond, Reg, zero};
 use dependence::{Extent, Used, bound_place};
@@ -221,8 +222,7 @@ fn emit_tests(
     emit_none(draft, bound, ok, u, v)?;
     emit_below(draft, bound, v, u)?;
     draft.branch(BranchKind::If(Cond::Lo), fail)?;
-    draft.place(ok)?;
-    Ok(())
+    draft.place(ok)
 }
 
 // The same with a label of their own.
@@ -367,11 +367,13 @@ pub fn emit_used(
 /// The guard: code that goes on exactly where Apart holds, and else to a label.
 pub fn guard(kernel: &Checked, fail: Label, draft: &mut Draft) -> Result<(), AllocError>
     requires failed { fail < draft.old.labels }
-    ensures { let used = used_of (program kernel.now) in
+    ensures words { OnOk result (size draft.new.entries ≤ size draft.old.entries + 464) }
+    ensures emits { let used = used_of (program kernel.now) in
         OnOk result (Emits draft.old draft.new (guard.label_by (guard.is_free used) draft.old.labels used)
         (guard.guard_code (program kernel.now) fail draft.old.labels)) }
 {
     fit_arrays(kernel);
+    few_arrays(kernel);
     let used = arrays(kernel);
     emit_used(draft, register(bound_place(kernel)), fail, &used)
 }

@@ -12,3 +12,4 @@ pub mod StartSteps
 pub mod StartRuns
 pub mod StartEmits
 mod StartExamples
+pub mod EdgeSizes

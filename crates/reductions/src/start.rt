@@ -1,16 +1,19 @@
 //! Emits the code before the loop of chunks.
 
-ghost use Rattle.std.specs.Prelude.{◌≡◌, ◌≤◌, [], ◌∷◌, length, unwrap_or, OnOk};
+ghost use Rattle.std.specs.Prelude.{◌≡◌, ◌+◌, ◌≤◌, [], ◌∷◌, length, unwrap_or, OnOk};
 ghost use Rattle.sve_code.specs.Table.{dup};
 ghost use Rattle.machine_model.specs.InstructionTable.{Vector};
 ghost use Rattle.kernel_tree.specs.Plain.{parameters_of};
 ghost use Rattle.reg_assign.specs.declared.interval.RegClass.TheVariants as class;
 ghost use Rattle.reg_assign.specs.Registers.{IsAssignment};
 ghost use Rattle.loop_form.specs.HeldView.{view_of, view};
+ghost use Rattle.loop_form.specs.Needs.{throughout};
 ghost use Rattle.loop_form.specs.Registers.{FitsKernel};
 ghost use Rattle.loop_form.specs.View.{program};
 ghost use Rattle.loop_form.specs.Streams.{place_of};
+ghost use Rattle.close_bound.specs.CloseBound.{laid_all};
 ghost use Rattle.label_fix.specs.Draft.{word_view};
+ghost use Rattle.label_fix.specs.Finished.{size};
 ghost use Rattle.lane_emit.specs.Stretch.{word};
 ghost use Rattle.lane_emit.specs.LaneCode.{size_of};
 ghost use Rattle.lane_emit.specs.Joins as joins;
@@ -73,8 +76,7 @@ fn emit_number(draft: &mut Draft, width: Width, z: VectorReg, value: u64) -> Res
 {
     let scratch = Bits { number: 26 };
     emit_const(draft, scratch, value)?;
-    draft.put(broadcast(width, z, scratch))?;
-    Ok(())
+    draft.put(broadcast(width, z, scratch))
 }
 
 // A value that is held throughout, in its vector register.
@@ -137,7 +139,9 @@ pub fn emit_start(
     regs: &VectorRegs,
 ) -> Result<(), AllocError>
     requires fits { FitsKernel (program facts.now.kernel.now) class.Z regs.now.z }
-    ensures { OnOk result (Emits draft.old draft.new draft.old.labels
+    ensures words { let most = 1 + laid_all (throughout (program facts.now.kernel.now) class.Z) in
+        OnOk result (size draft.new.entries ≤ size draft.old.entries + most) }
+    ensures emits { OnOk result (Emits draft.old draft.new draft.old.labels
         (code.start_code (program facts.now.kernel.now) regs.now.z)) }
 {
     few_params(facts.kernel);

@@ -1,9 +1,10 @@
 //! Emits the passes of the loop.
 
-ghost use Rattle.std.specs.Prelude.{◌≡◌, ◌+◌, ◌<◌, suc, [], ◌∷◌, OnOk};
+ghost use Rattle.std.specs.Prelude.{◌≡◌, ◌+◌, ◌*◌, ◌<◌, ◌≤◌, suc, [], ◌∷◌, OnOk};
 ghost use Rattle.std.specs.List.{list_any};
 ghost use Rattle.a64_code.specs.Table.{subs};
 ghost use Rattle.reg_assign.specs.declared.interval.RegClass.TheVariants as class;
+ghost use Rattle.close_bound.specs.CloseBound.{pass_steps};
 ghost use Rattle.label_fix.specs.Draft.{word_view};
 ghost use Rattle.label_fix.specs.DraftRun as plain;
 ghost use Rattle.loop_form.specs.LoopView.{view};
@@ -14,6 +15,7 @@ ghost use Rattle.dependence.specs.Classes.{class_of};
 ghost use Rattle.dependence.specs.declared.reason.Class.TheVariants.{Vector};
 ghost use Rattle.label_fix.specs.Emits.{Emits};
 ghost use Rattle.label_fix.specs.DraftRun.{ins};
+ghost use Rattle.label_fix.specs.Finished.{size};
 ghost use Rattle.lane_emit.specs.RegistersView.{kernel_in, vectors_in, predicates_in};
 ghost use Rattle.chunk_emit.specs.Writable.{AreWritable};
 ghost use Rattle.chunk_emit.specs.View.{layout_in, width_in};
@@ -146,8 +148,7 @@ fn emit_breaking(
     let head = draft.label()?;
     let end = draft.label()?;
     emit_chunk_part(alloc, layout, bound, items, head, end, draft)?;
-    emit_iteration_part(alloc, layout, items, head, end, draft)?;
-    Ok(())
+    emit_iteration_part(alloc, layout, items, head, end, draft)
 }
 
 // The passes of a loop without a break.
@@ -204,7 +205,9 @@ pub fn emit_passes(
     requires class { class_of (program facts.now.kernel.now) ≡ Vector }
     requires vectors { FitsKernel (program facts.now.kernel.now) class.Z regs.now.z }
     requires predicates { FitsKernel (program facts.now.kernel.now) class.P regs.now.p }
-    ensures { let passes = code.passes_code (program facts.now.kernel.now) regs.now.z regs.now.p in
+    ensures words { let most = 2 * pass_steps (program facts.now.kernel.now) in
+        OnOk result (size draft.new.entries ≤ size draft.old.entries + most) }
+    ensures emits { let passes = code.passes_code (program facts.now.kernel.now) regs.now.z regs.now.p in
         OnOk result (Emits draft.old draft.new (draft.old.labels + 2) (passes draft.old.labels)) }
 {
     writable_items(facts.kernel, regs);
@@ -213,6 +216,5 @@ pub fn emit_passes(
     let bound = Bits {
         number: bound_place(facts.kernel),
     };
-    emit_by(alloc, &layout, bound, &items, draft)?;
-    Ok(())
+    emit_by(alloc, &layout, bound, &items, draft)
 }

@@ -40,6 +40,5 @@ pub fn emit_vector(
     emit_start(draft, facts, regs)?;
     emit_passes(alloc, facts, regs, draft)?;
     emit_fold(alloc, draft, facts, regs)?;
-    draft.branch(BranchKind::Always, scalar)?;
-    Ok(())
+    draft.branch(BranchKind::Always, scalar)
 }

@@ -14,8 +14,8 @@ use Rattle.dependence.specs.Classes.{class_of}
 use Rattle.promises.specs.Faithful.{FreeEnds, CloseFaithful}
 use Rattle.kernel_compile.proofs.compile.vector_words.Goals as goal
 
-pub emit_lanes-requires : goal.emit_lanes-requires
-emit_lanes-requires c = record {
+pub emit_vector_code-requires : goal.emit_vector_code-requires
+emit_vector_code-requires c = record {
   class = ap (λ (kernel : Checked). class_of (program kernel)) c.in_ok-facts.ensures ∙ c.requires;
   vectors = subst (λ (kernel : Checked). FitsKernel (program kernel) Z c.in_ok-regs.regs.z) (sym c.in_ok-facts.ensures) c.in_ok-regs.ensures.vectors;
   predicates = subst (λ (kernel : Checked). FitsKernel (program kernel) P c.in_ok-regs.regs.p) (sym c.in_ok-facts.ensures) c.in_ok-regs.ensures.predicates;

@@ -14,7 +14,7 @@ use Rattle.kernel_compile.proofs.ReservedWords.{lanes_alone}
 use Rattle.kernel_compile.proofs.VectorJoin.{IsJoined}
 use Rattle.kernel_compile.proofs.VectorFiles.{Promised, vector_file}
 use Rattle.kernel_compile.proofs.VectorEmitted.{Emitted, is_whole, label_given, label_placed, few_words}
-use Rattle.kernel_compile.proofs.emit.emit_lanes.Goals as goal
+use Rattle.kernel_compile.proofs.emit.emit_vector_code.Goals as goal
 
 sound : (kernel : Checked) → check_fault (program kernel) ≡ None
 unfolding program
@@ -66,7 +66,7 @@ emit_vector-requires c = record {
   vectors = c.requires.vectors;
   predicates = c.requires.predicates;
   scalars = c.requires.scalars;
-  given = label_given (program c.args.facts.now.kernel.now) _ _ _ _ _ c.in_ok-scalar.ensures.entry c.in_ok-scalar.ensures.emits.labels c.in_ok-place.ensures.labels c.in_ok-guard.ensures.labels;
+  given = label_given (program c.args.facts.now.kernel.now) _ _ _ _ _ c.in_ok-scalar.ensures.entry c.in_ok-scalar.ensures.emits.labels c.in_ok-place.ensures.labels c.in_ok-guard.ensures.emits.labels;
 }
 
 pub finish-requires : goal.finish-requires
@@ -90,12 +90,11 @@ finish-requires c =
       loop = c.in_ok-scalar.ensures.emits.code;
       placed = c.in_ok-place.ensures.labels;
       place = c.in_ok-place.ensures.code;
-      guarded = c.in_ok-guard.ensures.labels;
-      guard = c.in_ok-guard.ensures.code;
+      guarded = c.in_ok-guard.ensures.emits.labels;
+      guard = c.in_ok-guard.ensures.emits.code;
       lanes = c.in_ok-emit_vector.ensures.emits.code;
     } in
-    let arrays = few-arrays k (sound c.args.facts.now.kernel.now) (few_params k (spelled c.args.facts.now.kernel.now)) in
-    let few = few_words d arrays.few c.in_ok-emit_begin.ensures.words c.in_ok-scalar.ensures.words in
+    let few = few_words d c.in_ok-emit_begin.ensures.words c.in_ok-scalar.ensures.words c.in_ok-guard.ensures.words c.in_ok-emit_vector.ensures.words in
     record { few = omega (arith, few, c.few_items.ensures.size) }
 
 -- the drafts, one after another
@@ -116,16 +115,15 @@ drafts c = record {
   loop = c.in_ok-scalar.ensures.emits.code;
   placed = c.in_ok-place.ensures.labels;
   place = c.in_ok-place.ensures.code;
-  guarded = c.in_ok-guard.ensures.labels;
-  guard = c.in_ok-guard.ensures.code;
+  guarded = c.in_ok-guard.ensures.emits.labels;
+  guard = c.in_ok-guard.ensures.emits.code;
   lanes = c.in_ok-emit_vector.ensures.emits.code;
 }
 
 pub returns-clause-short : goal.returns-clause-short
 returns-clause-short c =
     let k = program c.args.facts.now.kernel.now in
-    let arrays = few-arrays k (sound c.args.facts.now.kernel.now) (few_params k (spelled c.args.facts.now.kernel.now)) in
-    let few = few_words (drafts c) arrays.few c.in_ok-emit_begin.ensures.words c.in_ok-scalar.ensures.words in
+    let few = few_words (drafts c) c.in_ok-emit_begin.ensures.words c.in_ok-scalar.ensures.words c.in_ok-guard.ensures.words c.in_ok-emit_vector.ensures.words in
     let n = ap length c.in_ok-words.ensures.words in
     omega (arith, few, n, words_length c.emit_vector.new.draft.entries)
 
@@ -133,7 +131,7 @@ promised : (c : goal.After-have_32_bits) → Promised (program c.args.facts.now.
 promised c =
     let k = program c.args.facts.now.kernel.now in
     let arrays = few-arrays k (sound c.args.facts.now.kernel.now) (few_params k (spelled c.args.facts.now.kernel.now)) in
-    let few = few_words (drafts c) arrays.few c.in_ok-emit_begin.ensures.words c.in_ok-scalar.ensures.words in
+    let few = few_words (drafts c) c.in_ok-emit_begin.ensures.words c.in_ok-scalar.ensures.words c.in_ok-guard.ensures.words c.in_ok-emit_vector.ensures.words in
     let small : All (λ w. w < 2 ^ 32) c.in_ok-words.words.items = subst (λ ws. All (λ w. w < 2 ^ 32) ws) c.deref-3.ensures.value c.have_32_bits.ensures in
     let joined : IsJoined k c.args.regs.now.z c.args.regs.now.p c.args.regs.now.x = record {
       spelled = spelled c.args.facts.now.kernel.now;

@@ -6,7 +6,7 @@ use Rattle.scalar_words.specs.KernelRegisters.{register_in}
 use Rattle.promises.specs.Reserved.{LeavesReserved}
 use Rattle.kernel_compile.proofs.ScalarFaithful.{emitted, compiled}
 use Rattle.kernel_compile.proofs.ReservedWords.{iterations_alone}
-use Rattle.kernel_compile.proofs.emit.emit_iterations.Goals as goal
+use Rattle.kernel_compile.proofs.emit.emit_scalar_code.Goals as goal
 
 -- the listing that is handed on
 pub emit_begin-requires-clause-listed : goal.emit_begin-requires-clause-listed
