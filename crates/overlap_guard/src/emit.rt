@@ -2,8 +2,7 @@
 
 ghost use Rattle.std.specs.Prelude.{◌≡◌, ◌<◌, ◌≤◌, ◌+◌, ◌*◌, pos, ◌*ℤ◌, unsigned_abs, ◌||◌, OnOk};
 ghost use Rattle.std.specs.List.{list_any};
-ghost use Rattle.label_fix.specs.Emits.{Emits};
-ghost use Rattle.label_fix.specs.Finished.{size};
+ghost use Rattle.label_fix.specs.Emits.{Emits, AppendsWords};
 ghost use Rattle.dependence.specs.declared.used.Extent.{Extent};
 ghost use Rattle.dependence.specs.Apart.{is_stored, used_of};
 ghost use Rattle.loop_form.specs.View.{program};
@@ -367,7 +366,7 @@ pub fn emit_used(
 /// The guard: code that goes on exactly where Apart holds, and else to a label.
 pub fn guard(kernel: &Checked, fail: Label, draft: &mut Draft) -> Result<(), AllocError>
     requires failed { fail < draft.old.labels }
-    ensures words { OnOk result (size draft.new.entries ≤ size draft.old.entries + 464) }
+    ensures words { OnOk result (AppendsWords draft.old draft.new 464) }
     ensures emits { let used = used_of (program kernel.now) in
         OnOk result (Emits draft.old draft.new (guard.label_by (guard.is_free used) draft.old.labels used)
         (guard.guard_code (program kernel.now) fail draft.old.labels)) }

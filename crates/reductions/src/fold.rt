@@ -1,6 +1,6 @@
 //! Emits the code after the loop of chunks.
 
-ghost use Rattle.std.specs.Prelude.{◌≡◌, ◌+◌, ◌≤◌, length, OnOk};
+ghost use Rattle.std.specs.Prelude.{◌≡◌, ◌≤◌, length, OnOk};
 ghost use Rattle.reg_assign.specs.declared.interval.RegClass.TheVariants as class;
 ghost use Rattle.reg_assign.specs.Registers.{IsAssignment};
 ghost use Rattle.loop_form.specs.HeldView.{view_of, view};
@@ -8,8 +8,7 @@ ghost use Rattle.loop_form.specs.Needs.{throughout};
 ghost use Rattle.loop_form.specs.Registers.{FitsKernel};
 ghost use Rattle.loop_form.specs.View.{program};
 ghost use Rattle.close_bound.specs.CloseBound.{joined_all};
-ghost use Rattle.label_fix.specs.Emits.{Emits};
-ghost use Rattle.label_fix.specs.Finished.{size};
+ghost use Rattle.label_fix.specs.Emits.{Emits, AppendsWords};
 ghost use Rattle.scalar_words.specs.KernelRegisters as kernels;
 ghost use Rattle.scalar_words.specs.KernelRegisters.{register_in};
 ghost use Rattle.scalar_words.specs.View.{homes_of};
@@ -110,7 +109,7 @@ pub fn emit_fold(
     requires z_fits { FitsKernel (program facts.now.kernel.now) class.Z regs.now.z }
     requires x_fits { FitsKernel (program facts.now.kernel.now) class.X regs.now.x }
     ensures words { let most = joined_all (throughout (program facts.now.kernel.now) class.Z) in
-        OnOk result (size draft.new.entries ≤ size draft.old.entries + most) }
+        OnOk result (AppendsWords draft.old draft.new most) }
     ensures emits { OnOk result (Emits draft.old draft.new draft.old.labels
         (code.fold_code (register_in regs.now.x) (program facts.now.kernel.now) regs.now.z)) }
 {

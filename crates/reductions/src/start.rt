@@ -13,11 +13,10 @@ ghost use Rattle.loop_form.specs.View.{program};
 ghost use Rattle.loop_form.specs.Streams.{place_of};
 ghost use Rattle.close_bound.specs.CloseBound.{laid_all};
 ghost use Rattle.label_fix.specs.Draft.{word_view};
-ghost use Rattle.label_fix.specs.Finished.{size};
 ghost use Rattle.lane_emit.specs.Stretch.{word};
 ghost use Rattle.lane_emit.specs.LaneCode.{size_of};
 ghost use Rattle.lane_emit.specs.Joins as joins;
-ghost use Rattle.label_fix.specs.Emits.{Emits};
+ghost use Rattle.label_fix.specs.Emits.{Emits, AppendsWords};
 ghost use Rattle.reductions.specs.EdgeCode as code;
 
 use crate::accumulators::{counted_vector, first_operator, type_of};
@@ -140,7 +139,7 @@ pub fn emit_start(
 ) -> Result<(), AllocError>
     requires fits { FitsKernel (program facts.now.kernel.now) class.Z regs.now.z }
     ensures words { let most = 1 + laid_all (throughout (program facts.now.kernel.now) class.Z) in
-        OnOk result (size draft.new.entries ≤ size draft.old.entries + most) }
+        OnOk result (AppendsWords draft.old draft.new most) }
     ensures emits { OnOk result (Emits draft.old draft.new draft.old.labels
         (code.start_code (program facts.now.kernel.now) regs.now.z)) }
 {

@@ -1,6 +1,6 @@
 //! Emits the passes of the loop.
 
-ghost use Rattle.std.specs.Prelude.{◌≡◌, ◌+◌, ◌*◌, ◌<◌, ◌≤◌, suc, [], ◌∷◌, OnOk};
+ghost use Rattle.std.specs.Prelude.{◌≡◌, ◌+◌, ◌*◌, ◌<◌, suc, [], ◌∷◌, OnOk};
 ghost use Rattle.std.specs.List.{list_any};
 ghost use Rattle.a64_code.specs.Table.{subs};
 ghost use Rattle.reg_assign.specs.declared.interval.RegClass.TheVariants as class;
@@ -13,9 +13,8 @@ ghost use Rattle.loop_form.specs.View.{program};
 ghost use Rattle.dependence.specs.Apart as apart;
 ghost use Rattle.dependence.specs.Classes.{class_of};
 ghost use Rattle.dependence.specs.declared.reason.Class.TheVariants.{Vector};
-ghost use Rattle.label_fix.specs.Emits.{Emits};
+ghost use Rattle.label_fix.specs.Emits.{Emits, AppendsWords};
 ghost use Rattle.label_fix.specs.DraftRun.{ins};
-ghost use Rattle.label_fix.specs.Finished.{size};
 ghost use Rattle.lane_emit.specs.RegistersView.{kernel_in, vectors_in, predicates_in};
 ghost use Rattle.chunk_emit.specs.Writable.{AreWritable};
 ghost use Rattle.chunk_emit.specs.View.{layout_in, width_in};
@@ -206,7 +205,7 @@ pub fn emit_passes(
     requires vectors { FitsKernel (program facts.now.kernel.now) class.Z regs.now.z }
     requires predicates { FitsKernel (program facts.now.kernel.now) class.P regs.now.p }
     ensures words { let most = 2 * pass_steps (program facts.now.kernel.now) in
-        OnOk result (size draft.new.entries ≤ size draft.old.entries + most) }
+        OnOk result (AppendsWords draft.old draft.new most) }
     ensures emits { let passes = code.passes_code (program facts.now.kernel.now) regs.now.z regs.now.p in
         OnOk result (Emits draft.old draft.new (draft.old.labels + 2) (passes draft.old.labels)) }
 {
