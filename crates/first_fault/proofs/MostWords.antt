@@ -1,6 +1,6 @@
 -- The most words that an item of the region has: five where reads may stop early, which a read under a mask at an offset has, and four
 -- over one lane.
-use Rattle.std.proofs.Common.{◌≡◌, ℕ, ◌+◌, ◌*◌, ◌≤◌, ℤ, pos, negsuc, zero, suc, Bool, true, false, List, [], ◌∷◌, ◌++◌, length, Option, Some, None, refl, ap, arith}
+use Rattle.std.proofs.Common.{◌≡◌, ℕ, ◌+◌, ◌*◌, ◌≤◌, ℤ, pos, negsuc, zero, suc, Bool, true, false, List, [], ◌∷◌, ◌++◌, length, Option, Some, None, refl, arith}
 use Rattle.std.specs.Prelude.{if◌then◌else◌}
 use Rattle.std.proofs.lemmas.List.{length-append, length-map}
 use Rattle.guest_types.specs.declared.length.Width.{Width}
@@ -12,7 +12,7 @@ use Rattle.machine_model.specs.InstructionTable.{Listed}
 use Rattle.label_fix.specs.DraftRun.{DraftEntry, Put}
 use Rattle.label_fix.specs.Emits.{puts}
 use Rattle.label_fix.specs.Finished.{size}
-use Rattle.label_fix.proofs.PlacedRuns.{size-append}
+use Rattle.label_fix.proofs.PlacedRuns.{words_added}
 use Rattle.loop_form.specs.declared.loop_item.LoopItem.{LoopItem}
 use Rattle.loop_form.specs.declared.loop_item.Operand.TheVariants.{Outer}
 use Rattle.loop_form.specs.LoopView.{view_of, view}
@@ -112,11 +112,8 @@ size-puts (i ∷ is) = let more = size-puts is in omega (arith, more)
 
 appended : (words : List Listed) (n : ℕ) (old new : List DraftEntry) → new ++ [] ≡ old ++ puts words [] → length words ≤ n → size new ≤ size old + n
 appended words n old new e few =
-    let same = ap size e in
-    let whole = size-append new [] in
-    let both = size-append old (puts words []) in
     let own = size-puts words in
-    omega (arith, same, whole, both, own, few)
+    words_added old new (puts words []) n e (omega (arith, own, few))
 
 pub exits_most : (w : Width) (l : Layout) (i : Listed) (items : List LoopItem) (old mid new : List DraftEntry) → mid ++ [] ≡ old ++ Put i ∷ [] → new ++ [] ≡ mid ++ puts (region_words Early w l (view items)) [] → size new ≤ size old + (1 + 5 * length items)
 exits_most w l i items old mid new one more =

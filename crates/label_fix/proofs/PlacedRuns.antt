@@ -54,6 +54,14 @@ size-append (Put i ∷ x) y = omega (arith, size-append x y)
 size-append (Branch k l ∷ x) y = omega (arith, size-append x y)
 size-append (Place l ∷ x) y = size-append x y
 
+-- code that was appended adds its words
+pub words_added : (old new code : List DraftEntry) (most : ℕ) → new ++ [] ≡ old ++ code → size code ≤ most + 0 → size new ≤ size old + most
+words_added old new code most e few =
+    let same = ap size e in
+    let whole = size-append new [] in
+    let both = size-append old code in
+    omega (arith, same, whole, both, few)
+
 -- the entries up to the place of a label
 abbrev before : List DraftEntry → ℕ → List DraftEntry
 before [] l = []

@@ -27,7 +27,6 @@ use Rattle.value_code.specs.HeldNumbers.{loading_words}
 use Rattle.scalar_words.specs.KernelRegisters.{counted_x, var_home, layout_of_kernel, param_homes, kernel_homes}
 use Rattle.loop_code.specs.Kernel.{argument_code, arguments_code, vars_code, zero_index, begin_code, for_loop_code, scalar_code}
 use Rattle.kernel_scope.specs.Scopes.{after_var}
-use Rattle.label_fix.proofs.PlacedRuns.{size-append as size_append}
 use Rattle.scalar_words.proofs.WordCounts.{within, one_word}
 use Rattle.value_code.proofs.ValueCounts.{operator_code_words, loose_words, jump_words, side_words, parts_words}
 use Rattle.kernel_tree.specs.declared.ast.Shape.TheVariants as shape
@@ -146,8 +145,3 @@ scalar_words R k n rest =
     let few = few_words R k in
     let loose = few_loose k in
     within (omega (arith, few, loose)) (for_loop_words (loop_layout R k) (kernel_homes R k) (var_scope k) (loop_index k) k.for_loop (loop_start k) n (loop_end k) k.answer rest (size rest) (scope_index k) refl (omega arith))
-
--- ---- words that are appended
-
-pub words_added : (old new c : List DraftEntry) (m : ℕ) → new ++ [] ≡ old ++ c → size c ≤ m + size [] → size new ≤ size old + m
-words_added old new c m e h = let a = ap size e in omega (arith, a, size_append new [], size_append old c, h)

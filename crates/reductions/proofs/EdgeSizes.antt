@@ -1,5 +1,5 @@
 -- How many words the code before and after the loop of chunks has: as many as the bound counts steps of it.
-use Rattle.std.proofs.Common.{◌≡◌, ℕ, suc, ◌+◌, ◌≤◌, true, List, [], ◌∷◌, ◌++◌, ap, arith}
+use Rattle.std.proofs.Common.{◌≡◌, ℕ, suc, ◌+◌, ◌≤◌, true, List, [], ◌∷◌, ◌++◌, arith}
 use Rattle.std.specs.Prelude.{slice_index}
 use Rattle.guest_types.specs.declared.length.Width.{Width}
 use Rattle.kernel_tree.specs.declared.ops.Ty.{Ty}
@@ -9,7 +9,7 @@ use Rattle.kernel_meaning.specs.Operators as meaning
 use Rattle.kernel_meaning.specs.Operators.{wrapped, operator_of}
 use Rattle.label_fix.specs.DraftRun.{DraftEntry}
 use Rattle.label_fix.specs.Finished.{size}
-use Rattle.label_fix.proofs.PlacedRuns.{size-append}
+use Rattle.label_fix.proofs.PlacedRuns.{words_added}
 use Rattle.reg_assign.specs.declared.interval.RegClass.TheVariants.{Z}
 use Rattle.reg_assign.specs.Registers.{Assignment}
 use Rattle.loop_form.specs.Lanes.{lane_width_of}
@@ -66,15 +66,8 @@ fold_few R k a rest = folds_few R k a 0 (throughout k Z) rest
 
 -- ---- a draft that code was appended to
 
-appended : (old new code : List DraftEntry) (most : ℕ) → new ++ [] ≡ old ++ code → size code ≤ most + 0 → size new ≤ size old + most
-appended old new code most e few =
-    let same = ap size e in
-    let whole = size-append new [] in
-    let both = size-append old code in
-    omega (arith, same, whole, both, few)
-
 pub start_appended : (k : Program) (a : Assignment) (old new : List DraftEntry) → new ++ [] ≡ old ++ start_code k a [] → size new ≤ size old + (1 + laid_all (throughout k Z))
-start_appended k a old new e = appended old new (start_code k a []) (1 + laid_all (throughout k Z)) e (start_few k a [])
+start_appended k a old new e = words_added old new (start_code k a []) (1 + laid_all (throughout k Z)) e (start_few k a [])
 
 pub fold_appended : (R : ℕ → ℕ) (k : Program) (a : Assignment) (old new : List DraftEntry) → new ++ [] ≡ old ++ fold_code R k a [] → size new ≤ size old + joined_all (throughout k Z)
-fold_appended R k a old new e = appended old new (fold_code R k a []) (joined_all (throughout k Z)) e (fold_few R k a [])
+fold_appended R k a old new e = words_added old new (fold_code R k a []) (joined_all (throughout k Z)) e (fold_few R k a [])

@@ -1,12 +1,12 @@
 -- How many words the passes have, and the vector code with them.
-use Rattle.std.proofs.Common.{◌≡◌, ℕ, suc, ◌+◌, ◌*◌, ◌≤◌, Bool, true, false, List, [], ◌∷◌, ◌++◌, length, ap, arith}
+use Rattle.std.proofs.Common.{◌≡◌, ℕ, suc, ◌+◌, ◌*◌, ◌≤◌, Bool, true, false, List, [], ◌∷◌, ◌++◌, length, arith}
 use Rattle.a64_code.specs.Table.{subs}
 use Rattle.machine_model.specs.InstructionTable.{Listed}
 use Rattle.kernel_tree.specs.Plain.{Program}
 use Rattle.kernel_tree.specs.Items.{size_of}
 use Rattle.label_fix.specs.DraftRun.{DraftEntry, Always, If, Put, Branch, Place, ins}
 use Rattle.label_fix.specs.Finished.{size}
-use Rattle.label_fix.proofs.PlacedRuns.{size-append}
+use Rattle.label_fix.proofs.PlacedRuns.{words_added}
 use Rattle.reg_assign.specs.declared.interval.RegClass.TheVariants.{Z}
 use Rattle.reg_assign.specs.Registers.{Assignment}
 use Rattle.loop_form.specs.Lanes.{lane_width_of}
@@ -48,12 +48,7 @@ passes_few false k a b items n rest =
 
 -- so many words more
 pub passes_appended : (k : Program) (a b : Assignment) (n : ℕ) (old new : List DraftEntry) → new ++ [] ≡ old ++ passes_code k a b n [] → size new ≤ size old + 2 * pass_steps k
-passes_appended k a b n old new e =
-    let same = ap size e in
-    let whole = size-append new [] in
-    let both = size-append old (passes_code k a b n []) in
-    let few = passes_few (has_break k) k a b (loop_items_of k) n [] in
-    omega (arith, same, whole, both, few)
+passes_appended k a b n old new e = words_added old new (passes_code k a b n []) (2 * pass_steps k) e (passes_few (has_break k) k a b (loop_items_of k) n [])
 
 -- ---- the whole
 
@@ -71,10 +66,8 @@ held_few (t ∷ ts) = let here = one_held t in let more = held_few ts in omega (
 pub vector_appended : (k : Program) (scalar : ℕ) (old started passed folded new : List DraftEntry) → size started ≤ size old + (1 + laid_all (throughout k Z)) → size passed ≤ size started + 2 * pass_steps k → size folded ≤ size passed + joined_all (throughout k Z)
     → new ++ [] ≡ folded ++ Branch Always scalar ∷ [] → size new ≤ size old + (200 + 32 * size_of k)
 vector_appended k scalar old started passed folded new start passes fold e =
-    let same = ap size e in
-    let whole = size-append new [] in
-    let both = size-append folded (Branch Always scalar ∷ []) in
+    let last = words_added folded new (Branch Always scalar ∷ []) 1 e (omega arith) in
     let held = held_few (throughout k Z) in
     let few = few_held k in
     let pass = pass_few k in
-    omega (arith, start, passes, fold, same, whole, both, held, few, pass)
+    omega (arith, start, passes, fold, last, held, few, pass)

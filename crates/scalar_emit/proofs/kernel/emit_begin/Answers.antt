@@ -8,7 +8,8 @@ use Rattle.kernel_tree.specs.Typing.{empty}
 use Rattle.loop_form.specs.View.{program}
 use Rattle.scalar_words.specs.KernelRegisters.{register_in, layout_of_kernel}
 use Rattle.loop_code.specs.Kernel.{begin_labels, begin_code}
-use Rattle.loop_code.proofs.Counts.{begin_words, words_added}
+use Rattle.label_fix.proofs.PlacedRuns.{words_added}
+use Rattle.loop_code.proofs.Counts.{begin_words}
 use Rattle.guest_types.proofs.Errors.{on_error}
 use Rattle.scalar_emit.proofs.kernel.emit_begin.Goals as goal
 

@@ -10,7 +10,8 @@ use Rattle.loop_form.specs.View.{program}
 use Rattle.scalar_words.specs.KernelRegisters.{register_in, layout_of_kernel}
 use Rattle.scalar_words.proofs.Layouts.{count_params}
 use Rattle.loop_code.specs.Kernel.{scalar_labels, scalar_code}
-use Rattle.loop_code.proofs.Counts.{scalar_words, words_added}
+use Rattle.label_fix.proofs.PlacedRuns.{words_added}
+use Rattle.loop_code.proofs.Counts.{scalar_words}
 use Rattle.guest_types.proofs.Errors.{on_error}
 use Rattle.scalar_emit.proofs.KernelCalls.{vars_fit}
 use Rattle.scalar_emit.proofs.kernel.emit_scalar.Goals as goal
