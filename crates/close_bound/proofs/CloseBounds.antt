@@ -65,7 +65,7 @@ one_held : (t : Throughout) → laid_steps t + joined_steps t ≤ 11
 one_held (Scalar x) = omega arith
 one_held other = omega arith
 
-held_few : (ts : List Throughout) → held_steps ts ≤ 11 * length ts
+pub held_few : (ts : List Throughout) → held_steps ts ≤ 11 * length ts
 held_few [] = omega arith
 held_few (t ∷ ts) = let here = one_held t in let more = held_few ts in omega (arith, here, more)
 

@@ -11,10 +11,10 @@ use Rattle.reg_assign.specs.declared.interval.RegClass.TheVariants.{Z}
 use Rattle.reg_assign.specs.Registers.{Assignment}
 use Rattle.loop_form.specs.Lanes.{lane_width_of}
 use Rattle.loop_form.specs.LoopItems.{Item, loop_items_of}
-use Rattle.loop_form.specs.Needs.{Throughout, Scalar, Constant, Index, Accumulating, throughout}
+use Rattle.loop_form.specs.Needs.{throughout}
 use Rattle.dependence.specs.Apart.{bound_place}
-use Rattle.close_bound.specs.CloseBound.{has_break, items_steps, around_steps, pass_steps, laid_steps, joined_steps, laid_all, joined_all}
-use Rattle.close_bound.proofs.CloseBounds.{pass_few}
+use Rattle.close_bound.specs.CloseBound.{has_break, items_steps, around_steps, pass_steps, laid_all, joined_all}
+use Rattle.close_bound.proofs.CloseBounds.{pass_few, held_few}
 use Rattle.chunk_emit.specs.ChunkCode.{puts}
 use Rattle.chunk_emit.specs.KernelLayout.{layout_of_loop}
 use Rattle.chunk_pass.specs.PassCode.{lanes_word, chunk_words, iteration_words, plain_words}
@@ -51,16 +51,6 @@ pub passes_appended : (k : Program) (a b : Assignment) (n : ℕ) (old new : List
 passes_appended k a b n old new e = words_added old new (passes_code k a b n []) (2 * pass_steps k) e (passes_few (has_break k) k a b (loop_items_of k) n [])
 
 -- ---- the whole
-
-one_held : (t : Throughout) → laid_steps t + joined_steps t ≤ 11
-one_held (Scalar x) = omega arith
-one_held (Constant t n) = omega arith
-one_held Index = omega arith
-one_held (Accumulating x) = omega arith
-
-held_few : (ts : List Throughout) → laid_all ts + joined_all ts ≤ 11 * length ts
-held_few [] = omega arith
-held_few (t ∷ ts) = let here = one_held t in let more = held_few ts in omega (arith, here, more)
 
 -- by the words of the start, of the passes and of the fold; a branch follows them
 pub vector_appended : (k : Program) (scalar : ℕ) (old started passed folded new : List DraftEntry) → size started ≤ size old + (1 + laid_all (throughout k Z)) → size passed ≤ size started + 2 * pass_steps k → size folded ≤ size passed + joined_all (throughout k Z)
