@@ -16,7 +16,8 @@ use a64_machine::{Core, prepared_goes};
 use machine_model::outcome::{Step, StopKind};
 use paged_memory::pages::Pages;
 
-// What other than a prepared instruction does: whether the step goes on, or else its answer. It stands by itself, so that no register of vectors has room where prepared instructions are done.
+// What other than a prepared instruction does: whether the step goes on, or else its answer. It stands by itself, so that
+// no register of vectors has room where prepared instructions are done.
 #[inline(never)]
 fn execute_other(
     core: &mut Core,
@@ -59,8 +60,8 @@ fn execute<L>(
     }
 }
 
-/// One step: whether it goes on, or else its answer, with the place of its instruction. An answer of many bytes that is handed back would be copied
-/// at each step. `L` names the loop that takes the step (`prepared_goes`).
+/// One step: whether it goes on, or else its answer, with the place of its instruction. An answer of many bytes that is
+/// handed back would be copied at each step. `L` names the loop that takes the step (`prepared_goes`).
 #[inline(always)]
 pub fn advance<L>(
     core: &mut Core,

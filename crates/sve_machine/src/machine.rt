@@ -66,8 +66,7 @@ impl Machine {
         ensures quiet { result.quiet ≡ true }
         ensures past { result.past ≡ [] }
     {
-        let machine = Machine::suppressing(pages, entry, args, vl, Suppress::none());
-        machine
+        Machine::suppressing(pages, entry, args, vl, Suppress::none())
     }
 
     /// The same with a stop list: its first-fault and non-fault loads stop early where the list says so.

@@ -56,6 +56,7 @@ impl Vectors {
     pub fn new(vl: Vl, stops: Suppress) -> Vectors
         ensures { result ≡ zeros vl stops }
     {
+        // This call tells the proof that the length is a valid one.
         let _bits = vl.bits();
         Vectors {
             z: [ZReg { bytes: [0; 256] }; 32],
@@ -301,6 +302,7 @@ impl Vectors {
             ≡ Err fault) }
         ensures shape { OnOk result (IsVector self.now.vl out.new.bytes) }
     {
+        // This call tells the proof that the length is a valid one, and that FFR has its shape.
         let _ffr = self.ffr();
         let offsets = self.z(zm);
         let mask = self.p(pg);
