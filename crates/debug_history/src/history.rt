@@ -8,7 +8,7 @@ ghost use Rattle.debug_history.specs.Kept.{IsLast, counts_of, first_of, last_of,
 use crate::keepable::Keepable;
 
 /// The steps from one count that is kept to the next.
-const GAP: u64 = 10_000;
+pub const GAP: u64 = 10_000;
 
 /// The first count that is kept.
 pub fn first<D: Keepable>(machine: &D) -> u64
@@ -26,7 +26,7 @@ fn last<D: Keepable>(machine: &D) -> u64
     machine.kept_steps(machine.kept() - 1)
 }
 
-/// Keeps the machine as it is now where its count of steps is a multiple of 10,000 that is greater than the last one.
+/// Keeps the machine as it is now where its count of steps is a multiple of `GAP` that is greater than the last one.
 pub fn note<D: Keepable>(machine: &mut D)
     requires { 1 ≤ length (D.view_of machine.old).past }
     ensures now { now (D.view_of machine.new) ≡ now (D.view_of machine.old) }

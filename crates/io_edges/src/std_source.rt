@@ -10,8 +10,9 @@ use crate::source::Source;
 use std::io::Read;
 use std::marker::Model;
 
-// How many bytes are read at once, at most.
-const PIECE: usize = 4096;
+// How many bytes are read at once, at most: few, since each read clears as many first, and a session takes one byte at a
+// time.
+const PIECE: usize = 64;
 
 /// An input. As a source it tells nothing of what is left. It counts the errors of the reader.
 #[derive(Drop)]

@@ -53,7 +53,8 @@ fn sum(width: Width, vl: Vl, pg: &PReg, z: &ZReg) -> u64
 }
 
 // The elements of the first 16 bytes of a block, each joined with the one 16 bytes above it, fold to
-// what all do.
+// what all do. Here and in the next five functions `op` stands for the contract alone: it says which
+// fold is meant, and `join` does it.
 #[inline(always)]
 fn half_16(op: ReduceOp, join: LaneOp, width: Width, x: u8x32) -> u8x32
     requires lanes { (m a b : ℕ) → joined op m a b ≡ lane join m a b }
@@ -105,7 +106,7 @@ fn half_1(op: ReduceOp, join: LaneOp, x: u8x32) -> u8x32
     binary_block(join, Width::B, x, x.rotate_elements_left::<1>())
 }
 
-// The first element of a block, which is the fold of itself alone.
+// The first element of a block, which is the fold of itself alone, whatever the operation.
 #[inline(always)]
 fn first_element(op: ReduceOp, width: Width, x: u8x32) -> u64
     ensures { result ≡ bytes_fold op width (width_bytes width) x }

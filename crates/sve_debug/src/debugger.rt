@@ -22,13 +22,19 @@ use machine_model::outcome::Ending;
 use std::alloc::{AllocError, Global};
 use std::marker::Model;
 
+/// The places of so many steps are held, the last ones.
+const LAST_PLACES: usize = 64;
+
+/// So many breakpoints are held at most.
+const MOST_BREAKS: usize = 16;
+
 /// A machine that is run step by step by the lines of a session, and looked at between them. From `new` on it takes no
 /// memory.
 #[derive(Drop)]
 pub struct Debugger<D: Keepable> {
     machine: D,
     places: Places,
-    breaks: ArrayVec<u64, 16>,
+    breaks: ArrayVec<u64, MOST_BREAKS>,
 }
 
 impl<D: Keepable> Model for Debugger<D> {
@@ -52,7 +58,7 @@ impl<D: Keepable> Debugger<D> {
         requires quiet { IsTrue (D.view_of machine).quiet }
         ensures { let start = (D.view_of machine).state in IfOk result (λ d. Stands d start (started start)) }
     {
-        let places = Places::with_capacity(alloc, 64)?;
+        let places = Places::with_capacity(alloc, LAST_PLACES)?;
         let mut machine = machine;
         machine.begin(alloc)?;
         Ok(Debugger {
@@ -116,7 +122,7 @@ impl<D: Keepable> Debugger<D> {
         if self.breaks.as_slice().contains(&address) {
             return true;
         }
-        let room = self.breaks.len() < 16;
+        let room = self.breaks.len() < MOST_BREAKS;
         if room {
             self.breaks.push(address);
         }

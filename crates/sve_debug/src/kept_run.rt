@@ -5,8 +5,8 @@ ghost use Rattle.machine_model.specs.Machine.{State};
 ghost use Rattle.sve_debug.specs.DebuggerState.{Stands, IsTwin, held_by};
 ghost use Rattle.sve_debug.specs.Replies.{Session, counted_steps};
 
-use crate::run::{Places, advance_far};
-use debug_history::history::note;
+use crate::run::{BATCH, Places, advance_far};
+use debug_history::history::{GAP, note};
 use debug_history::keepable::Keepable;
 
 /// Up to so many steps, none after the end or a stop, and none after a step that comes to one of these places, of which there
@@ -36,10 +36,10 @@ pub fn run_kept<D: Keepable, L, const STOPS: bool>(
     if machine.over().is_some() {
         return;
     }
-    let mut recent = [0; 256];
+    let mut recent = [0; BATCH];
     let mut left = most;
     while left > 0 {
-        let gap = 10_000 - machine.steps_done() % 10_000;
+        let gap = GAP - machine.steps_done() % GAP;
         let (done, rest) = advance_far::<D, L, STOPS>(machine, &mut recent, stops, left, gap);
         places.extend_from_slice(&recent[..done]);
         note(machine);

@@ -8,6 +8,15 @@ use crate::command::{Command, Part};
 use number_text::number;
 use text_parts::cut;
 
+// How many steps `step` asks for at most.
+const MOST_STEPS: u64 = 1_000_000;
+
+// How many steps `go` and `back` ask for at most.
+const MOST_FAR: u64 = 100_000_000;
+
+// How many bytes `mem` asks for at most.
+const MOST_BYTES: u64 = 4096;
+
 // The number that a word spells, from one number to another.
 fn number_in(least: u64, most: u64, word: &[u8]) -> Option<u64>
     ensures value { result ≡ number_in least most word.now }
@@ -54,15 +63,15 @@ fn with_number(name: &[u8], word: &[u8]) -> Option<Command>
     ensures within { IfSome result IsWithin }
 {
     if name == b"step".as_slice() {
-        let count = number_in(1, 1_000_000, word)?;
+        let count = number_in(1, MOST_STEPS, word)?;
         return Some(Command::Step(count));
     }
     if name == b"go".as_slice() {
-        let count = number_in(1, 100_000_000, word)?;
+        let count = number_in(1, MOST_FAR, word)?;
         return Some(Command::Go(count));
     }
     if name == b"back".as_slice() {
-        let count = number_in(1, 100_000_000, word)?;
+        let count = number_in(1, MOST_FAR, word)?;
         return Some(Command::Back(count));
     }
     if name == b"break".as_slice() {
@@ -104,7 +113,7 @@ fn with_range(name: &[u8], address: &[u8], len: &[u8]) -> Option<Command>
 {
     if name == b"mem".as_slice() {
         let address = number(address)?;
-        let len = number_in(1, 4096, len)?;
+        let len = number_in(1, MOST_BYTES, len)?;
         return bytes_from(address, len);
     }
     None

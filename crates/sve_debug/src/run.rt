@@ -16,6 +16,9 @@ pub struct Free;
 /// The loop of steps up to a breakpoint.
 pub struct Stopping;
 
+/// So many steps are done at most before their places go to the ring.
+pub const BATCH: usize = 256;
+
 /// The places of the last steps.
 pub type Places = HeapCircularBuffer<u64>;
 
@@ -31,12 +34,12 @@ fn is_stop<const STOPS: bool>(stops: &[u64], pc: u64) -> bool
     stops.contains(&pc)
 }
 
-// Up to 256 of so many steps by the loop `L`, and no more than to a limit, and their places: how many were done, and how many are left
-// to do, which is none after the end or a stop and after a step that comes to one of these places. The places go to the
-// ring only after them, since a push at each step would take as long as the step.
+// Up to a batch of so many steps by the loop `L`, and no more than to a limit, and their places: how many were done, and
+// how many are left to do, which is none after the end or a stop and after a step that comes to one of these places. The
+// places go to the ring only after them, since a push at each step would take as long as the step.
 pub fn advance_far<D: Keepable, L, const STOPS: bool>(
     machine: &mut D,
-    recent: &mut [u64; 256],
+    recent: &mut [u64; BATCH],
     stops: &[u64],
     left: u64,
     limit: u64,
@@ -61,7 +64,7 @@ pub fn advance_far<D: Keepable, L, const STOPS: bool>(
     ensures steps { (D.view_of machine.new).steps + result.1 ≤ (D.view_of machine.old).steps + left }
 {
     let near = left.min(limit);
-    let most = near.min(256) as usize;
+    let most = near.min(BATCH as u64) as usize;
     for done in 0..most {
         if !machine.goes_on::<L>(&mut recent[done]) {
             machine.count(done as u64 + 1);
@@ -91,10 +94,16 @@ pub fn run<D: Keepable>(machine: &mut D, places: &mut Places, most: u64)
     if machine.over().is_some() {
         return;
     }
-    let mut recent = [0; 256];
+    let mut recent = [0; BATCH];
     let mut left = most;
     while left > 0 {
-        let (done, rest) = advance_far::<D, Free, false>(machine, &mut recent, &[], left, 256);
+        let (done, rest) = advance_far::<D, Free, false>(
+            machine,
+            &mut recent,
+            &[],
+            left,
+            BATCH as u64,
+        );
         places.extend_from_slice(&recent[..done]);
         left = rest;
     }

@@ -1,17 +1,18 @@
 //! A session: the lines of an input, answered as they come.
 
-ghost use Rattle.std.specs.Prelude.{◌≡◌, ◌≢◌, ◌+◌, ◌*◌, ◌-◌, ◌^◌, ◌≤◌, ◌++◌, ◌∷◌, [], List, ℕ, drop, slice_get, not, Some, Err, IfOk, IfErr, IfSome, OnOk, OnErr, IsErrOf};
+ghost use Rattle.std.specs.Prelude.{◌≡◌, ◌≢◌, ◌+◌, ◌*◌, ◌-◌, ◌^◌, ◌≤◌, [], List, ℕ, drop, slice_get, not, Some, Err, IfOk, IfSome, OnOk, OnErr, IsErrOf};
 ghost use Rattle.io_edges.specs.Files.{Rose};
 ghost use Rattle.machine_model.specs.Machine.{State};
 ghost use Rattle.sve_debug.specs.DebuggerState.{Stands};
 ghost use Rattle.sve_debug.specs.Replies.{Session, after_line, line_text, quits};
+ghost use Rattle.sve_debug.specs.declared.session.SessionFault.TheVariants as faults;
 ghost use Rattle.sve_debug.specs.Sessions.{Tells, session_text, after_byte, byte_answer, pending, ends, AsItCame};
 
 use crate::debugger::Debugger;
 use debug_history::keepable::Keepable;
 use io_edges::sink::{Failed, Sink};
 use io_edges::source::Source;
-use std::alloc::Global;
+use std::alloc::{AllocFailed, Global};
 
 /// What a session fails by.
 #[derive(Clone, Copy, Debug, PartialEq, Eq)]
@@ -22,6 +23,15 @@ pub enum SessionFault {
     Input,
     /// The output failed.
     Output,
+}
+
+// There is none from `Failed`, by which an input and an output fail alike.
+impl From<AllocFailed<u8>> for SessionFault {
+    ghost from_gives = { λ _ fault. fault ≡ faults.Memory };
+
+    fn from(_refused: AllocFailed<u8>) -> SessionFault {
+        SessionFault::Memory
+    }
 }
 
 // So many bytes of the input are taken at most.
@@ -67,16 +77,6 @@ fn tell<D: Keepable, S: Sink>(
     }
 }
 
-fn push(line: &mut Vec<u8>, byte: u8) -> Result<(), SessionFault>
-    ensures items { OnOk result (line.new.items ≡ line.old.items ++ byte ∷ []) }
-    ensures memory { IfErr result (λ fault. fault ≡ SessionFault.Memory) }
-{
-    match line.push(byte) {
-        Ok(()) => Ok(()),
-        Err(_) => Err(SessionFault::Memory),
-    }
-}
-
 // Takes a byte, which belongs to the line that is pending or ends it, and says whether the session goes on.
 fn answer_byte<D: Keepable, S: Sink>(
     debugger: &mut Debugger<D>,
@@ -101,7 +101,7 @@ fn answer_byte<D: Keepable, S: Sink>(
         line.clear();
         return Ok(on);
     }
-    push(line, byte)?;
+    line.push(byte)?;
     Ok(true)
 }
 
@@ -117,10 +117,8 @@ fn finish<D: Keepable, S: Sink>(
     ensures output { IsErrOf result SessionFault.Output → Rose (S.faults out.old) (S.faults out.new) }
     ensures input { result ≢ Err SessionFault.Input }
 {
-    match tell(debugger, line, out) {
-        Ok(_) => Ok(()),
-        Err(fault) => Err(fault),
-    }
+    tell(debugger, line, out)?;
+    Ok(())
 }
 
 // Answers the lines of an input, the first of which begins with no bytes.

@@ -1,7 +1,7 @@
 pub mod Errors
 pub mod StartRegisters
 pub mod VectorStateLaws
-pub mod KeptWords
+pub mod DecodedWords
 pub mod RunSteps
 pub mod RegisterLanes
 pub mod BankShapes

@@ -11,8 +11,8 @@ use Rattle.a64_machine.specs.declared.core_state.Core.{Core}
 use Rattle.machine_model.specs.Debugged.{Past, View, now}
 use Rattle.guest_types.specs.Kept.{kept_more}
 use Rattle.sve_machine.specs.declared.snapshot.Snapshot.{Snapshot}
-use Rattle.sve_machine.specs.declared.kept.CacheEntry.{CacheEntry}
-use Rattle.sve_machine.specs.Keeping.{Keeps}
+use Rattle.sve_machine.specs.declared.decoded.CacheEntry.{CacheEntry}
+use Rattle.sve_machine.specs.DecodedWords.{IsDecodedFrom}
 use Rattle.sve_machine.specs.View.{view_of}
 use Rattle.sve_machine.specs.Pasts.{past_at, past_by, rests_of, AreBeside, IsWhole}
 
@@ -81,15 +81,15 @@ now-seen core memory memory2 rest steps over past past2 seen e is = ap (λ m. no
 
 -- ---- the whole machine
 
-keeps-in : (m m2 : Memory) (entries : List CacheEntry) → m2 ≡ m → All (Keeps m) entries → All (Keeps m2) entries
-keeps-in m m2 entries e h = subst (λ m. All (Keeps m) entries) (sym e) h
+decoded-in : (m m2 : Memory) (entries : List CacheEntry) → m2 ≡ m → All (IsDecodedFrom m) entries → All (IsDecodedFrom m2) entries
+decoded-in m m2 entries e h = subst (λ m. All (IsDecodedFrom m) entries) (sym e) h
 
 length-more : {X : Type 0} (x : X) (xs : List X) → length (kept_more x xs) ≡ length xs + 1 - (length xs + 1 - 8)
 length-more x xs = length-drop (length xs + 1 - 8) (xs ++ x ∷ []) ∙ ap (λ n. n - (length xs + 1 - 8)) (length-append xs (x ∷ []))
 
 pub whole-more : (m m2 : Memory) (ms ms2 : List Memory) (entries : List CacheEntry) (h : Option (List Snapshot)) (rs rs2 : List Snapshot) (r : Snapshot) → m2 ≡ m → ms2 ≡ kept_more m ms → rs2 ≡ kept_more r rs → h ≡ Some rs → IsWhole m ms entries h → IsWhole m2 ms2 entries (Some rs2)
 whole-more m m2 ms ms2 entries h rs rs2 r e es er some w = record {
-  kept = keeps-in m m2 entries e w.kept;
+  decoded = decoded-in m m2 entries e w.decoded;
   beside =
       ap (length {A = _}) es ∙ length-more m ms
       ∙ ap (λ n. n + 1 - (n + 1 - 8)) (beside ms h rs some w.beside)
@@ -97,16 +97,16 @@ whole-more m m2 ms ms2 entries h rs rs2 r e es er some w = record {
 }
 
 pub whole-same : (m m2 : Memory) (ms ms2 : List Memory) (entries : List CacheEntry) (h : Option (List Snapshot)) → m2 ≡ m → ms2 ≡ ms → IsWhole m ms entries h → IsWhole m2 ms2 entries h
-whole-same m m2 ms ms2 entries h e es w = record { kept = keeps-in m m2 entries e w.kept; beside = subst (λ ms. AreBeside ms h) (sym es) w.beside }
+whole-same m m2 ms ms2 entries h e es w = record { decoded = decoded-in m m2 entries e w.decoded; beside = subst (λ ms. AreBeside ms h) (sym es) w.beside }
 
-pub whole-begun : (m m2 : Memory) (ms2 : List Memory) (entries : List CacheEntry) (rs : List Snapshot) (r : Snapshot) → m2 ≡ m → ms2 ≡ m ∷ [] → rs ≡ r ∷ [] → All (Keeps m) entries → IsWhole m2 ms2 entries (Some rs)
-whole-begun m m2 ms2 entries rs r e es er kept = record {
-  kept = keeps-in m m2 entries e kept;
+pub whole-begun : (m m2 : Memory) (ms2 : List Memory) (entries : List CacheEntry) (rs : List Snapshot) (r : Snapshot) → m2 ≡ m → ms2 ≡ m ∷ [] → rs ≡ r ∷ [] → All (IsDecodedFrom m) entries → IsWhole m2 ms2 entries (Some rs)
+whole-begun m m2 ms2 entries rs r e es er decoded = record {
+  decoded = decoded-in m m2 entries e decoded;
   beside = ap (length {A = _}) es ∙ sym (ap (length {A = _}) er);
 }
 
-pub whole-left : (m m2 : Memory) (ms ms2 : List Memory) (entries entries2 : List CacheEntry) (h : Option (List Snapshot)) → All (Keeps m2) entries2 → ms2 ≡ ms → IsWhole m ms entries h → IsWhole m2 ms2 entries2 h
-whole-left m m2 ms ms2 entries entries2 h kept es w = record { kept = kept; beside = subst (λ ms. AreBeside ms h) (sym es) w.beside }
+pub whole-left : (m m2 : Memory) (ms ms2 : List Memory) (entries entries2 : List CacheEntry) (h : Option (List Snapshot)) → All (IsDecodedFrom m2) entries2 → ms2 ≡ ms → IsWhole m ms entries h → IsWhole m2 ms2 entries2 h
+whole-left m m2 ms ms2 entries entries2 h decoded es w = record { decoded = decoded; beside = subst (λ ms. AreBeside ms h) (sym es) w.beside }
 
 -- ---- one of those that are kept
 

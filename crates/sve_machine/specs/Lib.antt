@@ -1,5 +1,5 @@
 pub mod Listing
-pub mod Keeping
+pub mod DecodedWords
 pub mod VectorStates
 pub mod View
 pub mod Rows

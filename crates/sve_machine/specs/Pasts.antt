@@ -3,9 +3,9 @@ use Rattle.std.specs.Prelude.{◌≡◌, List, [], ◌∷◌, length, Option, So
 use Rattle.guest_types.specs.Memory.{Memory}
 use Rattle.machine_model.specs.Debugged.{Past, is_never}
 use Rattle.a64_machine.specs.Cores.{state_of}
-use Rattle.sve_machine.specs.declared.kept.CacheEntry.{CacheEntry}
+use Rattle.sve_machine.specs.declared.decoded.CacheEntry.{CacheEntry}
 use Rattle.sve_machine.specs.declared.snapshot.Snapshot.{Snapshot}
-use Rattle.sve_machine.specs.Keeping.{Keeps}
+use Rattle.sve_machine.specs.DecodedWords.{IsDecodedFrom}
 
 -- a machine of this memory and this rest
 abbrev pub past_at : Memory → Snapshot → Past
@@ -29,5 +29,5 @@ AreBeside memories (Some rests) = length memories ≡ length rests
 
 -- The words that were decoded are those of the memory, and the rests stand beside the memories that are kept.
 pub record IsWhole (memory : Memory) (memories : List Memory) (entries : List CacheEntry) (history : Option (List Snapshot)) : Type 0 where
-  pub kept : All (Keeps memory) entries
+  pub decoded : All (IsDecodedFrom memory) entries
   pub beside : AreBeside memories history

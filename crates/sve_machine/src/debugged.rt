@@ -13,14 +13,12 @@ impl Debuggee for Machine {
 
     #[inline(always)]
     fn step(&mut self) -> Step {
-        let answer = self.step();
-        answer
+        self.step()
     }
 
     #[inline(always)]
     fn step_on(&mut self) -> Step {
-        let answer = self.step_on();
-        answer
+        self.step_on()
     }
 
     #[inline(always)]
@@ -33,8 +31,7 @@ impl Debuggee for Machine {
     }
 
     fn nzcv(&self) -> u8 {
-        let bits = flag_bits(self.core().nzcv);
-        bits
+        flag_bits(self.core().nzcv)
     }
 
     fn x(&self, n: u32) -> u64 {

@@ -51,6 +51,7 @@ impl History {
         requires { n < length self.old }
         ensures { self.new ≡ take (n + 1) self.old }
     {
+        // This call tells the proof that there are few enough for `n + 1`.
         let _count = self.snapshots.len();
         self.snapshots.truncate_back(n + 1);
     }

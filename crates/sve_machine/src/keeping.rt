@@ -8,8 +8,7 @@ use std::alloc::{AllocError, Global};
 impl Keepable for Machine {
     #[inline(always)]
     fn goes_on<L>(&mut self, place: &mut u64) -> bool {
-        let on = self.goes_on::<L>(place);
-        on
+        self.goes_on::<L>(place)
     }
 
     fn count(&mut self, steps: u64) {
@@ -17,8 +16,7 @@ impl Keepable for Machine {
     }
 
     fn over(&self) -> Option<Ending> {
-        let over = self.over();
-        over
+        self.over()
     }
 
     fn begin(&mut self, alloc: Global) -> Result<(), AllocError> {
@@ -34,12 +32,10 @@ impl Keepable for Machine {
     }
 
     fn kept(&self) -> usize {
-        let count = self.kept();
-        count
+        self.kept()
     }
 
     fn kept_steps(&self, n: usize) -> u64 {
-        let steps = self.kept_steps(n);
-        steps
+        self.kept_steps(n)
     }
 }

@@ -17,7 +17,6 @@ use crate::vectors::Vectors;
 use a64_machine::Core;
 use guest_types::length::Width;
 use guest_types::register::ZReg;
-use lane_arith::fill::{dup_into, index_into};
 use lane_arith::reduce::reduce;
 use sve_code::{
     AddSubOp, BinaryPredicatedOp, BitwiseOp, ExtendOp, GoverningReg, PredicateReg, ReductionOp,
@@ -185,11 +184,8 @@ pub fn duplicate(core: &Core, vectors: &mut Vectors, zd: VectorReg, rn: Reg, siz
     ensures { RowLeaves (Sve.DupScalar zd rn size) core.now vectors.old core.now vectors.new }
 {
     let width = width_of(size);
-    let vl = vectors.vl();
     let value = core.register_or_sp(rn);
-    let mut out = ZReg::zero();
-    dup_into(width, vl, value, &mut out);
-    vectors.set_z(zd.number, &out);
+    vectors.duplicate(width, zd.number, value);
 }
 
 // A number of five bits, as a signed one.
@@ -207,12 +203,9 @@ pub fn index(core: &Core, vectors: &mut Vectors, zd: VectorReg, rn: Reg, imm5: B
     ensures { RowLeaves (Sve.IndexScalarImmediate zd rn imm5 size) core.now vectors.old core.now vectors.new }
 {
     let width = width_of(size);
-    let vl = vectors.vl();
     let from = core.register(rn);
     let by = signed(imm5);
-    let mut out = ZReg::zero();
-    index_into(width, vl, from, by, &mut out);
-    vectors.set_z(zd.number, &out);
+    vectors.index(width, zd.number, from, by);
 }
 
 /// "UADDV", "SMAXV", "UMAXV", "SMINV", "UMINV", "ORV", "EORV", "ANDV".

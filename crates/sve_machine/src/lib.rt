@@ -3,11 +3,11 @@
 
 mod advance;
 mod debugged;
+mod decoded;
 mod decoding;
 mod history;
 mod instruction;
 mod keeping;
-mod kept;
 mod lanes;
 mod look_up;
 mod machine;

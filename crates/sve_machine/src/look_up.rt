@@ -5,21 +5,21 @@ ghost use Rattle.guest_types.specs.Memory.{Memory};
 ghost use Rattle.machine_model.specs.OneStep.{step};
 ghost use Rattle.machine_model.specs.Answers.{IsAnswer};
 ghost use Rattle.machine_model.specs.Machine.{State};
-ghost use Rattle.sve_machine.specs.Keeping.{Keeps, Holds};
+ghost use Rattle.sve_machine.specs.DecodedWords.{IsDecodedFrom, Holds};
 
+use crate::decoded::{CacheEntry, Decoded};
 use crate::decoding::decode;
-use crate::kept::{CacheEntry, Kept};
 use crate::ready::ready;
 use machine_model::outcome::{Step, Stop, StopKind};
 use paged_memory::pages::Pages;
 
 /// Entries of a place where no word can stand.
 pub fn no_words() -> [CacheEntry; 1024]
-    ensures { (memory : Memory) → All (Keeps memory) result }
+    ensures { (memory : Memory) → All (IsDecodedFrom memory) result }
 {
     let nothing = CacheEntry {
         place: 1,
-        kept: Kept::Nowhere,
+        decoded: Decoded::Nowhere,
     };
     [nothing; 1024]
 }
@@ -37,11 +37,11 @@ pub fn stop(kind: StopKind, pc: u64, at: u64, answer: &mut Step) -> bool
 /// Decodes the word at a place and keeps it: whether there is one, or else the answer there.
 #[cold]
 #[inline(never)]
-fn fill(pages: &Pages, kept: &mut [CacheEntry; 1024], pc: u64, answer: &mut Step) -> bool
-    requires kept { All (Keeps pages.now.memory) kept.old }
-    ensures kept { All (Keeps pages.now.memory) kept.new }
+fn fill(pages: &Pages, decoded: &mut [CacheEntry; 1024], pc: u64, answer: &mut Step) -> bool
+    requires decoded { All (IsDecodedFrom pages.now.memory) decoded.old }
+    ensures decoded { All (IsDecodedFrom pages.now.memory) decoded.new }
     ensures found { (d : CacheEntry) → IsTrue result
-        → Holds pages.now.memory pc (slice_index_or kept.new (pc / 4 % 1024) d) }
+        → Holds pages.now.memory pc (slice_index_or decoded.new (pc / 4 % 1024) d) }
     ensures stopped { (s : State) → result ≡ false → s.memory ≡ pages.now.memory → s.pc ≡ pc
         → IsAnswer (step s) answer.new s s }
 {
@@ -50,9 +50,9 @@ fn fill(pages: &Pages, kept: &mut [CacheEntry; 1024], pc: u64, answer: &mut Step
     };
     match decode(word) {
         Some(instruction) => {
-            kept[(pc / 4 % 1024) as usize] = CacheEntry {
+            decoded[(pc / 4 % 1024) as usize] = CacheEntry {
                 place: pc,
-                kept: ready(instruction, pc),
+                decoded: ready(instruction, pc),
             };
             true
         }
@@ -63,16 +63,16 @@ fn fill(pages: &Pages, kept: &mut [CacheEntry; 1024], pc: u64, answer: &mut Step
 /// Sees to it that the entry of a place holds the instruction there: whether there is one, or else
 /// the answer there.
 #[inline(always)]
-pub fn look_up(pages: &Pages, kept: &mut [CacheEntry; 1024], pc: u64, answer: &mut Step) -> bool
-    requires kept { All (Keeps pages.now.memory) kept.old }
-    ensures kept { All (Keeps pages.now.memory) kept.new }
+pub fn look_up(pages: &Pages, decoded: &mut [CacheEntry; 1024], pc: u64, answer: &mut Step) -> bool
+    requires decoded { All (IsDecodedFrom pages.now.memory) decoded.old }
+    ensures decoded { All (IsDecodedFrom pages.now.memory) decoded.new }
     ensures found { (d : CacheEntry) → IsTrue result
-        → Holds pages.now.memory pc (slice_index_or kept.new (pc / 4 % 1024) d) }
+        → Holds pages.now.memory pc (slice_index_or decoded.new (pc / 4 % 1024) d) }
     ensures stopped { (s : State) → result ≡ false → s.memory ≡ pages.now.memory → s.pc ≡ pc
         → IsAnswer (step s) answer.new s s }
 {
-    if kept[(pc / 4 % 1024) as usize].place == pc {
+    if decoded[(pc / 4 % 1024) as usize].place == pc {
         return true;
     }
-    fill(pages, kept, pc, answer)
+    fill(pages, decoded, pc, answer)
 }

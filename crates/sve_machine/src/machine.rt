@@ -3,8 +3,8 @@
 ghost use Rattle.std.specs.Prelude.{◌≡◌, ◌+◌, ◌-◌, ◌^◌, ◌<◌, ◌≤◌, None, IfSome, IsTrue, is_none, OnOk, OnErr, true, [], ◌∷◌, length, take, slice_index_or};
 
 use crate::advance::{ByItself, advance, go};
+use crate::decoded::CacheEntry;
 use crate::history::History;
-use crate::kept::CacheEntry;
 use crate::look_up::no_words;
 use crate::snapshot::Snapshot;
 use crate::vectors::Vectors;
@@ -20,7 +20,7 @@ use std::marker::Model;
 #[derive(Drop)]
 pub struct Machine {
     // The first, so that an entry is reached from the machine's own address.
-    kept: [CacheEntry; 1024],
+    decoded: [CacheEntry; 1024],
     core: Core,
     pages: Pages,
     vectors: Vectors,
@@ -42,7 +42,7 @@ impl Model for Machine {
     ghost view = { λ m. view_of m.core m.pages.memory m.vectors m.steps m.over
         (past_by m.pages.past (rests_of m.history)) };
 
-    ghost invariant = { λ m. IsWhole m.pages.memory m.pages.past m.kept m.history };
+    ghost invariant = { λ m. IsWhole m.pages.memory m.pages.past m.decoded m.history };
 }
 
 impl Machine {
@@ -66,8 +66,7 @@ impl Machine {
         ensures quiet { result.quiet ≡ true }
         ensures past { result.past ≡ [] }
     {
-        let machine = Machine::suppressing(pages, entry, args, vl, Suppress::none());
-        machine
+        Machine::suppressing(pages, entry, args, vl, Suppress::none())
     }
 
     /// The same with a stop list: its first-fault and non-fault loads stop early where the list says so.
@@ -90,7 +89,7 @@ impl Machine {
             vzero: 0,
         };
         Machine {
-            kept: no_words(),
+            decoded: no_words(),
             core,
             pages,
             vectors: Vectors::new(vl, stops),
@@ -115,7 +114,7 @@ impl Machine {
             &mut self.core,
             &mut self.pages,
             &mut self.vectors,
-            &mut self.kept,
+            &mut self.decoded,
             steps,
         );
         self.steps += done;
@@ -175,7 +174,7 @@ impl Machine {
             &mut self.core,
             &mut self.pages,
             &mut self.vectors,
-            &mut self.kept,
+            &mut self.decoded,
             place,
             &mut self.answer,
         );
@@ -276,7 +275,7 @@ impl Machine {
             self.over = rest.over;
             history.cut(n);
             self.pages.back(n);
-            self.kept = no_words();
+            self.decoded = no_words();
         }
     }
 

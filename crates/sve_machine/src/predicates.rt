@@ -52,7 +52,8 @@ pub fn all_true(vectors: &mut Vectors, pd: PredicateReg, size: Size)
 pub fn all_false(vectors: &mut Vectors, pd: PredicateReg)
     ensures { (core : CoreOf) → RowLeaves (Sve.Pfalse pd) core vectors.old core vectors.new }
 {
-    let vl = vectors.vl();
+    // This call tells the proof that the length is a valid one.
+    let _vl = vectors.vl();
     let out = PReg::none();
     vectors.set_p(pd.number, &out);
 }

@@ -12,6 +12,7 @@ use guest_types::predicate::PReg;
 use guest_types::register::ZReg;
 use guest_types::row::{LoadMode, LoadRow, StoreRow};
 use lane_arith::bank::{binary_in, merge_in, merge_one_in, select_in, shift_in};
+use lane_arith::fill::{dup_into, index_into};
 use lane_memory::gather::gather_into;
 use lane_memory::load::load_into;
 use lane_memory::suppress::Suppress;
@@ -43,7 +44,8 @@ impl Model for Vectors {
 impl Vectors {
     ghost use Rattle.sve_machine.specs.VectorStates.{IsVectorState, zeros, z_of, p_of, put_z, put_p, put_ffr, put_lanes};
     ghost use Rattle.guest_types.specs.Length.{width_bits};
-    ghost use Rattle.guest_types.specs.Lanes.{ShiftFits, source_bits, binary_at, merge_at, merge_one_at, shift_at, select_at};
+    ghost use Rattle.guest_types.specs.Lanes.{ShiftFits, source_bits, binary_at, merge_at, merge_one_at, shift_at, select_at, dup_at, index_at};
+    ghost use Rattle.std.specs.Int.{w64, cast_unsigned};
     ghost use Rattle.guest_types.specs.declared.length.Width.TheVariants.{D};
     ghost use Rattle.guest_types.specs.LaneMemory.{load_form};
     ghost use Rattle.lane_memory.specs.Loads.{load_of};
@@ -54,6 +56,7 @@ impl Vectors {
     pub fn new(vl: Vl, stops: Suppress) -> Vectors
         ensures { result ≡ zeros vl stops }
     {
+        // This call tells the proof that the length is a valid one.
         let _bits = vl.bits();
         Vectors {
             z: [ZReg { bytes: [0; 256] }; 32],
@@ -176,13 +179,13 @@ impl Vectors {
         ensures { self.new ≡ put_lanes self.old zdn width
             (merge_at op width (p_of self.old pg) (z_of self.old zdn) (z_of self.old zm)) }
     {
-        let mask = self.p[pg as usize];
-        if is_all_true(width, self.vl, &mask) {
+        let mask = &self.p[pg as usize];
+        if is_all_true(width, self.vl, mask) {
             self.binary(op, width, zdn, zdn, zm);
             return;
         }
         let (right, out) = (zm as usize, zdn as usize);
-        merge_in(op, width, self.vl, &mask, &mut self.z, right, out);
+        merge_in(op, width, self.vl, mask, &mut self.z, right, out);
     }
 
     /// An operation of the active elements of a vector register, into another one.
@@ -194,9 +197,9 @@ impl Vectors {
         ensures { self.new ≡ put_lanes self.old zd width
             (merge_one_at op width (p_of self.old pg) (z_of self.old zd) (z_of self.old zn)) }
     {
-        let mask = self.p[pg as usize];
+        let mask = &self.p[pg as usize];
         let (z, out) = (zn as usize, zd as usize);
-        merge_one_in(op, width, self.vl, &mask, &mut self.z, z, out);
+        merge_one_in(op, width, self.vl, mask, &mut self.z, z, out);
     }
 
     /// A shift of a vector register, into another one.
@@ -210,6 +213,22 @@ impl Vectors {
         shift_in(op, width, self.vl, &mut self.z, z, count, out);
     }
 
+    /// The same number in each element of a vector register.
+    pub fn duplicate(&mut self, width: Width, zd: u32, value: u64)
+        requires { zd < 32 }
+        ensures { self.new ≡ put_lanes self.old zd width (dup_at value) }
+    {
+        dup_into(width, self.vl, value, &mut self.z[zd as usize]);
+    }
+
+    /// A number in the first element of a vector register, and in each other one `by` more than in the one before.
+    pub fn index(&mut self, width: Width, zd: u32, from: u64, by: i32)
+        requires { zd < 32 }
+        ensures { self.new ≡ put_lanes self.old zd width (index_at from (cast_unsigned w64 by)) }
+    {
+        index_into(width, self.vl, from, by, &mut self.z[zd as usize]);
+    }
+
     /// The active elements of a vector register, and the others of another one.
     pub fn select(&mut self, width: Width, pg: u32, zd: u32, zn: u32, zm: u32)
         requires pg { pg < 16 }
@@ -219,9 +238,9 @@ impl Vectors {
         ensures { self.new ≡ put_lanes self.old zd width
             (select_at width (p_of self.old pg) (z_of self.old zn) (z_of self.old zm)) }
     {
-        let mask = self.p[pg as usize];
+        let mask = &self.p[pg as usize];
         let (yes, no, out) = (zn as usize, zm as usize, zd as usize);
-        select_in(width, self.vl, &mask, &mut self.z, yes, no, out);
+        select_in(width, self.vl, mask, &mut self.z, yes, no, out);
     }
 
     /// Loads a vector register under a predicate register: LD1, LDFF1 or LDNF1 by the mode.
@@ -245,7 +264,7 @@ impl Vectors {
             (p_of self.old pg) self.old.ffr) zt self.old ≡ Err fault) }
         ensures unchanged { OnErr result (self.new ≡ self.old) }
     {
-        let mask = self.p[pg as usize];
+        let mask = &self.p[pg as usize];
         load_into(
             pages,
             mode,
@@ -253,7 +272,7 @@ impl Vectors {
             base,
             index,
             self.vl,
-            &mask,
+            mask,
             &mut self.ffr,
             &mut self.stops,
             &mut self.z[zt as usize],
@@ -283,6 +302,7 @@ impl Vectors {
             ≡ Err fault) }
         ensures shape { OnOk result (IsVector self.now.vl out.new.bytes) }
     {
+        // This call tells the proof that the length is a valid one, and that FFR has its shape.
         let _ffr = self.ffr();
         let offsets = self.z(zm);
         let mask = self.p(pg);
@@ -311,6 +331,7 @@ impl Vectors {
             (p_of self.old pg) self.old.ffr) zt self.old ≡ Err fault) }
         ensures unchanged { OnErr result (self.new ≡ self.old) }
     {
+        // Not in place: the offsets may be in the register that is loaded, which a fault leaves as it was.
         let mut out = ZReg::zero();
         self.gathered(pages, row, base, zm, pg, &mut out)?;
         self.set_z(zt, &out);

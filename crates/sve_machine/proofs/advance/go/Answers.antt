@@ -8,20 +8,20 @@ use Rattle.sve_machine.proofs.advance.go.Goals as goal
 
 pub loop-done-preserved-then-advance : goal.loop-done-preserved-then-advance
 loop-done-preserved-then-advance c = record {
-  kept = c.advance.ensures.kept;
+  decoded = c.advance.ensures.decoded;
   state = after_more c.loop-done.done _ _ _ c.loop-done.invariant.state (said_on _ _ _ _ _ c.if-advance.true c.advance.ensures.answer);
   past = c.advance.ensures.past ∙ c.loop-done.invariant.past;
 }
 
 pub loop-done-preserved : goal.loop-done-preserved
 loop-done-preserved c = record {
-  kept = c.advance.ensures.kept;
+  decoded = c.advance.ensures.decoded;
   state = after_more c.loop-done.done _ _ _ c.loop-done.invariant.state (said_else _ _ _ _ _ c.if-advance.false c.in-Went.is c.advance.ensures.answer);
   past = c.advance.ensures.past ∙ c.loop-done.invariant.past;
 }
 
 pub loop-done-init : goal.loop-done-init
-loop-done-init c = record { kept = c.requires.kept; state = refl; past = refl }
+loop-done-init c = record { decoded = c.requires.decoded; state = refl; past = refl }
 
 pub returns-in-Ended : goal.returns-in-Ended
 returns-in-Ended c =
@@ -30,7 +30,7 @@ returns-in-Ended c =
     record {
       leaves = last_is Ended c.args.steps l.done (state_of c.args.core.now c.args.pages.now.memory c.args.vectors.now) (state_of l.core l.pages.memory l.vectors) (state_of left.core left.pages.memory left.vectors) c.advance.result left.answer c.loop-done-test.true l.invariant.state c.if-advance.false c.in-Ended.is c.advance.ensures.answer;
       few = omega (arith, c.loop-done-test.true);
-      kept = c.advance.ensures.kept;
+      decoded = c.advance.ensures.decoded;
       past = c.advance.ensures.past ∙ l.invariant.past;
     }
 
@@ -41,7 +41,7 @@ returns-in-Stopped c =
     record {
       leaves = last_is (Stopped c.in-Stopped.stop) c.args.steps l.done (state_of c.args.core.now c.args.pages.now.memory c.args.vectors.now) (state_of l.core l.pages.memory l.vectors) (state_of left.core left.pages.memory left.vectors) c.advance.result left.answer c.loop-done-test.true l.invariant.state c.if-advance.false c.in-Stopped.is c.advance.ensures.answer;
       few = omega (arith, c.loop-done-test.true);
-      kept = c.advance.ensures.kept;
+      decoded = c.advance.ensures.decoded;
       past = c.advance.ensures.past ∙ l.invariant.past;
     }
 
@@ -52,6 +52,6 @@ returns c =
     record {
       leaves = (refl, subst (λ n. after_steps n (state_of c.args.core.now c.args.pages.now.memory c.args.vectors.now) ≡ Some (state_of l.core l.pages.memory l.vectors)) all l.invariant.state);
       few = omega arith;
-      kept = l.invariant.kept;
+      decoded = l.invariant.decoded;
       past = l.invariant.past;
     }

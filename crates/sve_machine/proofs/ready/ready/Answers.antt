@@ -1,7 +1,7 @@
 use Rattle.std.proofs.Common.{refl}
 use Rattle.sve_machine.specs.declared.instruction.Instruction.TheVariants as instructions
-use Rattle.sve_machine.specs.declared.kept.Kept.TheVariants.{Ready, Scalar, Vector}
-use Rattle.sve_machine.proofs.KeptWords.{ready_as}
+use Rattle.sve_machine.specs.declared.decoded.Decoded.TheVariants.{Ready, Scalar, Vector}
+use Rattle.sve_machine.proofs.DecodedWords.{ready_as}
 use Rattle.sve_machine.proofs.ready.ready.Goals as goal
 
 pub returns-in-Some : goal.returns-in-Some

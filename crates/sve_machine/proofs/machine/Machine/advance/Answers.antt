@@ -14,13 +14,13 @@ returns-clause-quiet c quiet =
     c.go-answer.ensures.leaves (ap (λ (v : View). v.quiet) c.self.view_is ∙ quiet)
 
 pub go-answer-requires : goal.go-answer-requires
-go-answer-requires c = record { kept = c.self.invariant.kept }
+go-answer-requires c = record { decoded = c.self.invariant.decoded }
 
 pub invariant_of-self : goal.invariant_of-self
 invariant_of-self c =
     let own = c.self.inside in
     let left = c.go-answer.new in
-    whole-left own.pages.memory left.pages.memory own.pages.past left.pages.past own.kept left.kept own.history c.go-answer.ensures.kept c.go-answer.ensures.past c.self.invariant
+    whole-left own.pages.memory left.pages.memory own.pages.past left.pages.past own.decoded left.decoded own.history c.go-answer.ensures.decoded c.go-answer.ensures.past c.self.invariant
 
 pub returns-clause-leaves : goal.returns-clause-leaves
 returns-clause-leaves c =

@@ -15,7 +15,7 @@ returns-in_err-history c = record {
 pub invariant_of-self : goal.invariant_of-self
 invariant_of-self c =
     let own = c.self.inside in
-    whole-same own.pages.memory c.begin.new.self.memory own.pages.past c.begin.new.self.past own.kept own.history c.in_err-begin.ensures.memory c.in_err-begin.ensures.unchanged c.self.invariant
+    whole-same own.pages.memory c.begin.new.self.memory own.pages.past c.begin.new.self.past own.decoded own.history c.in_err-begin.ensures.memory c.in_err-begin.ensures.unchanged c.self.invariant
 
 pub returns-in_err-begin : goal.returns-in_err-begin
 returns-in_err-begin c =
@@ -31,7 +31,7 @@ returns-in_err-begin c =
 pub invariant_of-self-2 : goal.invariant_of-self-2
 invariant_of-self-2 c =
     let own = c.self.inside in
-    whole-begun own.pages.memory c.begin.new.self.memory c.begin.new.self.past own.kept c.in_ok-history.history c.snapshot.result c.in_ok-begin.ensures.memory c.in_ok-begin.ensures.begun c.in_ok-history.ensures c.self.invariant.kept
+    whole-begun own.pages.memory c.begin.new.self.memory c.begin.new.self.past own.decoded c.in_ok-history.history c.snapshot.result c.in_ok-begin.ensures.memory c.in_ok-begin.ensures.begun c.in_ok-history.ensures c.self.invariant.decoded
 
 pub returns : goal.returns
 returns c =

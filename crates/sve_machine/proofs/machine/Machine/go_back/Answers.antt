@@ -45,7 +45,7 @@ invariant_of-self c =
     let long = length-past_by ms rs same in
     let inside : n + 1 ≤ length rs = omega (arith, c.requires, long, ap length seen) in
     record {
-      kept = c.no_words-self-inside.ensures c.back.new.self.memory;
+      decoded = c.no_words-self-inside.ensures c.back.new.self.memory;
       beside = ap length c.back.ensures.past ∙ length-take-le (n + 1) ms (omega (arith, inside, same)) ∙ sym (ap length c.cut.ensures ∙ length-take-le (n + 1) rs inside);
     }
 

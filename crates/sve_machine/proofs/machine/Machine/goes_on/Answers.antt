@@ -11,13 +11,13 @@ use Rattle.sve_machine.proofs.RunSteps.{one_quiet, went_on, came_to}
 use Rattle.sve_machine.proofs.machine.Machine.goes_on.Goals as goal
 
 pub advance-went-requires : goal.advance-went-requires
-advance-went-requires g c = record { kept = c.self.invariant.kept }
+advance-went-requires g c = record { decoded = c.self.invariant.decoded }
 
 pub invariant_of-self : goal.invariant_of-self
 invariant_of-self g c =
     let own = c.self.inside in
     let left = c.advance-went.new in
-    whole-left own.pages.memory left.pages.memory own.pages.past left.pages.past own.kept left.kept own.history c.advance-went.ensures.kept c.advance-went.ensures.past c.self.invariant
+    whole-left own.pages.memory left.pages.memory own.pages.past left.pages.past own.decoded left.decoded own.history c.advance-went.ensures.decoded c.advance-went.ensures.past c.self.invariant
 
 pub returns-then-went : goal.returns-then-went
 returns-then-went g c =
@@ -39,7 +39,7 @@ pub invariant_of-self-2 : goal.invariant_of-self-2
 invariant_of-self-2 g c =
     let own = c.self.inside in
     let left = c.advance-went.new in
-    whole-left own.pages.memory left.pages.memory own.pages.past left.pages.past own.kept left.kept own.history c.advance-went.ensures.kept c.advance-went.ensures.past c.self.invariant
+    whole-left own.pages.memory left.pages.memory own.pages.past left.pages.past own.decoded left.decoded own.history c.advance-went.ensures.decoded c.advance-went.ensures.past c.self.invariant
 
 pub returns : goal.returns
 returns g c =

@@ -29,7 +29,7 @@ note-requires c = some-kept c.self.inside.pages.past c.self.inside.history c.in-
 pub invariant_of-self : goal.invariant_of-self
 invariant_of-self c =
     let own = c.self.inside in
-    whole-more own.pages.memory c.note.new.self.memory own.pages.past c.note.new.self.past own.kept own.history c.in-Some.history c.keep.new.self c.snapshot-snapshot.result
+    whole-more own.pages.memory c.note.new.self.memory own.pages.past c.note.new.self.past own.decoded own.history c.in-Some.history c.keep.new.self c.snapshot-snapshot.result
     c.note.ensures.memory c.note.ensures.past c.keep.ensures c.in-Some.is c.self.invariant
 
 pub invariant_of-self-in_default : goal.invariant_of-self-in_default

@@ -1,9 +1,10 @@
-use Rattle.std.proofs.Common.{◌≡◌, Ok, Err, [], get_or, sym, ◌∙◌, subst, arith}
+use Rattle.std.proofs.Common.{◌≡◌, Ok, Err, [], get_or, sym, ap, ◌∙◌, subst, arith}
 use Rattle.std.specs.Prelude.{slice_set}
 use Rattle.a64_machine.specs.Cores.{VectorState}
 use Rattle.lane_memory.specs.Loads.{load_of}
 use Rattle.sve_machine.specs.VectorStates.{IsVectorState, vector_state_of, p_of, put_load}
 use Rattle.sve_machine.proofs.Loads.{load_shape, load_put, load_done, load_refused, load_kept}
+use Rattle.sve_machine.proofs.BankShapes.{mask_back}
 use Rattle.guest_types.proofs.Errors.{on_error, in_error}
 use Rattle.sve_machine.proofs.Errors.{error_is}
 use Rattle.sve_machine.proofs.vectors.Vectors.load.Goals as goal
@@ -12,9 +13,10 @@ pub invariant_of-self-2 : goal.invariant_of-self-2
 invariant_of-self-2 c =
     let own = c.self.inside in
     let after = c.load_into.new in
-    load_put own.z own.p own.ffr own.vl own.stops after.ffr after.stops c.args.zt after.out c.self.invariant
+    subst (λ p. IsVectorState (vector_state_of (slice_set own.z c.args.zt after.out) p after.ffr own.vl after.stops)) (sym (mask_back own.p c.args.pg))
+    (load_put own.z own.p own.ffr own.vl own.stops after.ffr after.stops c.args.zt after.out c.self.invariant
     (load_shape c.args.mode c.args.row.dtype c.args.base c.args.index own.vl c.args.pages.now.memory own.stops (get_or own.p c.args.pg (record { bits = [] })).bits own.ffr.bits _
-    c.self.invariant.sized c.self.invariant.ffr_is c.in_ok-load_into.ensures.done)
+    c.self.invariant.sized c.self.invariant.ffr_is c.in_ok-load_into.ensures.done))
 
 pub returns-clause-done : goal.returns-clause-done
 returns-clause-done c =
@@ -23,6 +25,7 @@ returns-clause-done c =
     subst (λ (r : VectorState). put_load (load_of c.args.mode c.args.row.dtype c.args.base c.args.index r.vl c.args.pages.now.memory r.stops (p_of r c.args.pg) r.ffr) c.args.zt r ≡ Ok (vector_state_of (slice_set own.z c.args.zt after.out) own.p after.ffr own.vl after.stops))
     c.self.view_is
     (load_done c.args.mode c.args.row.dtype c.args.base c.args.index c.args.pages.now.memory own.z own.p own.ffr own.vl own.stops c.args.pg c.args.zt after.ffr after.stops after.out c.in_ok-load_into.ensures.done)
+    ∙ ap Ok (ap (λ p. vector_state_of (slice_set own.z c.args.zt after.out) p after.ffr own.vl after.stops) (sym (mask_back own.p c.args.pg)))
 
 pub bounds-self-inside-pg : goal.bounds-self-inside-pg
 bounds-self-inside-pg c = c.requires.predicate
@@ -34,7 +37,8 @@ pub invariant_of-self : goal.invariant_of-self
 invariant_of-self c =
     let own = c.self.inside in
     let after = c.load_into.new in
-    subst IsVectorState (sym (load_kept own.z own.p own.ffr own.vl own.stops after.ffr after.stops c.args.zt after.out c.in_err-load_into.ensures.unchanged)) c.self.invariant
+    subst (λ p. IsVectorState (vector_state_of (slice_set own.z c.args.zt after.out) p after.ffr own.vl after.stops)) (sym (mask_back own.p c.args.pg))
+    (subst IsVectorState (sym (load_kept own.z own.p own.ffr own.vl own.stops after.ffr after.stops c.args.zt after.out c.in_err-load_into.ensures.unchanged)) c.self.invariant)
 
 pub returns-in_err-load_into : goal.returns-in_err-load_into
 returns-in_err-load_into c =
@@ -50,7 +54,8 @@ returns-in_err-load_into c =
           c.from_residual.ensures.1;
       unchanged =
           in_error c.from_residual.result
-          (load_kept own.z own.p own.ffr own.vl own.stops after.ffr after.stops c.args.zt after.out c.in_err-load_into.ensures.unchanged ∙ c.self.view_is);
+          (ap (λ p. vector_state_of (slice_set own.z c.args.zt after.out) p after.ffr own.vl after.stops) (mask_back own.p c.args.pg)
+          ∙ load_kept own.z own.p own.ffr own.vl own.stops after.ffr after.stops c.args.zt after.out c.in_err-load_into.ensures.unchanged ∙ c.self.view_is);
     }
 
 pub returns-clause-refused : goal.returns-clause-refused

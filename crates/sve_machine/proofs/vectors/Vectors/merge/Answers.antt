@@ -3,9 +3,9 @@ use Rattle.guest_types.specs.Length.{lanes}
 use Rattle.guest_types.specs.Elements.{active}
 use Rattle.guest_types.specs.Lanes.{merge_at}
 use Rattle.a64_machine.specs.Cores.{VectorState}
-use Rattle.sve_machine.specs.VectorStates.{vector_state_of, z_of, p_of, put_lanes}
+use Rattle.sve_machine.specs.VectorStates.{IsVectorState, vector_state_of, z_of, p_of, put_lanes}
 use Rattle.sve_machine.proofs.VectorStateLaws.{z_read}
-use Rattle.sve_machine.proofs.BankShapes.{z_is, p_is, bank_shape, bank_put, lane3, merged_all}
+use Rattle.sve_machine.proofs.BankShapes.{mask_back, z_is, p_is, bank_shape, bank_put, lane3, merged_all}
 use Rattle.sve_machine.proofs.vectors.Vectors.merge.Goals as goal
 
 pub merge_in-requires-clause-ends : goal.merge_in-requires-clause-ends
@@ -16,12 +16,14 @@ merge_in-requires-clause-ends c =
 pub invariant_of-self : goal.invariant_of-self
 invariant_of-self c =
     let own = c.self.inside in
-    bank_shape own.z own.p own.ffr own.vl own.stops c.args.zdn c.args.width _ c.merge_in.new.zs c.self.invariant c.merge_in.ensures
+    subst (λ p. IsVectorState (vector_state_of c.merge_in.new.zs p own.ffr own.vl own.stops)) (sym (mask_back own.p c.args.pg))
+    (bank_shape own.z own.p own.ffr own.vl own.stops c.args.zdn c.args.width _ c.merge_in.new.zs c.self.invariant c.merge_in.ensures)
 
 pub returns : goal.returns
 returns c =
     let own = c.self.inside in
-    bank_put own.z own.p own.ffr own.vl own.stops c.args.zdn c.args.width _ _ c.merge_in.new.zs c.merge_in.ensures
+    ap (λ p. vector_state_of c.merge_in.new.zs p own.ffr own.vl own.stops) (mask_back own.p c.args.pg)
+    ∙ bank_put own.z own.p own.ffr own.vl own.stops c.args.zdn c.args.width _ _ c.merge_in.new.zs c.merge_in.ensures
     (lane3 (merge_at c.args.op c.args.width) _ _ _ _ _ _ (p_is own.z own.p own.ffr own.vl own.stops c.args.pg) (z_is own.z own.p own.ffr own.vl own.stops c.args.zdn) (z_is own.z own.p own.ffr own.vl own.stops c.args.zm))
     ∙ ap (λ (r : VectorState). put_lanes r c.args.zdn c.args.width (merge_at c.args.op c.args.width (p_of r c.args.pg) (z_of r c.args.zdn) (z_of r c.args.zm))) c.self.view_is
 

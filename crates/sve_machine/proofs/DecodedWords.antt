@@ -1,4 +1,4 @@
--- What is kept of words stays right.
+-- What is kept of words that were decoded stays right.
 use Rattle.std.proofs.Common.{◌≡◌, ℕ, ◌^◌, ◌<◌, ◌/◌, ◌%◌, Bool, true, false, List, get_or, length, Option, Some, None, refl, sym, ap, ap₂, ◌∙◌, subst, arith}
 use Rattle.std.specs.Prelude.{All, replicate, slice_set, IsTrue}
 use Rattle.std.proofs.lemmas.List.{get_or-set_same}
@@ -14,19 +14,19 @@ use Rattle.machine_model.specs.OneStep.{step, does, do_word, reads_word}
 use Rattle.machine_model.specs.Answers.{IsAnswer}
 use Rattle.machine_model.proofs.MemoryStays.{step_code}
 use Rattle.a64_machine.specs.Cores.{said}
-use Rattle.sve_machine.specs.declared.kept.CacheEntry.{CacheEntry}
-use Rattle.sve_machine.specs.declared.kept.Kept.{Kept}
-use Rattle.sve_machine.specs.declared.kept.Kept.TheVariants.{Nowhere}
+use Rattle.sve_machine.specs.declared.decoded.CacheEntry.{CacheEntry}
+use Rattle.sve_machine.specs.declared.decoded.Decoded.{Decoded}
+use Rattle.sve_machine.specs.declared.decoded.Decoded.TheVariants.{Nowhere}
 use Rattle.sve_machine.specs.declared.instruction.Instruction.{Instruction}
 use Rattle.sve_machine.specs.Listing.{view_of}
-use Rattle.sve_machine.specs.Keeping.{Keeps, Holds, kept_does}
+use Rattle.sve_machine.specs.DecodedWords.{IsDecodedFrom, Holds, decoded_does}
 
 -- the word of an instruction does what the instruction does
 pub word_does : (word : ℕ) (i : Listed) (s : State) → reads_word word ≡ Some i → do_word (Some word) s ≡ does i s
 word_does word i s h = ap (λ r. elim r as (λ o. Step) [ None ↦ Stopped Undefined s.pc word s.memory | Some i ↦ does i s ]) h
 
 -- what is made ready of the word at a place does what the word there does
-pub filled : (memory : Memory) (pc word : ℕ) (i : Listed) (k : Kept) → fetched memory pc ≡ Some word → reads_word word ≡ Some i → ((s : State) → s.pc ≡ pc → does i s ≡ kept_does k s) → (s : State) → s.pc ≡ pc → do_word (fetched memory pc) s ≡ kept_does k s
+pub filled : (memory : Memory) (pc word : ℕ) (i : Listed) (k : Decoded) → fetched memory pc ≡ Some word → reads_word word ≡ Some i → ((s : State) → s.pc ≡ pc → does i s ≡ decoded_does k s) → (s : State) → s.pc ≡ pc → do_word (fetched memory pc) s ≡ decoded_does k s
 filled memory pc word i k f r h s at = ap (λ w. do_word w s) f ∙ word_does word i s r ∙ h s at
 
 left_same : (s t : State) (o : Step) (r : StepAnswer) → IsAnswer o r s t → t.memory ≡ memory_after o s
@@ -38,21 +38,21 @@ left_same s t o (answers.Stopped stop) e = ap (λ x. memory_after x s) (sym e.0)
 pub same_code : (s t : State) (r : StepAnswer) → IsAnswer (step s) r s t → (a : ℕ) → a < 2 ^ 64 → fetched t.memory a ≡ fetched s.memory a
 same_code s t r e a lt = ap (λ m. fetched m a) (left_same s t (step s) r e) ∙ step_code s a lt
 
-still : (m n : Memory) (e : CacheEntry) → ((a : ℕ) → a < 2 ^ 64 → fetched n a ≡ fetched m a) → Keeps m e → Keeps n e
+still : (m n : Memory) (e : CacheEntry) → ((a : ℕ) → a < 2 ^ 64 → fetched n a ≡ fetched m a) → IsDecodedFrom m e → IsDecodedFrom n e
 still m n e same k = (k.0, λ s at. ap (λ w. do_word w s) (same e.place k.0) ∙ k.1 s at)
 
-pub all_still : (m n : Memory) (es : List CacheEntry) → ((a : ℕ) → a < 2 ^ 64 → fetched n a ≡ fetched m a) → All (Keeps m) es → All (Keeps n) es
+pub all_still : (m n : Memory) (es : List CacheEntry) → ((a : ℕ) → a < 2 ^ 64 → fetched n a ≡ fetched m a) → All (IsDecodedFrom m) es → All (IsDecodedFrom n) es
 all_still m n es same h k d l = still m n (get_or es k d) same (h k d l)
 
 abbrev nothing : CacheEntry
-nothing = record { place = 1; kept = Nowhere }
+nothing = record { place = 1; decoded = Nowhere }
 
-pub none_kept : (m : Memory) (n : ℕ) → All (Keeps m) (replicate n nothing)
-none_kept m n = All-replicate (Keeps m) n nothing (omega arith, λ s at. refl)
+pub none_decoded : (m : Memory) (n : ℕ) → All (IsDecodedFrom m) (replicate n nothing)
+none_decoded m n = All-replicate (IsDecodedFrom m) n nothing (omega arith, λ s at. refl)
 
--- a step does what an entry keeps
-pub step_by : (s t : State) (r : StepAnswer) (kept : List CacheEntry) (i : ℕ) (d : CacheEntry) → ((x : CacheEntry) → Holds s.memory s.pc (get_or kept i x)) → IsAnswer (kept_does (get_or kept i d).kept s) r s t → IsAnswer (step s) r s t
-step_by s t r kept i d found h = subst (λ o. IsAnswer o r s t) (sym (found d s refl)) h
+-- a step does what an entry holds
+pub step_by : (s t : State) (r : StepAnswer) (decoded : List CacheEntry) (i : ℕ) (d : CacheEntry) → ((x : CacheEntry) → Holds s.memory s.pc (get_or decoded i x)) → IsAnswer (decoded_does (get_or decoded i d).decoded s) r s t → IsAnswer (step s) r s t
+step_by s t r decoded i d found h = subst (λ o. IsAnswer o r s t) (sym (found d s refl)) h
 
 -- ---- a word that is looked up
 
@@ -79,15 +79,15 @@ undefined memory pc word at answer s a same f r m p =
     (ap (λ r. elim r as (λ o. Step) [ None ↦ Stopped Undefined s.pc word s.memory | Some i ↦ does i s ]) r
     ∙ ap₂ (λ p w. Stopped Undefined p w s.memory) p (sym same))
 
--- ---- what is kept, by its form
+-- ---- what was decoded, by its form
 
-pub kept_as : (kept form : Kept) (r : StepAnswer) (before after : State) → kept ≡ form → IsAnswer (kept_does form before) r before after → IsAnswer (kept_does kept before) r before after
-kept_as kept form r before after e h = subst (λ k. IsAnswer (kept_does k before) r before after) (sym e) h
+pub decoded_as : (decoded form : Decoded) (r : StepAnswer) (before after : State) → decoded ≡ form → IsAnswer (decoded_does form before) r before after → IsAnswer (decoded_does decoded before) r before after
+decoded_as decoded form r before after e h = subst (λ k. IsAnswer (decoded_does k before) r before after) (sym e) h
 
-pub stops_nowhere : (kept : Kept) (went : Bool) (answer : StepAnswer) (s : State) → kept ≡ Nowhere → went ≡ false → answer ≡ answers.Stopped (record { kind = Fetch; pc = s.pc; at = s.pc }) → IsAnswer (kept_does kept s) (said went answer) s s
-stops_nowhere kept went answer s k w a =
-    kept_as kept Nowhere (said went answer) s s k
-    (subst (λ w. IsAnswer (kept_does Nowhere s) (said w answer) s s) (sym w) (subst (λ a. IsAnswer (kept_does Nowhere s) a s s) (sym a) (refl, refl)))
+pub stops_nowhere : (decoded : Decoded) (went : Bool) (answer : StepAnswer) (s : State) → decoded ≡ Nowhere → went ≡ false → answer ≡ answers.Stopped (record { kind = Fetch; pc = s.pc; at = s.pc }) → IsAnswer (decoded_does decoded s) (said went answer) s s
+stops_nowhere decoded went answer s k w a =
+    decoded_as decoded Nowhere (said went answer) s s k
+    (subst (λ w. IsAnswer (decoded_does Nowhere s) (said w answer) s s) (sym w) (subst (λ a. IsAnswer (decoded_does Nowhere s) a s s) (sym a) (refl, refl)))
 
-pub ready_as : (i form : Instruction) (pc : ℕ) (kept : Kept) → i ≡ form → ((s : State) → s.pc ≡ pc → does (view_of form) s ≡ kept_does kept s) → (s : State) → s.pc ≡ pc → does (view_of i) s ≡ kept_does kept s
-ready_as i form pc kept e h = subst (λ i. (s : State) → s.pc ≡ pc → does (view_of i) s ≡ kept_does kept s) (sym e) h
+pub ready_as : (i form : Instruction) (pc : ℕ) (decoded : Decoded) → i ≡ form → ((s : State) → s.pc ≡ pc → does (view_of form) s ≡ decoded_does decoded s) → (s : State) → s.pc ≡ pc → does (view_of i) s ≡ decoded_does decoded s
+ready_as i form pc decoded e h = subst (λ i. (s : State) → s.pc ≡ pc → does (view_of i) s ≡ decoded_does decoded s) (sym e) h

@@ -6,7 +6,7 @@ use sve_code::Sve;
 
 /// What is done at the place of an entry.
 #[derive(Clone, Copy)]
-pub enum Kept {
+pub enum Decoded {
     /// No word can stand there.
     Nowhere,
     /// An A64 instruction that was made ready for its place.
@@ -21,5 +21,5 @@ pub enum Kept {
 #[derive(Clone, Copy)]
 pub struct CacheEntry {
     pub place: u64,
-    pub kept: Kept,
+    pub decoded: Decoded,
 }
