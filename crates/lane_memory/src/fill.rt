@@ -117,8 +117,7 @@ pub fn fill_at_once(
     if is_full(pg, reading.element, lanes) {
         return fill_full(pages, reading, pg, lanes, out);
     }
-    let filled = fill_range(pages, reading, pg, lanes, out);
-    filled
+    fill_range(pages, reading, pg, lanes, out)
 }
 
 /// The first elements of a load, and zeros above them.

@@ -20,8 +20,7 @@ pub fn is_full(pg: &PReg, width: Width, lanes: usize) -> bool
 {
     let predicate = predicate_block(pg);
     let elements = first_elements(width, lanes);
-    let is_full = has_bits(predicate, elements);
-    is_full
+    has_bits(predicate, elements)
 }
 
 /// Keeps the first elements, which are all active, and zeroes the others.

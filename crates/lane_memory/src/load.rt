@@ -180,8 +180,7 @@ fn load_whole(
         signed: false,
     };
     let lanes = vl.lanes(width) as usize;
-    let filled = fill_full(pages, reading, pg, lanes, out);
-    filled
+    fill_full(pages, reading, pg, lanes, out)
 }
 
 /// Loads the active elements of a register from `base + (index + e) * size` on, in place: LD1, LDFF1

@@ -7,4 +7,4 @@ pub returns : goal.returns
 returns c t e l =
     let all = c.first_elements-elements.result in
     active-common c.args.width c.args.lanes e c.args.pg.now.bits all c.requires c.predicate_block-predicate.ensures.len c.first_elements-elements.ensures
-    (ap (λ q. both_of q all) (sym c.predicate_block-predicate.ensures.value) ∙ c.has_bits-is_full.ensures t) l
+    (ap (λ q. both_of q all) (sym c.predicate_block-predicate.ensures.value) ∙ c.has_bits.ensures t) l

@@ -14,8 +14,8 @@ returns-clause-loaded c stops ffr went =
     let m = c.args.pages.now.memory in
     let pg = c.args.pg.now.bits in
     let n = c.lanes-lanes.result in
-    let done : plain_load (form_of r) m (on_of r pg) (place_of r) n ffr ≡ Ok (record { z = c.fill_full-filled.new.out.bytes; ffr = ffr }) =
-    ap (λ o. or_fault (fault_at (form_of r) m (place_of r) o) (record { z = lanes_of r m pg n; ffr = ffr })) (c.fill_full-filled.ensures.free went)
-    ∙ ap (λ z. Ok (record { z = z; ffr = ffr })) (sym (c.fill_full-filled.ensures.filled went)) in
+    let done : plain_load (form_of r) m (on_of r pg) (place_of r) n ffr ≡ Ok (record { z = c.fill_full.new.out.bytes; ffr = ffr }) =
+    ap (λ o. or_fault (fault_at (form_of r) m (place_of r) o) (record { z = lanes_of r m pg n; ffr = ffr })) (c.fill_full.ensures.free went)
+    ∙ ap (λ z. Ok (record { z = z; ffr = ffr })) (sym (c.fill_full.ensures.filled went)) in
     load_of-reading Plain c.args.row.dtype c.args.base c.args.index c.args.vl m stops pg ffr r n (sym c.in-Some.ensures) refl refl c.lanes-lanes.ensures.value
     ∙ ap (left_by_plain stops) done
