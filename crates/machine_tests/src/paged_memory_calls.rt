@@ -229,6 +229,40 @@ fn go_back(pages: &mut Pages, n: usize) -> bool {
     false
 }
 
+// Writes the first and the last of four bytes that are lent, where all of them may be written.
+fn write_lent(pages: &mut Pages, address: u64, first: u8, last: u8) -> bool {
+    match pages.span_mut(address, 4) {
+        Some(part) => {
+            part[0] = first;
+            part[3] = last;
+            true
+        }
+        None => false,
+    }
+}
+
+// Addresses of which four bytes are not lent: in a page of code, across two pages, and where no page is.
+static NOT_LENT: [u64; 3] = [0x40_0000, 0x100_0ffe, 0x100_2000];
+
+#[test]
+fn lends(rt: HostRuntime) -> Result<(), Fail> {
+    let mut pages = built(rt.alloc(), 0x1000, 2, Perm::ReadWrite)?;
+    pages.begin(rt.alloc())?;
+    assert!(rt; write_lent(&mut pages, 0x100_1000, 0x11, 0x44));
+    assert!(rt; pages.load(0x100_1000, 8) == Ok(0x4403_2011) && pages.load(0x100_0ffc, 4) == Ok(0));
+    if pages.kept() > 0 {
+        pages.note();
+    }
+    assert!(rt; write_lent(&mut pages, 0x100_1002, 0x55, 0x66));
+    assert!(rt; pages.load(0x100_1000, 8) == Ok(0x6600_4455_2011));
+    for &address in &NOT_LENT {
+        assert!(rt; !write_lent(&mut pages, address, 0, 0), "{address:x}");
+    }
+    assert!(rt; go_back(&mut pages, 1) && pages.load(0x100_1000, 8) == Ok(0x4403_2011));
+    assert!(rt; go_back(&mut pages, 0) && pages.load(0x100_1000, 8) == Ok(0xd503_201f));
+    Ok(())
+}
+
 // Twelve numbers, each of which is written to page 0 and kept. The even ones also go across pages 1 and 2, and those that
 // are no multiples of 3 to page 3, as a span.
 fn write_twelve(pages: &mut Pages) {

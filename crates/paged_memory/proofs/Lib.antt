@@ -2,6 +2,7 @@ pub mod Bytes
 mod Examples
 pub mod EpochRows
 pub mod HeadPlaces
+pub mod LoanLaws
 pub mod Mapped
 pub mod Merging
 pub mod Parts

@@ -280,6 +280,43 @@ impl Pages {
         self.store.write_span(address, len, place, writer);
     }
 
+    // Opens the page of an address, where it is not the one that was opened last.
+    #[inline(always)]
+    fn open_page(&mut self, address: u64)
+        ensures { self.new ≡ self.old }
+    {
+        open_next(&self.store, &mut self.log, &mut self.opened, address / 4096);
+    }
+
+    // Lends the bytes of a range in one page, by the place of that, which was opened. The fields of the store are lent here, since of a
+    // store that one of its methods had lent nothing would be known afterwards.
+    #[inline(always)]
+    fn lend(&mut self, address: u64, len: u32, place: usize) -> &mut [u8]
+        requires { IsPlaceOf self.old.memory address len place }
+        ensures value { result.now ≡ span_of self.old.memory address len }
+        ensures len { length result.now ≡ len }
+    {
+        let at = self.store.heads[place].start + (address % 4096) as usize;
+        self.store.bytes.slice_mut(at..at + len as usize)
+    }
+
+    /// Lends the bytes of a range, where it is not empty and lies in one page that may be written. The page is looked up once, and
+    /// opened before it is lent.
+    #[inline(always)]
+    pub fn span_mut(&mut self, address: u64, len: u32) -> Option<&mut [u8]>
+        ensures some { IsSome result ↔ IsTrue (has_span_mut self.old.memory address len) }
+        ensures value { IfSome result (λ part. part.now ≡ span_of self.old.memory address len) }
+        ensures len { IfSome result (λ part. length part.now ≡ len) }
+    {
+        match self.place_mut(address, len) {
+            Some(place) => {
+                self.open_page(address);
+                Some(self.lend(address, len, place))
+            }
+            None => None,
+        }
+    }
+
     // A store to a page that was not opened last, or one that crosses a page.
     #[cold]
     #[inline(never)]

@@ -20,8 +20,9 @@ use std::marker::Model;
 /// The pages of a guest as they are now, in the order of their numbers.
 #[derive(Drop)]
 pub struct Store {
-    heads: Vec<Head>,
-    bytes: Vec<u8>,
+    // These two `Pages::lend` reads.
+    pub heads: Vec<Head>,
+    pub bytes: Vec<u8>,
     recent: Recent,
 }
 
