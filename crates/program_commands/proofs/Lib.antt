@@ -3,3 +3,5 @@ pub mod Listings
 pub mod Writes
 pub mod Sessions
 pub mod Assemblies
+pub mod ReadBack
+pub mod AssembledWords

@@ -1,3 +1,4 @@
 pub mod Listing
 pub mod Commands
 pub mod Ready
+pub mod ReadBack

@@ -3,6 +3,7 @@
 
 pub mod asm;
 pub mod debug;
+pub mod laws;
 pub mod list;
 mod listing;
 mod program;

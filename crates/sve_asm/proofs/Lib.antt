@@ -15,4 +15,6 @@ pub mod SveRows
 pub mod Complete
 pub mod Spelling
 pub mod Clean
+pub mod TextLengths
+pub mod ListingLengths
 pub mod Listings

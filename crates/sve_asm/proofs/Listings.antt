@@ -24,6 +24,7 @@ use Rattle.sve_asm.proofs.Cases.{bits_below}
 use Rattle.sve_asm.proofs.Clean.{is_clean, is_clean_byte, text-clean}
 use Rattle.sve_asm.proofs.Complete.{text-back, unlisted-back}
 use Rattle.sve_asm.proofs.Spelling.{read-back}
+use Rattle.sve_asm.proofs.ListingLengths.{short_listing}
 
 -- ---- lines
 -- a line before a line feed
@@ -148,7 +149,6 @@ listed (word ∷ words) address line before small few =
 not_long : (n : ℕ) → n ≤ 8388608 → nat_lt 8388608 n ≡ false
 not_long n h = grind (arith, nat_tests)
 
-pub read-listing : (address : ℕ) (words : List ℕ) → AllByRecursion (λ w. w < 2 ^ 32) words → length words ≤ 65536 → length (list_text address words) ≤ 8388608
-    → words_of (list_text address words) ≡ Ok words
+pub read-listing : (address : ℕ) (words : List ℕ) → AllByRecursion (λ w. w < 2 ^ 32) words → length words ≤ 65536 → words_of (list_text address words) ≡ Ok words
 unfolding words_of
-read-listing address words small few short = rw (not_long (length (list_text address words)) short) (listed words address 1 [] small (omega arith))
+read-listing address words small few = rw (not_long (length (list_text address words)) (short_listing address words small few)) (listed words address 1 [] small (omega arith))

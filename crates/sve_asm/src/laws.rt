@@ -16,5 +16,5 @@ pub fn words_have_texts()
 /// The lines of a listing, read back, give the words that are listed, from whatever address it counts.
 pub fn listings_read_back()
     ensures { (address : ℕ) (words : List ℕ) → AllByRecursion (λ w. w < 2 ^ 32) words → length words ≤ 65536
-        → length (list_text address words) ≤ 8388608 → words_of (list_text address words) ≡ Ok words }
+        → words_of (list_text address words) ≡ Ok words }
 {}
