@@ -112,10 +112,14 @@ faithful_runs = record {
   ends = faithful_within end_steps IsAny;
 }
 
+-- the file that `compile` left of a text
+pub left_of : (old new : HeldFiles) (from to text : List ℕ) → content old from ≡ Some text → IsCompiled old new from to → (file : List ℕ) × (content new to ≡ Some file) × CompilesTo text file
+left_of old new from to text e compiled = subst (λ o. IfSome o (λ text. (file : List ℕ) × (content new to ≡ Some file) × CompilesTo text file)) e compiled
+
 -- the file that stands under a name is that which was compiled
 pub compiled_from : (old new : HeldFiles) (from to text file : List ℕ) → content old from ≡ Some text → content new to ≡ Some file → IsCompiled old new from to → CompilesTo text file
 compiled_from old new from to text file e h compiled =
-    let c = subst (λ o. IfSome o (λ text. (file : List ℕ) × (content new to ≡ Some file) × CompilesTo text file)) e compiled in
+    let c = left_of old new from to text e compiled in
     subst (CompilesTo text) (same_file c.0 file (content new to) c.1 h) c.2
 
 -- it is not too long to be read

@@ -1,2 +1,3 @@
+mod CompiledListings
 mod CompiledRuns
 mod EvaluatedRuns

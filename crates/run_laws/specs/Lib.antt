@@ -1,2 +1,3 @@
+pub mod CompiledListings
 pub mod CompiledRuns
 pub mod EvaluatedRuns
