@@ -80,7 +80,7 @@ module _ (R : ℕ → ℕ) (k : Program) (begins : BeginRuns R k) (runs : Scalar
             let st = starts words args pages vl stops start.few in
             let stand : StandAt s0.memory D.base (words_of D.entries) = subst (λ ws. StandAt s0.memory code_base ws) is (subst (λ m. StandAt m code_base words) (sym st.memory) (words_stand words pages many small start.apart)) in
             let same : run steps 0 s0 ≡ draft_run D steps 0 code s0 = runs_as_draft D labels s0 fits few stand st.pc steps 0 ∙ ap (λ es. draft_run D steps 0 es s0) begun_by in
-            let given : HasArguments args m s0 = record { few = start.few; words = start.words; sized = st.sized; held = st.given; memory = st.memory; good = start_memory words pages many start.memory start.apart } in
+            let given : HasArguments args m s0 = record { few = start.few; words = start.words; sized = st.sized; held = λ r lt. st.given r; memory = st.memory; good = start_memory words pages many start.memory start.apart } in
             let c = code_comes D n args m s0 given (resolves_in D code [] begun_by placed) (resolves_in D (scalar_code R k n []) front following placed) in
             let b = begun (scalar_run k args m) in
             let enough : iteration_steps k * b + outside_steps k ≤ steps = omega (arith, le) in

@@ -78,7 +78,7 @@ file_within enough k a b c labels n1 n2 n3 entries words suffices j w fits few i
           let stand : StandAt s0.memory D.base (words_of D.entries) = subst (λ ws. StandAt s0.memory code_base ws) is (subst (λ m. StandAt m code_base words) (sym st.memory) (words_stand words pages many small start.apart)) in
           let same : run steps 0 s0 ≡ draft_run D steps 0 code s0 = runs_as_draft D labels s0 fits few stand st.pc steps 0 ∙ ap (λ es. draft_run D steps 0 es s0) w.all in
           let cut : cuts D steps code s0 ≤ suppressed steps s0 = subst (λ es. cuts D steps es s0 ≤ suppressed steps s0) w.all (cuts_are_suppressed D labels s0 fits few stand st.pc steps) in
-          let given : HasArguments args m s0 = record { few = start.few; words = start.words; sized = st.sized; held = st.given; memory = st.memory; good = start_memory words pages many start.memory start.apart } in
+          let given : HasArguments args m s0 = record { few = start.few; words = start.words; sized = st.sized; held = λ r lt. st.given r; memory = st.memory; good = start_memory words pages many start.memory start.apart } in
           let following = resolves_in D _ w.before_guard w.guard w.placed in
           let as_given = start_length words args pages vl stops in
           let r = scalar_run k args m in

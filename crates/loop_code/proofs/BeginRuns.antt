@@ -32,7 +32,7 @@ use Rattle.loop_code.specs.KernelFits.{AreSafeVars, KernelFits}
 use Rattle.scalar_words.specs.Iterations.{AreHeld}
 use Rattle.loop_code.specs.Runs.{Begins, begin_steps, BeginRuns}
 use Rattle.scalar_words.proofs.AssignedOf.{counted-low}
-use Rattle.scalar_words.proofs.LayoutStates.{Assigned, Changes, AreSafe, AreInRegisters, Fixed, Told, At, frame_of, wrote, wrote_same, wrote_other, wrote_sized, kept_none, at_kept, safe_later}
+use Rattle.scalar_words.proofs.LayoutStates.{Assigned, Changes, AreSafe, AreInRegisters, Fixed, Told, At, frame_of, wrote, wrote_same, wrote_other, wrote_sized, changes_own, kept_none, at_kept, safe_later}
 use Rattle.value_code.proofs.Loads.{Gives, a_value}
 use Rattle.scalar_words.proofs.WordsRuns.{extension_is, wide_wrap, copied_sets}
 use Rattle.kernel_meaning.specs.TypeValues.{IsOf}
@@ -46,6 +46,7 @@ use Rattle.value_code.proofs.ValueRuns.{give_more, value_runs, value_back}
 use Rattle.value_code.proofs.CodedSizes.{coded_few}
 use Rattle.kernel_meaning.proofs.NameRanges.{ranged_more}
 use Rattle.kernel_meaning.proofs.StartRanges.{given_ranged}
+use Rattle.scalar_words.proofs.KernelNames.{others-append, params_nine, vars_nine}
 use Rattle.loop_code.proofs.StmtRuns.{held_more, held_others}
 use Rattle.loop_code.proofs.LoopRuns.{fixed_at}
 use Rattle.loop_code.proofs.Initial.{all_start}
@@ -211,41 +212,26 @@ module _ (D : Laid) (L : Layout) (fit : Assigned L) (R : ℕ → ℕ) where
 
 -- ---- X9
 
-same_zero : (s : State) → 9 < length s.x → x_at s 9 ≡ 0 → (r : ℕ) → x_at (wrote s 9 0) r ≡ x_at s r
-same_zero s lt z r =
-    ⊎_elim
-    (λ (h : r < 9). wrote_other s 9 0 r (λ e. absurd (omega arith)))
-    (λ (h : 9 ≤ r). ⊎_elim
-    (λ (k : 9 < r). wrote_other s 9 0 r (λ e. absurd (omega arith)))
-    (λ (k : r ≤ 9). let e : 9 ≡ r = omega arith in subst (λ n. x_at (wrote s 9 0) n ≡ x_at s n) e (wrote_same s 9 0 lt ∙ sym z))
-    (cases_lt 9 r))
-    (cases_lt r 9)
+module _ (D : Laid) (L : Layout) (fit : Assigned L) where
+  at_zero : {w : Fixed L} {hs : Homes} {ls : List Local} {names : Names} {m : Memory} {p : ℕ} {s : State} → AreSafe L p hs → Others hs 9 p → At w hs ls names m p s → At (fixed_at {L = L} 0 w.count w.args w.loaded) hs ls names m p (wrote s 9 0)
+  at_zero {hs = hs} {names = names} {p = p} {s = s} safe others at =
+      let k = changes_own s 9 0 in
+      record {
+        sized = wrote_sized s 9 0 ∙ at.sized;
+        nine = wrote_same s 9 0 (let z = at.sized in omega (arith, z));
+        args = λ r lt. k.others r (omega arith) (λ e. absurd (omega arith)) ∙ at.args r lt;
+        ranged = at.ranged;
+        memory = at.memory;
+        good = at.good;
+        stand = at.stand;
+        told = at.told;
+        held = held_others D L fit hs at.stand 9 p s (wrote s 9 0) safe at.held k others;
+      }
 
-held_like : (hs : Homes) (ns : Names) (p : ℕ) (s t : State) → ((r : ℕ) → x_at t r ≡ x_at s r) → AreInRegisters hs ns p s → AreInRegisters hs ns p t
-held_like [] [] p s t f h = tt
-held_like [] (n ∷ ns) p s t f h = absurd h
-held_like (x ∷ hs) [] p s t f h = absurd h
-held_like (x ∷ hs) (n ∷ ns) p s t f h = (h.0, (λ l. f x.register ∙ h.1 l), held_like hs ns p s t f h.2)
-
-at_zero : {M : Layout} {w : Fixed M} {hs : Homes} {ls : List Local} {names : Names} {m : Memory} {p : ℕ} {s : State} → w.index ≡ 0 → At w hs ls names m p s → At w hs ls names m p (wrote s 9 0)
-at_zero {hs = hs} {names = names} {p = p} {s = s} e at =
-    let z = at.sized in
-    let f = same_zero s (omega (arith, z)) (at.nine ∙ e) in
-    record {
-      sized = wrote_sized s 9 0 ∙ at.sized;
-      nine = f 9 ∙ at.nine;
-      args = λ r lt. f r ∙ at.args r lt;
-      ranged = at.ranged;
-      memory = at.memory;
-      good = at.good;
-      stand = at.stand;
-      told = at.told;
-      held = held_like hs at.stand p s (wrote s 9 0) f at.held;
-    }
-
-starts_zero : {D : Laid} {M : Layout} {w : Fixed M} {c rest : List DraftEntry} {s : State} {hs : Homes} {ls : List Local} {p most : ℕ} {m : Memory} {o : Option Names} → w.index ≡ 0 → Starts D w c s (zero_index rest) hs ls p m most o → Starts D w c s rest hs ls p m (most + 1) o
-starts_zero e cannot = cannot
-starts_zero {most = most} e (starts end k at f) = starts (wrote end 9 0) (chain (most + 1) (omega arith) k (put_goes {i = word_of movz (9 ∷ 0 ∷ 0 ∷ [])} refl)) (at_zero e at) f
+  starts_zero : {w : Fixed L} {c rest : List DraftEntry} {s : State} {hs : Homes} {ls : List Local} {p most : ℕ} {m : Memory} {o : Option Names} → AreSafe L p hs → Others hs 9 p → Starts D w c s (zero_index rest) hs ls p m most o
+      → Starts D (fixed_at {L = L} 0 w.count w.args w.loaded) c s rest hs ls p m (most + 1) o
+  starts_zero safe others cannot = cannot
+  starts_zero {most = most} safe others (starts end k at f) = starts (wrote end 9 0) (chain (most + 1) (omega arith) k (put_goes {i = word_of movz (9 ∷ 0 ∷ 0 ∷ [])} refl)) (at_zero safe others at) f
 
 -- ---- kernels
 
@@ -295,14 +281,15 @@ index_small args n h =
     (λ (le : length args ≤ n). let e : slice_index args n ≡ 0 = get_or_past args n 0 le in omega (arith, e))
     (cases_lt n (length args))
 
-are_given : (ps : List Parameter) (n : ℕ) (args : List ℕ) (s : State) → All (λ arg. arg < 2 ^ 64) args → ((r : ℕ) → x_at s r ≡ slice_index args r) → AreGiven n ps (drop n args) s
-are_given [] n args s small f = tt
-are_given (p ∷ ps) n args s small f =
+are_given : (ps : List Parameter) (n : ℕ) (args : List ℕ) (s : State) → n + length ps ≤ 8 → All (λ arg. arg < 2 ^ 64) args → ((r : ℕ) → r < 8 → x_at s r ≡ slice_index args r) → AreGiven n ps (drop n args) s
+are_given [] n args s few small f = tt
+are_given (p ∷ ps) n args s few small f =
     let e = index_drop n args in
-    (f n ∙ sym e, subst (λ a. a < 2 ^ 64) (sym e) (index_small args n small), subst (λ l. AreGiven (n + 1) ps l s) (sym (drop_more n args)) (are_given ps (n + 1) args s small f))
+    (f n (omega (arith, few)) ∙ sym e, subst (λ a. a < 2 ^ 64) (sym e) (index_small args n small), subst (λ l. AreGiven (n + 1) ps l s) (sym (drop_more n args)) (are_given ps (n + 1) args s (omega (arith, few)) small f))
 
-past_arguments : (args : List ℕ) (n : ℕ) → length args ≤ n → slice_index args n ≡ 0
-past_arguments args n le = get_or_past args n 0 le
+-- no name's register is X9
+nine_free : (R : ℕ → ℕ) (k : Program) → length k.params ≤ 8 → (p : ℕ) → Others (kernel_homes R k) 9 p
+nine_free R k few p = others-append (param_homes 0 k.params) (var_homes R 0 k.vars) 9 p (params_nine 0 p k.params (omega (arith, few))) (vars_nine R 0 p k.vars)
 
 -- the names with which the loop starts
 begun : {D : Laid} {R : ℕ → ℕ} {k : Program} {M : Layout} {w : Fixed M} {c rest : List DraftEntry} {s : State} {args : List ℕ} {m : Memory} {most : ℕ} {o : Option Names} (names : Names) → M.loose ≡ [] → AreSteady (kernel_homes R k) → w.index ≡ 0 → started k args m ≡ o → o ≡ Some names → Starts D w c s rest (kernel_homes R k) (var_scope k).visible (loop_start k) m most o → Begins R k D c s rest args m most
@@ -320,13 +307,12 @@ pub begin_runs : (R : ℕ → ℕ) (k : Program) → check_fault k ≡ None → 
 begin_runs R k checked few fits D n rest args m st has res =
     let L = layout_of_kernel R k in
     let z = has.sized in
-    let short = has.few in
     let following = vars_code L R (param_homes 0 k.params) (param_scope k) 0 (length k.params) n k.vars (zero_index rest) in
-    let a = arguments_runs D k.params 0 args st following (omega (arith, few, z)) (are_given k.params 0 args st has.words has.held) in
-    let w : Fixed L = fixed_at 0 0 a.end.x (λ z r e. absurd cc) in
+    let a = arguments_runs D k.params 0 args st following (omega (arith, few, z)) (are_given k.params 0 args st (omega (arith, few)) has.words has.held) in
+    let w : Fixed L = fixed_at (x_at a.end 9) 0 a.end.x (λ z r e. absurd cc) in
     let at : At w (param_homes 0 k.params) (param_scope k).visible (argument_names k.params args) m (length k.params) a.end = record {
       sized = a.sized ∙ has.sized;
-      nine = a.high 9 (omega (arith, few)) ∙ has.held 9 ∙ past_arguments args 9 (omega (arith, short));
+      nine = refl;
       args = λ r lt. refl;
       ranged = given_ranged k.params (empty (loop_index k)) [] args tt;
       memory = a.memory ∙ has.memory;
@@ -340,4 +326,4 @@ begin_runs R k checked few fits D n rest args m st has res =
     let i = ap (λ i. vars_size i k.vars) (param_index k) in
     let steps : length k.params + (4 * vars_size (param_scope k).index k.vars + 1) ≤ begin_steps k = omega (arith, i) in
     let known = all_start k args m checked in
-    begun known.0 refl fits.steady refl refl known.1 (starts_after (begin_steps k) steps a.goes a.frame (starts_at (loop_start k) (ap (λ n. length k.params + n) i) (starts_zero refl v)))
+    begun known.0 refl fits.steady refl refl known.1 (starts_after (begin_steps k) steps a.goes a.frame (starts_at (loop_start k) (ap (λ n. length k.params + n) i) (starts_zero D L fits.assigned (fits.safe (length k.params + vars_size (param_scope k).index k.vars)) (nine_free R k few (length k.params + vars_size (param_scope k).index k.vars)) v)))

@@ -11,12 +11,12 @@ use Rattle.label_fix.specs.Stretches.{Resolves, Goes}
 use Rattle.loop_code.specs.Kernel.{begin_code, scalar_code}
 use Rattle.scalar_words.specs.Iterations.{frame_of, AtIteration, Comes}
 
--- a state that has arguments in X0 on, and zero in the registers after them
+-- a state that has arguments in X0 to X7, and zero in those after the last one
 pub record HasArguments (args : List ℕ) (m : Memory) (s : State) : Type 0 where
   pub few : length args ≤ 8
   pub words : All (λ arg. arg < 2 ^ 64) args
   pub sized : length s.x ≡ 31
-  pub held : (r : ℕ) → x_at s r ≡ slice_index args r
+  pub held : (r : ℕ) → r < 8 → x_at s r ≡ slice_index args r
   pub memory : s.memory ≡ m
   pub good : IsMemory m
 

@@ -50,7 +50,7 @@ pub struct Recent {
 }
 
 impl Recent {
-    /// Before any look-up: a place that a search would end at too, or none.
+    /// As before any look-up: each place is the first one.
     pub fn new() -> Self {
         Recent {
             fetched: Cell::new(0),
