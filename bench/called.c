@@ -1,10 +1,11 @@
 // Calls one kernel of examples/ from C, for bench/from_c: as the C function of tools/c_function, by examples/call.c from the compiled
-// file, and in plain C (c_kernels.c), each over a copy of the same random memory, and counts the bytes that differ.
+// file (only where there is SVE), and in plain C (c_kernels.c), each over a copy of the same random memory, and counts the bytes that differ.
 //
 // usage: called ROW ELF CALLS SEED           (prints the bytes of a vector, the calls of compiled code and the wrong bytes)
 #define main call_main
 #include "../examples/call.c"
 #undef main
+#include <sys/auxv.h>
 
 struct row {
     const char *name;
@@ -91,7 +92,9 @@ int main(int words, char **word) {
     const struct row *row = &ROWS[atoi(word[1])];
     long calls = atol(word[3]), wrong = 0;
     uint64_t vector, before[KEPT_REGISTERS], after[KEPT_REGISTERS];
-    __asm__("rdvl %0, 1" : "=r"(vector));
+    int has_sve = getauxval(AT_HWCAP) >> 22 & 1;
+    vector = 16;
+    if (has_sve) __asm__("rdvl %0, 1" : "=r"(vector));
     state = strtoull(word[4], NULL, 10);
     for (long call = 0; call < calls; call++) {
         uint64_t given[8], at[3][8], result[3];
@@ -105,13 +108,13 @@ int main(int words, char **word) {
         __asm__ volatile(EACH_PAIR("ldp") : : "r"(before) : "memory");
         result[1] = row->made(at[1]);
         __asm__ volatile(EACH_PAIR("stp") : : "r"(after) : "memory");
-        result[2] = call_kernel(code, at[2]);
+        result[2] = has_sve ? call_kernel(code, at[2]) : row->plain(at[2]);
         long now = unequal(before, after, sizeof before);
         for (int i = 1; i < 3; i++) now += unequal_memory(copies[0], copies[i]) + unequal(&result[0], &result[i], 8);
         if (now != 0 && wrong == 0) fprintf(stderr, "%s, call %ld: %ld wrong bytes, results %lx %lx %lx\n", row->name, call, now, result[0], result[1], result[2]);
         wrong += now;
     }
-    printf("%lu %ld %ld\n", vector, 2 * calls, wrong);
+    printf("%lu %ld %ld\n", has_sve ? vector : 0, (1 + has_sve) * calls, wrong);
     fflush(stdout);
     _exit(0);
 }

@@ -1,6 +1,5 @@
 -- Loads and stores of each address form do what their operation does at the form's address.
 use Rattle.std.proofs.Common.{◌≡◌, ℕ, ◌*◌, ◌^◌, ◌%◌, ◌<◌, [], ◌∷◌, refl, sym, subst, ap, ap₂, ◌∙◌, arith}
-use Rattle.std.proofs.lemmas.Bool.{ne_eqb, cond-false}
 use Rattle.a64_code.specs.declared.LoadStoreByteOp.{LoadStoreByteOp}
 use Rattle.a64_code.specs.declared.LoadStoreByteOp.TheVariants.{Ldrb}
 use Rattle.a64_code.specs.declared.LoadStoreOp.{LoadStoreOp}
@@ -12,6 +11,7 @@ use Rattle.machine_model.specs.Answers.{IsAnswer}
 use Rattle.machine_model.specs.declared.outcome.Step.{Step as StepAnswer}
 use Rattle.machine_model.specs.declared.outcome.Step.TheVariants as steps
 use Rattle.machine_model.specs.Effects.{act}
+use Rattle.machine_model.proofs.StateLaws.{x_or_sp-below}
 use Rattle.a64_machine.specs.Cores.{OnStop}
 use Rattle.a64_machine.specs.Accesses.{byte_access, access, logarithm}
 
@@ -67,8 +67,6 @@ wide_register op rt rn scaled rm address by s e u =
     ∙ ap (access op s rt) (sym e)
 
 -- ---- at a base that is X0 to X30, and an offset that is known beforehand
-general_base : (s : State) (n : ℕ) → n < 31 → x_or_sp s n ≡ x_at s n
-general_base s n lt = cond-false _ _ _ (ne_eqb n 31 (λ e. omega arith))
 
 offset_fits : (op : LoadStoreOp) (imm : ℕ) → imm < 2 ^ 12 → imm * 2 ^ logarithm op % 2 ^ 64 ≡ imm * 2 ^ logarithm op
 offset_fits Ldrh imm lt = omega arith
@@ -79,4 +77,4 @@ pub ready_wide_immediate : (op : LoadStoreOp) (rt rn imm base unit : ℕ) (s : S
 ready_wide_immediate op rt rn imm base unit s general b lt u =
     let offset : imm * 2 ^ unit % 2 ^ 64 ≡ imm * 2 ^ unit = ap (λ k. imm * 2 ^ k % 2 ^ 64) u ∙ offset_fits op imm lt ∙ ap (λ k. imm * 2 ^ k) (sym u) in
     wide_immediate op rt rn imm (sum (x_at s base) (imm * 2 ^ unit % 2 ^ 64)) unit s
-    (ap₂ sum (sym (general_base s base general) ∙ ap (x_or_sp s) b) offset) u
+    (ap₂ sum (sym (x_or_sp-below s base general) ∙ ap (x_or_sp s) b) offset) u

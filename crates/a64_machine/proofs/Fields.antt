@@ -5,8 +5,8 @@ use Rattle.machine_model.specs.Arithmetic.{field_taken, field_width, field_place
 use Rattle.std.proofs.lemmas.Nat.{pow_pos, pow-add, div-mul-add, and_mask}
 use Rattle.std.proofs.Math.Pow.{pow_mono}
 
-one_more : (m q : ℕ) → (m + 1) * q ≡ m * q + q
-one_more m q = add-mul m 1 q ∙ ap (λ x. m * q + x) (one-mul q)
+product_of_one_more : (m q : ℕ) → (m + 1) * q ≡ m * q + q
+product_of_one_more m q = add-mul m 1 q ∙ ap (λ x. m * q + x) (one-mul q)
 
 -- an immediate of 16 bits at a multiple of 16 bits fits 64 bits
 pub moved_fits : (hw imm : ℕ) → hw < 4 → imm < 2 ^ 16 → imm * 2 ^ (16 * hw) % 2 ^ 64 ≡ imm * 2 ^ (16 * hw)
@@ -25,12 +25,12 @@ ones_of_width w k e =
     let whole : 2 ^ 64 ≡ 2 ^ w * 2 ^ k = ap (λ n. 2 ^ n) (sym e) ∙ pow-add 2 w k in
     let some : zero < 2 ^ w = pow_pos w in
     let again : 2 ^ w - 1 + 1 ≡ 2 ^ w = omega arith in
-    let parts : 2 ^ w * 2 ^ k ≡ (2 ^ w - 1) * 2 ^ k + 2 ^ k = ap (λ x. x * 2 ^ k) (sym again) ∙ one_more (2 ^ w - 1) (2 ^ k) in
+    let parts : 2 ^ w * 2 ^ k ≡ (2 ^ w - 1) * 2 ^ k + 2 ^ k = ap (λ x. x * 2 ^ k) (sym again) ∙ product_of_one_more (2 ^ w - 1) (2 ^ k) in
     ap (λ x. x + 1) (top_over (2 ^ 64) (2 ^ w - 1) (2 ^ k) (pow_pos k) (whole ∙ parts)) ∙ again
 
 -- the ones of so many bits are a mask
-pub masked : (v ones w : ℕ) → ones + 1 ≡ 2 ^ w → bit_and v ones ≡ v % 2 ^ w
-masked v ones w e = let f : ones ≡ 2 ^ w - 1 = omega arith in ap (bit_and v) f ∙ and_mask v w
+pub bit_and_ones : (v ones w : ℕ) → ones + 1 ≡ 2 ^ w → bit_and v ones ≡ v % 2 ^ w
+bit_and_ones v ones w e = let f : ones ≡ 2 ^ w - 1 = omega arith in ap (bit_and v) f ∙ and_mask v w
 
 -- a field that is moved up within 64 bits fits them
 pub moved_up : (v w k : ℕ) → v < 2 ^ w → w + k ≤ 64 → v * 2 ^ k % 2 ^ 64 ≡ v * 2 ^ k

@@ -5,7 +5,7 @@ ghost use Rattle.guest_types.specs.Memory.{Memory};
 ghost use Rattle.machine_model.specs.Machine.{Went};
 ghost use Rattle.machine_model.specs.Answers.{IsAnswer};
 ghost use Rattle.a64_machine.specs.Cores.{VectorState, state_of, said};
-ghost use Rattle.a64_machine.specs.Prepared.{prepared_does, logical, field, IsOnGeneral};
+ghost use Rattle.a64_machine.specs.Prepared.{prepared_does, logical, field};
 
 use crate::at_once::{byte_at_once, wide_at_once};
 use crate::bit_fields::{signed_field, unsigned_field};
@@ -172,43 +172,6 @@ fn multiply_add(core: &mut Core, rd: General, rn: General, ra: Reg, rm: General)
     write_general(core, rd, value)
 }
 
-/// A prepared instruction that is no load and no store. One flat match: a second one within it would be a second jump.
-#[inline(always)]
-fn on_general(core: &mut Core, prepared: &Prepared)
-    ensures { (memory : Memory) (rest : VectorState) → IsOnGeneral prepared.now →
-        prepared_does prepared.now (state_of core.old memory rest) ≡ Went (state_of core.new memory rest) }
-{
-    match *prepared {
-        Prepared::AddNumber { rd, rn, number } => add_number(core, rd, rn, number),
-        Prepared::LessNumber { rd, rn, number } => less_number(core, rd, rn, number),
-        Prepared::JumpWhere { taken, place } => jump_where(core, taken, place),
-        Prepared::Add { rd, rn, rm, by } => add(core, rd, rn, rm, by),
-        Prepared::Subtract { rd, rn, rm, by } => subtract(core, rd, rn, rm, by),
-        Prepared::Field {
-            op,
-            rd,
-            rn,
-            imms,
-            immr,
-        } => {
-            let value = field(op, core.general(rn), immr, imms);
-            write_general(core, rd, value)
-        }
-        Prepared::CompareNumber { rn, number } => compare_number(core, rn, number),
-        Prepared::Compare { rn, rm, by } => compare(core, rn, rm, by),
-        Prepared::Logical { op, rd, rn, rm, by } => {
-            let value = bit_by_bit(op, core.register(rn), core.general(rm) << by.number);
-            write_general(core, rd, value)
-        }
-        Prepared::MultiplyAdd { rd, rn, ra, rm } => multiply_add(core, rd, rn, ra, rm),
-        Prepared::Constant { rd, number } => write_general(core, rd, number),
-        Prepared::Jump { place } => jump(core, place),
-        Prepared::JumpAtZero { rt, place } => jump_at_zero(core, rt, place),
-        Prepared::JumpElse { rt, place } => jump_else(core, rt, place),
-        _ => {}
-    }
-}
-
 /// One prepared instruction: whether it goes on. Where it does not, its answer is left in `answer`. `L` names the loop that
 /// takes the step: each has a copy of its own, since a function of this size is put into its caller only where it has one.
 #[inline(always)]
@@ -240,8 +203,68 @@ pub fn prepared_goes<L>(
             let address = core.general(rn).wrapping_add(number);
             wide_at_once(core, pages, op, rt, address, answer)
         }
-        _ => {
-            on_general(core, prepared);
+        Prepared::AddNumber { rd, rn, number } => {
+            add_number(core, rd, rn, number);
+            true
+        }
+        Prepared::LessNumber { rd, rn, number } => {
+            less_number(core, rd, rn, number);
+            true
+        }
+        Prepared::JumpWhere { taken, place } => {
+            jump_where(core, taken, place);
+            true
+        }
+        Prepared::Add { rd, rn, rm, by } => {
+            add(core, rd, rn, rm, by);
+            true
+        }
+        Prepared::Subtract { rd, rn, rm, by } => {
+            subtract(core, rd, rn, rm, by);
+            true
+        }
+        Prepared::Field {
+            op,
+            rd,
+            rn,
+            imms,
+            immr,
+        } => {
+            let value = field(op, core.general(rn), immr, imms);
+            write_general(core, rd, value);
+            true
+        }
+        Prepared::CompareNumber { rn, number } => {
+            compare_number(core, rn, number);
+            true
+        }
+        Prepared::Compare { rn, rm, by } => {
+            compare(core, rn, rm, by);
+            true
+        }
+        Prepared::Logical { op, rd, rn, rm, by } => {
+            let value = bit_by_bit(op, core.register(rn), core.general(rm) << by.number);
+            write_general(core, rd, value);
+            true
+        }
+        Prepared::MultiplyAdd { rd, rn, ra, rm } => {
+            multiply_add(core, rd, rn, ra, rm);
+            true
+        }
+        Prepared::Constant { rd, number } => {
+            write_general(core, rd, number);
+            true
+        }
+        Prepared::Jump { place } => {
+            jump(core, place);
+            true
+        }
+        Prepared::JumpAtZero { rt, place } => {
+            jump_at_zero(core, rt, place);
+            true
+        }
+        Prepared::JumpElse { rt, place } => {
+            jump_else(core, rt, place);
             true
         }
     }

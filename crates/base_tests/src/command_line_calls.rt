@@ -104,6 +104,9 @@ fn text_of(alloc: Global, command: &Command) -> Result<String, AllocError> {
             format!(in alloc; "compile {} {}", from.as_str(), to.as_str())
         }
         Command::Asm { from, to } => format!(in alloc; "asm {} {}", from.as_str(), to.as_str()),
+        Command::Object { from, to } => {
+            format!(in alloc; "object {} {}", from.as_str(), to.as_str())
+        }
         Command::Sweep { number, to } => format!(in alloc; "sweep {number} {}", to.as_str()),
         Command::Check { from } => format!(in alloc; "check {}", from.as_str()),
         Command::List { from } => format!(in alloc; "list {}", from.as_str()),

@@ -3,7 +3,7 @@
 use guest_types::bytes::{number, put_number};
 use guest_types::image::Image;
 use guest_types::length::{Vl, Width};
-use guest_types::memory::{PageBytes, PageNo, PageSpec, Perm};
+use guest_types::memory::{PAGE_BYTES, PageBytes, PageNo, PageSpec, Perm};
 use guest_types::operation::{LaneCompare, LaneOp, LaneUnary, PredOp, ReduceOp, ShiftOp};
 use guest_types::predicate::PReg;
 use guest_types::register::ZReg;
@@ -61,7 +61,7 @@ fn lengths_and_rows(rt: HostRuntime) {
 fn pages(rt: HostRuntime) -> Result<(), Fail> {
     let page = PageNo::new((1 << 36) - 1).expect(&rt, "a page");
     assert!(rt; page.number() == 0xF_FFFF_FFFF);
-    let mut bytes = PageBytes::new(vec![in rt.alloc(); 0u8; 4096]?);
+    let mut bytes = PageBytes::new(vec![in rt.alloc(); 0u8; PAGE_BYTES as usize]?);
     bytes.put(4095, 9);
     let spec = PageSpec::new(page, Perm::ReadWrite, bytes);
     assert!(rt; spec.bytes.as_slice().ends_with(&[0, 9]));

@@ -8,9 +8,8 @@ use Rattle.guest_types.specs.Length.{width_bits}
 use Rattle.guest_types.specs.Memory.{Memory, stored}
 use Rattle.kernel_tree.specs.declared.ops.Ty.{Ty}
 use Rattle.kernel_tree.specs.declared.ops.Ty.TheVariants as ty
-use Rattle.kernel_tree.specs.Wrap.{wrap, bits_of}
+use Rattle.kernel_tree.specs.Wrap.{wrap, bits_of, byte_count}
 use Rattle.kernel_meaning.specs.Operators.{word}
-use Rattle.kernel_meaning.specs.Eval.{byte_count}
 use Rattle.machine_model.specs.InstructionTable.{Listed}
 use Rattle.machine_model.specs.Machine.{State}
 use Rattle.label_fix.specs.DraftRun.{DraftEntry, Laid}
@@ -187,8 +186,8 @@ module _ (l : Layout) (fit : Assigned l) (f : Setting) (d : Laid) (rest : List D
         without_nothing : MakesNothing l p → MakesNothing (without l q) p
         without_nothing k = (no_use l q p k.0, k.1)
 
-    parts : (lanes : Lanes) (s : State) {out : Out} → Holds l f q lanes s → OwnColumn new f.n f.i lanes None out → Does l f d (puts words rest) s rest (p + 1) (length words) (go_on out (column store_act f.n f.i))
-    parts lanes s h (own_fine u mem here before past) = store_part lanes u s h mem here
+    cast_store_parts : (lanes : Lanes) (s : State) {out : Out} → Holds l f q lanes s → OwnColumn new f.n f.i lanes None out → Does l f d (puts words rest) s rest (p + 1) (length words) (go_on out (column store_act f.n f.i))
+    cast_store_parts lanes s h (own_fine u mem here before past) = store_part lanes u s h mem here
 
     pub pair_runs : (lanes : Lanes) (s : State) → Holds l f q lanes s → Does l f d (puts words rest) s rest (p + 1) (length words) (go_on (column cast_act f.n f.i lanes) (column store_act f.n f.i))
-    pair_runs lanes s h = parts lanes s h (pure_column l fit f d rest h first mask (ops.Cast (Some own) cast x) new (λ j m k. refl))
+    pair_runs lanes s h = cast_store_parts lanes s h (pure_column l fit f d rest h first mask (ops.Cast (Some own) cast x) new (λ j m k. refl))

@@ -22,11 +22,11 @@ use Rattle.chunk_emit.specs.Chunk.{Setting, chunk_of, ValueRight, TruthExact, Su
 use Rattle.chunk_emit.specs.Fits.{Assigned, FitsOperand, FitsTruth, FitsMask}
 
 -- a truth counts only in the lanes
-pub masked : (e n : ℕ) (a b : Bool) → (e < n → a ≡ b) → (nat_lt e n && a) ≡ (nat_lt e n && b)
-masked e n a b h = ⊎_elim (λ lt. ap (λ a. ltb e n && a) (h lt)) (λ ge. let no : ltb e n ≡ false = le-ltb e n ge in ap (λ t. t && a) no ∙ sym (ap (λ t. t && b) no)) (cases_lt e n)
+pub and_below_same : (e n : ℕ) (a b : Bool) → (e < n → a ≡ b) → (nat_lt e n && a) ≡ (nat_lt e n && b)
+and_below_same e n a b h = ⊎_elim (λ lt. ap (λ a. ltb e n && a) (h lt)) (λ ge. let no : ltb e n ≡ false = le-ltb e n ge in ap (λ t. t && a) no ∙ sym (ap (λ t. t && b) no)) (cases_lt e n)
 
-pub inside : (e n : ℕ) (b : Bool) → e < n → (nat_lt e n && b) ≡ b
-inside e n b lt = ap (λ t. t && b) (lt-ltb e n lt)
+pub lane_below_and : (e n : ℕ) (b : Bool) → e < n → (nat_lt e n && b) ≡ b
+lane_below_and e n b lt = ap (λ t. t && b) (lt-ltb e n lt)
 
 pub outside : (e n : ℕ) (b : Bool) → n ≤ e → (nat_lt e n && b) ≡ false
 outside e n b le = ap (λ t. t && b) (le-ltb e n le)
@@ -89,7 +89,7 @@ module _ {l : Layout} {f : Setting} {p : ℕ} {t : Lanes} {s : State} (h : Holds
       old_truth : (q : ℕ) → q < p → p + 1 ≤ l.p_last_use q → TruthExact f (p_at v (p_of l q)) (truth_of (chunk_of f u) q)
       old_truth q lt le e el =
           ap (λ z. active f.w z e) (m.kept_p q lt (omega (arith, le))) ∙ h.truths q lt (omega (arith, le)) e el
-          ∙ masked e f.n _ _ (λ en. sym (m.truths q e lt en))
+          ∙ and_below_same e f.n _ _ (λ en. sym (m.truths q e lt en))
 
   -- an item's number may be left out where it makes nothing
   pub holds_later : (q : ℕ) → p ≤ q → ((r : ℕ) → p ≤ r → r < q → (l.z_last_use r ≤ r) × (l.p_last_use r ≤ r)) → Holds l f q t s
@@ -120,7 +120,7 @@ module _ {l : Layout} {f : Setting} {p : ℕ} {t : Lanes} {s : State} (h : Holds
   }
 
   pub truth_right : (q : ℕ) → FitsTruth l p q → TruthRight (chunk_of f t) l.registers s q
-  truth_right q k e lt = h.truths q k.0 k.1 e (omega (arith, lt, h.few)) ∙ inside e f.n _ lt
+  truth_right q k e lt = h.truths q k.0 k.1 e (omega (arith, lt, h.few)) ∙ lane_below_and e f.n _ lt
 
   pub mask_exact : (mask : Option ℕ) → FitsMask l p mask → TruthExact f (p_at s (mask_register l.registers mask)) (mask_of (chunk_of f t) mask)
   mask_exact None k = h.active

@@ -11,7 +11,7 @@ use Rattle.kernel_tree.specs.declared.ops.BinaryOp.{BinaryOp}
 use Rattle.kernel_tree.specs.declared.ops.BinaryOp.TheVariants as binary
 use Rattle.kernel_tree.specs.declared.ops.CompareOp.{CompareOp}
 use Rattle.kernel_tree.specs.declared.ops.CompareOp.TheVariants as compare
-use Rattle.kernel_tree.specs.Wrap.{is_signed}
+use Rattle.kernel_tree.specs.Wrap.{is_signed, log_bytes}
 use Rattle.sve_code.specs.Table.{Name, m_abs, m_mul}
 use Rattle.machine_model.specs.InstructionTable.{Listed}
 use Rattle.loop_form.specs.LoopItems.{Op, Item}
@@ -22,7 +22,7 @@ use Rattle.lane_emit.specs.Stretch.{VectorInstruction, word}
 use Rattle.lane_emit.specs.LaneCode.{size_of, least_name, greatest_name, unary_leaves, binary_leaves, z_copy, extension, z_extend, z_settle, unary_code, merged, binary_code, shift_by, cast_code, test_code}
 use Rattle.lane_emit.specs.ItemCode.{Registers, op_code, mask_register}
 use Rattle.chunk_emit.specs.Registers.{Layout, z_of, base_of}
-use Rattle.chunk_emit.specs.ChunkCode.{with_index, memory_size, gather_by, cut_reach, gather_code, vectors, op_words, item_words, is_made, past_cast, either_words, items_words}
+use Rattle.chunk_emit.specs.ChunkCode.{with_index, gather_by, cut_reach, gather_code, vectors, op_words, item_words, is_made, past_cast, either_words, items_words}
 use Rattle.chunk_emit.specs.ItemsRun.{FewWords}
 
 either_few : {A : Type 0} (b : Bool) (xs ys : List A) (n : ℕ) → length xs ≤ n → length ys ≤ n → length (if b then xs else ys) ≤ n
@@ -115,8 +115,8 @@ gather_by_few zero t d m base index = omega arith
 gather_by_few (suc k) t d m base index = omega arith
 
 gather_few : (cut : Option ℕ) (t : Ty) (d m base index : ℕ) → length (vectors (gather_code t cut d m base index)) ≤ 3
-gather_few None t d m base index = let few = gather_by_few (memory_size t) t d m base index in omega (arith, few)
-gather_few (Some n) t d m base index = let few = gather_by_few (memory_size t) t d m base d in omega (arith, few)
+gather_few None t d m base index = let few = gather_by_few (log_bytes t) t d m base index in omega (arith, few)
+gather_few (Some n) t d m base index = let few = gather_by_few (log_bytes t) t d m base d in omega (arith, few)
 
 words_few : (w : Width) (l : Layout) (q m : ℕ) (op : Op) → length (op_words w l q m op) ≤ lane_steps op
 words_few w l q m (ops.Load a base (Some t) c) = index_few c _

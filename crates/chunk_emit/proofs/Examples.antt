@@ -6,7 +6,7 @@ use Rattle.std.proofs.lemmas.Bool.{cases_lt, true≢false, and_parts, leb-true}
 use Rattle.guest_types.specs.declared.length.Width.TheVariants.{S}
 use Rattle.guest_types.specs.EarlyLoads.{never}
 use Rattle.kernel_tree.specs.declared.ops.Ty.{Ty}
-use Rattle.kernel_tree.proofs.Names.{bytes_told, bytes_same}
+use Rattle.kernel_tree.proofs.Names.{bytes_eq-told, bytes_eq-refl}
 use Rattle.kernel_meaning.specs.Iterate.{named}
 use Rattle.sve_code.specs.Table.{ld1, st1, cmpne, m_smin, m_add, z_add, z_orr}
 use Rattle.machine_model.specs.InstructionTable.{Scalar, Vector}
@@ -116,13 +116,13 @@ abbrev all_low : ℕ → List ℕ → Bool
 all_low n [] = true
 all_low n (u ∷ us) = nat_le u n && all_low n us
 
-low : (n : ℕ) (us : List ℕ) (q : ℕ) → all_low n us ≡ true → slice_index us q ≤ n
-low n [] q e = omega arith
-low n (u ∷ us) zero e = leb-true u n (and_parts (nat_le u n) (all_low n us) e).0
-low n (u ∷ us) (suc q) e = low n us q (and_parts (nat_le u n) (all_low n us) e).1
+index_of_low_list : (n : ℕ) (us : List ℕ) (q : ℕ) → all_low n us ≡ true → slice_index us q ≤ n
+index_of_low_list n [] q e = omega arith
+index_of_low_list n (u ∷ us) zero e = leb-true u n (and_parts (nat_le u n) (all_low n us) e).0
+index_of_low_list n (u ∷ us) (suc q) e = index_of_low_list n us q (and_parts (nat_le u n) (all_low n us) e).1
 
 uses_low : (q : ℕ) → slice_index uses q ≤ 19
-uses_low q = low 19 uses q refl
+uses_low q = index_of_low_list 19 uses q refl
 
 -- registers of values that are needed
 own_apart : (p q : ℕ) → q < p → p ≤ 19 → own p ≢ own q
@@ -169,7 +169,7 @@ assigned = record {
   sum_apart = λ x q is used. own_low q 3 (omega arith);
   sum_made = λ x p q is lt later e. own_low q 3 (omega arith) (sym e);
   sum_held = λ x y is held e. let h = held_low y held in absurd (omega (arith, h, e));
-  sums_apart = λ x y is other differ e. absurd (true≢false (sym (bytes_same c) ∙ ap (λ k. bytes_eq k c) (sym (bytes_told x c is)) ∙ ap (bytes_eq x) (sym (bytes_told y c other)) ∙ differ));
+  sums_apart = λ x y is other differ e. absurd (true≢false (sym (bytes_eq-refl c) ∙ ap (λ k. bytes_eq k c) (sym (bytes_eq-told x c is)) ∙ ap (bytes_eq x) (sym (bytes_eq-told y c other)) ∙ differ));
 }
 
 abbrev setting : Setting

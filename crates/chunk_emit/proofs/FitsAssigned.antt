@@ -2,10 +2,10 @@
 use Rattle.std.proofs.Common.{◌≡◌, ◌≢◌, ℕ, zero, suc, ◌+◌, ◌<◌, Bool, true, false, cond, List, [], ◌∷◌, length, Option, Some, None, refl, sym, ap, ◌∙◌, arith}
 use Rattle.std.specs.Prelude.{is_some, option_map, slice_get, slice_index, bytes_eq}
 use Rattle.std.proofs.Math.Nat.{lt_of_not-le}
-use Rattle.std.proofs.lemmas.Option.{slice_get_within}
+use Rattle.std.proofs.lemmas.Option.{slice_get_within, same_Some}
 use Rattle.kernel_tree.specs.Plain.{Parameter, Program}
 use Rattle.kernel_tree.specs.Items.{size_of, loop_index}
-use Rattle.kernel_tree.proofs.Names.{bytes_told, bytes_same}
+use Rattle.kernel_tree.proofs.Names.{bytes_eq-told, bytes_eq-refl}
 use Rattle.reg_assign.specs.declared.interval.Interval.{Interval}
 use Rattle.reg_assign.specs.declared.interval.RegClass.TheVariants.{Z, P}
 use Rattle.reg_assign.specs.Registers.{Assignment}
@@ -85,11 +85,8 @@ both_accumulate (needs.Constant s n) t x e f = absurd cc
 both_accumulate needs.Index t x e f = absurd cc
 
 same_name : (it : Throughout) (x y : List ℕ) → is_same it (needs.Accumulating x) ≡ true → is_same it (needs.Accumulating y) ≡ true → x ≡ y
-same_name (needs.Accumulating z) x y e f = sym (bytes_told z x e) ∙ bytes_told z y f
+same_name (needs.Accumulating z) x y e f = sym (bytes_eq-told z x e) ∙ bytes_eq-told z y f
 same_name other x y e f = absurd cc
-
-pub some_same : {A : Type 0} {x y : A} → Some x ≡ Some y → x ≡ y
-some_same e = cc
 
 -- ---- the layout
 
@@ -143,16 +140,16 @@ module _ (k : Program) (a b : Assignment) (f : FitsKernel k Z a) (g : FitsKernel
   operand_held LoopIndex e = refl
   operand_held (Made q) e = absurd cc
 
-  small : (o : Option ℕ) → ((m : ℕ) → o ≡ Some m → slice_index a.registers m < 30) → register_of 31 a o < 32
-  small None h = omega arith
-  small (Some m) h = let l = h m refl in omega (arith, l)
+  register_of_below_32 : (o : Option ℕ) → ((m : ℕ) → o ≡ Some m → slice_index a.registers m < 30) → register_of 31 a o < 32
+  register_of_below_32 None h = omega arith
+  register_of_below_32 (Some m) h = let l = h m refl in omega (arith, l)
 
   small_p : (o : Option ℕ) → ((m : ℕ) → o ≡ Some m → slice_index b.registers m < 6) → 2 + register_of 0 b o < 16
   small_p None h = omega arith
   small_p (Some m) h = let l = h m refl in omega (arith, l)
 
   item_small : (q : ℕ) → operand_register k a (Made q) < 32
-  item_small q = small (item_place k Z q) (λ m e. let i = placed_interval k Z q m e in chosen_z.below m i.0 i.1)
+  item_small q = register_of_below_32 (item_place k Z q) (λ m e. let i = placed_interval k Z q m e in chosen_z.below m i.0 i.1)
 
   condition_small : (q : ℕ) → 2 + register_of 0 b (item_place k P q) < 16
   condition_small q = small_p (item_place k P q) (λ m e. let i = placed_interval k P q m e in chosen_p.below m i.0 i.1)
@@ -162,7 +159,7 @@ module _ (k : Program) (a b : Assignment) (f : FitsKernel k Z a) (g : FitsKernel
 
   -- two items that are needed at once
   places_differ : {p q m n u v : ℕ} (is : List Interval) → q < p → slice_get is m ≡ Some (record { from = p; last_use = u }) → slice_get is n ≡ Some (record { from = q; last_use = v }) → m ≢ n
-  places_differ {p = p} {q = q} is lt e f same = let both = some_same (sym e ∙ ap (slice_get is) same ∙ f) in let begin : p ≡ q = ap (λ (s : Interval). s.from) both in omega (arith, begin, lt)
+  places_differ {p = p} {q = q} is lt e f same = let both = same_Some _ _ (sym e ∙ ap (slice_get is) same ∙ f) in let begin : p ≡ q = ap (λ (s : Interval). s.from) both in omega (arith, begin, lt)
 
   items_apart : (p q : ℕ) → q < p → p < item_last_use k Z q → p < item_last_use k Z p → operand_register k a (Made p) ≢ operand_register k a (Made q)
   items_apart p q lt live used e =
@@ -200,7 +197,7 @@ module _ (k : Program) (a b : Assignment) (f : FitsKernel k Z a) (g : FitsKernel
       (sym (ap (register_of 31 a) h.place) ∙ e ∙ ap (register_of 31 a) g.place)
 
   it_same : (o r : Option ℕ) (t u : Throughout) (h : HeldAt o t) (g : HeldAt r u) → h.m ≡ g.m → is_same h.it u ≡ true
-  it_same o r t u h g e = let both : g.it ≡ h.it = some_same (sym g.is ∙ ap (slice_get all) (sym e) ∙ h.is) in sym (ap (λ i. is_same i u) both) ∙ g.same
+  it_same o r t u h g e = let both : g.it ≡ h.it = same_Some _ _ (sym g.is ∙ ap (slice_get all) (sym e) ∙ h.is) in sym (ap (λ i. is_same i u) both) ∙ g.same
 
   sum_apart_held : (x : List ℕ) (y : Operand) → is_some (sum_place k x) ≡ true → is_some (held_place k y) ≡ true → register_of 31 a (sum_place k x) ≢ operand_register k a y
   sum_apart_held x y e h same =
@@ -215,7 +212,7 @@ module _ (k : Program) (a b : Assignment) (f : FitsKernel k Z a) (g : FitsKernel
       let s = sum_at x e in
       let v = sum_at y h in
       helds_apart (sum_place k x) (sum_place k y) (needs.Accumulating x) (needs.Accumulating y) s v
-      (λ one. let name = same_name s.it x y s.same (it_same _ _ _ _ s v one) in let yes : bytes_eq x y ≡ true = ap (bytes_eq x) (sym name) ∙ bytes_same x in absurd cc)
+      (λ one. let name = same_name s.it x y s.same (it_same _ _ _ _ s v one) in let yes : bytes_eq x y ≡ true = ap (bytes_eq x) (sym name) ∙ bytes_eq-refl x in absurd cc)
 
   pub assigned_of : Assigned (layout_of_loop k a b)
   assigned_of = record {

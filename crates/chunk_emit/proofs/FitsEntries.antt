@@ -1,15 +1,15 @@
 -- What the listing of a loop gives to its items: until when their values are needed, and that the values from before the loop
 -- that they take are held throughout it.
-use Rattle.std.proofs.Common.{◌≡◌, ℕ, zero, suc, ◌+◌, ◌-◌, ℤ, pos, negsuc, Bool, true, false, cond, List, [], ◌∷◌, ◌++◌, length, map, Option, Some, None, refl, sym, ap, ◌∙◌, subst, arith, inl, inr, append_assoc, length-append}
+use Rattle.std.proofs.Common.{◌≡◌, ℕ, zero, suc, ◌+◌, ◌-◌, ℤ, Bool, true, false, cond, List, [], ◌∷◌, ◌++◌, length, map, Option, Some, None, refl, sym, ap, ◌∙◌, subst, arith, inl, inr, append_assoc, length-append}
 use Rattle.std.specs.Prelude.{is_some, option_map, filter, slice_get, slice_index, bytes_eq, ◌||◌, ◌⊎◌}
 use Rattle.std.specs.List.{list_any}
-use Rattle.std.proofs.lemmas.Bool.{and_parts, eqb-true, eq-eqb, and_from, or_left, or_right}
+use Rattle.std.proofs.lemmas.Bool.{and_parts, eq-eqb, and_from, or_left, or_right}
 use Rattle.std.proofs.lemmas.List.Folds.{list_any-append}
 use Rattle.kernel_tree.specs.declared.ops.Ty.{Ty}
 use Rattle.kernel_tree.specs.Plain.{Parameter, Accumulator, Program}
 use Rattle.kernel_tree.specs.Items.{loop_index, loop_start}
 use Rattle.kernel_tree.specs.Typing.{number_of_type, found_at}
-use Rattle.kernel_tree.proofs.Names.{bytes_told, bytes_same}
+use Rattle.kernel_tree.proofs.Names.{bytes_eq-told, bytes_eq-refl}
 use Rattle.kernel_tree.proofs.NoFault.{no_mismatch}
 use Rattle.reg_assign.specs.declared.interval.RegClass.{RegClass}
 use Rattle.reg_assign.specs.declared.interval.RegClass.TheVariants.{Z, P}
@@ -17,13 +17,14 @@ use Rattle.loop_form.specs.declared.loop_item.Operand.TheVariants.{Constant, Out
 use Rattle.loop_form.specs.Entries.{Content, IsLiteral, IsName, IsUpdate, Entry, entries_of, loop_entries}
 use Rattle.loop_form.specs.Lanes.{var_type}
 use Rattle.loop_form.specs.Listing.{is_named, names}
-use Rattle.loop_form.specs.Needs.{Throughout, scalar_of, scalars, is_named_scalar, constants, new_constant, is_constant, is_literal, same_type, same_number, index_held, is_update, updates, is_updated, accumulating_of, throughout}
+use Rattle.loop_form.specs.Needs.{Throughout, scalar_of, scalars, is_named_scalar, constants, new_constant, is_constant, is_literal, same_type, index_held, is_update, updates, is_updated, accumulating_of, throughout}
 use Rattle.loop_form.specs.Numbers.{Numbered}
 use Rattle.loop_form.proofs.Numbers.{loop-listed}
 use Rattle.chunk_emit.specs.KernelLayout.{is_same, next_place, place_in, place_of_one, held_place, sum_place, last_in, item_last_use}
 use Rattle.kernel_tree.specs.declared.ast.Shape.TheVariants as shape
 use Rattle.kernel_tree.specs.declared.fault.Fault.TheVariants as fault
 use Rattle.loop_form.specs.Needs as needs
+use Rattle.loop_form.proofs.Places.{same_number-refl, same_number-told}
 
 -- ---- a value that is in a list has a place there
 
@@ -48,24 +49,14 @@ any_left p xs ys e = list_any-append p xs ys ∙ or_left (list_any p xs) (list_a
 any_right : {A : Type 0} (p : A → Bool) (xs ys : List A) → list_any p ys ≡ true → list_any p (xs ++ ys) ≡ true
 any_right p xs ys e = list_any-append p xs ys ∙ or_right (list_any p xs) (list_any p ys) e
 
-pub any_here : {A : Type 0} (p : A → Bool) (xs : List A) (x : A) (ys : List A) → p x ≡ true → list_any p (xs ++ x ∷ ys) ≡ true
-any_here p xs x ys e = any_right p xs (x ∷ ys) (or_left (p x) (list_any p ys) e)
+pub list_any_of_middle : {A : Type 0} (p : A → Bool) (xs : List A) (x : A) (ys : List A) → p x ≡ true → list_any p (xs ++ x ∷ ys) ≡ true
+list_any_of_middle p xs x ys e = any_right p xs (x ∷ ys) (or_left (p x) (list_any p ys) e)
 
 -- ---- literals
 
 same_type-refl : (t : Option Ty) → same_type t t ≡ true
 same_type-refl None = refl
 same_type-refl (Some t) = eq-eqb (number_of_type t) (number_of_type t) refl
-
-same_number-refl : (n : ℤ) → same_number n n ≡ true
-same_number-refl (pos n) = eq-eqb n n refl
-same_number-refl (negsuc n) = eq-eqb n n refl
-
-pub same_number-told : (m n : ℤ) → same_number m n ≡ true → m ≡ n
-same_number-told (pos m) (pos n) e = ap pos (eqb-true m n e)
-same_number-told (negsuc m) (negsuc n) e = ap negsuc (eqb-true m n e)
-same_number-told (pos m) (negsuc n) e = absurd cc
-same_number-told (negsuc m) (pos n) e = absurd cc
 
 pub same_type-told : (t u : Option Ty) → same_type t u ≡ true → t ≡ u
 same_type-told None None e = refl
@@ -135,7 +126,7 @@ literal_held k t n e = has_place (needs.Constant t n) (throughout k Z) (by (cons
 
 scalar_in : (es : List Entry) (ps : List Parameter) (p : ℕ) (q : Parameter) → slice_get ps p ≡ Some q → is_named_scalar es q ≡ true → list_any (same_as (needs.Scalar q.name)) (scalars es ps) ≡ true
 scalar_in es [] p q e named = absurd cc
-scalar_in es (x ∷ ps) zero q e named = let same : x ≡ q = cc in first (is_named_scalar es x) (ap (is_named_scalar es) same ∙ named) (ap (λ (r : Parameter). bytes_eq r.name q.name) same ∙ bytes_same q.name)
+scalar_in es (x ∷ ps) zero q e named = let same : x ≡ q = cc in first (is_named_scalar es x) (ap (is_named_scalar es) same ∙ named) (ap (λ (r : Parameter). bytes_eq r.name q.name) same ∙ bytes_eq-refl q.name)
   where
     first : (b : Bool) → b ≡ true → bytes_eq x.name q.name ≡ true → list_any (same_as (needs.Scalar q.name)) (map scalar_of (cond b (x ∷ filter (is_named_scalar es) ps) (filter (is_named_scalar es) ps))) ≡ true
     first true e f = or_left _ _ f
@@ -180,7 +171,7 @@ sum_in es (v ∷ vs) x t e updated = by (bytes_eq v.name x) refl e (λ h. sum_in
     later false h = h
 
     by : (b : Bool) → bytes_eq v.name x ≡ b → cond b (Some v.type) (var_type x vs) ≡ Some t → (var_type x vs ≡ Some t → list_any (same_as (needs.Accumulating x)) (map accumulating_of (filter (is_updated es) vs)) ≡ true) → list_any (same_as (needs.Accumulating x)) (map accumulating_of (filter (is_updated es) (v ∷ vs))) ≡ true
-    by true f e more = first (is_updated es v) (ap (λ y. list_any (updates y) es) (bytes_told v.name x f) ∙ updated) f
+    by true f e more = first (is_updated es v) (ap (λ y. list_any (updates y) es) (bytes_eq-told v.name x f) ∙ updated) f
     by false f e more = later (is_updated es v) (more e)
 
 -- an accumulator that an item of the loop updates
@@ -228,11 +219,11 @@ until_here k class xs e ys split number =
     ap (slice_index (map (last_in class (entries_of k)) (loop_entries k))) place ∙ ap (λ es. slice_index (map (last_in class (entries_of k)) es) (length xs)) (sym split) ∙ index_here (last_in class (entries_of k)) xs e ys
 
 content_given : (k : Program) (t : Option Ty) (c : Content) (xs : List Entry) (e : Entry) (ys : List Entry) → e.type ≡ t → e.content ≡ c → xs ++ e ∷ ys ≡ loop_entries k → GivesContent k t c
-content_given k t (IsLiteral n) xs e ys kind is split = literal_held k t n (ap (list_any (is_constant t n)) (sym split) ∙ any_here (is_constant t n) xs e ys (and_from _ _ (ap (λ o. same_type o t) kind ∙ same_type-refl t) (ap (is_literal n) is ∙ same_number-refl n)))
+content_given k t (IsLiteral n) xs e ys kind is split = literal_held k t n (ap (list_any (is_constant t n)) (sym split) ∙ list_any_of_middle (is_constant t n) xs e ys (and_from _ _ (ap (λ o. same_type o t) kind ∙ same_type-refl t) (ap (is_literal n) is ∙ same_number-refl n)))
 content_given k t (IsName x) xs e ys kind is split =
-    let named : list_any (names x) (loop_entries k) ≡ true = ap (list_any (names x)) (sym split) ∙ any_here (names x) xs e ys (ap (is_named x) is ∙ bytes_same x) in
+    let named : list_any (names x) (loop_entries k) ≡ true = ap (list_any (names x)) (sym split) ∙ list_any_of_middle (names x) xs e ys (ap (is_named x) is ∙ bytes_eq-refl x) in
     ((λ p u h. scalar_held k p x u h named), (λ h. index_is_held k x h named))
-content_given k t (IsUpdate x op) xs e ys kind is split = λ u h. sum_is_held k x u h (ap (list_any (updates x)) (sym split) ∙ any_here (updates x) xs e ys (ap (is_update x) is ∙ bytes_same x))
+content_given k t (IsUpdate x op) xs e ys kind is split = λ u h. sum_is_held k x u h (ap (list_any (updates x)) (sym split) ∙ list_any_of_middle (updates x) xs e ys (ap (is_update x) is ∙ bytes_eq-refl x))
 content_given k t other xs e ys kind is split = tt
 
 rest_give : (k : Program) (xs es : List Entry) → xs ++ es ≡ loop_entries k → Numbered (loop_start k + length xs) es → AllGive k es

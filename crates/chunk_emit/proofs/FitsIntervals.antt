@@ -26,9 +26,9 @@ record Placed (class : RegClass) (all es : List Entry) (j b n last_use : ℕ) : 
   place : slice_get (places_from class all j es) n ≡ Some (Some (j + i))
   interval : slice_get (spans_of class all es) i ≡ Some (record { from = b + n; last_use = last_use })
 
-placed : (class : RegClass) (all es : List Entry) (j b n u : ℕ) → Numbered b es → slice_index (map (last_in class all) es) n ≡ suc u → Placed class all es j b n (suc u)
-placed class all [] j b n u h e = absurd cc
-placed class all (x ∷ es) j b n u h e = by (last_use_in class all x) refl n e (λ i m q. placed class all es i (suc b) m u h.1 q)
+placed_entry_interval : (class : RegClass) (all es : List Entry) (j b n u : ℕ) → Numbered b es → slice_index (map (last_in class all) es) n ≡ suc u → Placed class all es j b n (suc u)
+placed_entry_interval class all [] j b n u h e = absurd cc
+placed_entry_interval class all (x ∷ es) j b n u h e = by (last_use_in class all x) refl n e (λ i m q. placed_entry_interval class all es i (suc b) m u h.1 q)
   where
     by : (o : Option ℕ) → last_use_in class all x ≡ o → (n : ℕ) → slice_index (unwrap_or o 0 ∷ map (last_in class all) es) n ≡ suc u → ((i m : ℕ) → slice_index (map (last_in class all) es) m ≡ suc u → Placed class all es i (suc b) m (suc u)) → Placed class all (x ∷ es) j b n (suc u)
     by None q zero e more = absurd cc
@@ -125,7 +125,7 @@ is_placed k class c q x lt = by (item_last_use k class q) refl (omega (arith, lt
 
     by : (n : ℕ) → item_last_use k class q ≡ n → 0 < n → IsPlaced k class q
     by zero e h = absurd (omega (arith, h))
-    by (suc u) e h = placed_in k class c q u e (placed class (entries_of k) (loop_entries k) (length (throughout k class)) (loop_start k) (q - loop_start k) u (loop-listed k).numbered e) (by_class class c)
+    by (suc u) e h = placed_in k class c q u e (placed_entry_interval class (entries_of k) (loop_entries k) (length (throughout k class)) (loop_start k) (q - loop_start k) u (loop-listed k).numbered e) (by_class class c)
 
 -- an item with a place has an interval there
 pub placed_interval : (k : Program) (class : RegClass) (q m : ℕ) → item_place k class q ≡ Some m → (s : Interval) × (slice_get (intervals k class) m ≡ Some s)

@@ -8,7 +8,7 @@ use Rattle.kernel_tree.specs.declared.ops.UpdateOp.{UpdateOp}
 use Rattle.kernel_tree.specs.Plain.{Accumulator, Program}
 use Rattle.kernel_tree.specs.Items.{loop_index, loop_end}
 use Rattle.kernel_tree.specs.Typing.{check_fault}
-use Rattle.kernel_tree.proofs.Names.{bytes_told, bytes_same}
+use Rattle.kernel_tree.proofs.Names.{bytes_eq-told, bytes_eq-refl}
 use Rattle.loop_form.specs.Entries.{Content, IsLiteral, IsName, IsRead, IsLet, IsStore, IsPlain, IsUpdate, Entry, entry, item_type, params_entries, vars_entries, answer_entries, loop_entries, entries_of}
 use Rattle.loop_form.specs.Lanes.{var_type, lane_width_of}
 use Rattle.loop_form.specs.Listing.{names}
@@ -23,7 +23,7 @@ use Rattle.dependence.specs.declared.reason.Class.TheVariants.{Vector}
 use Rattle.dependence.proofs.ClassLaws.{class_facts, gather_facts}
 use Rattle.guest_types.specs.declared.length.Width.TheVariants.{D}
 use Rattle.chunk_emit.specs.KernelLayout.{update_of}
-use Rattle.chunk_emit.proofs.FitsEntries.{Gives, AllGive, loop_gives, any_here}
+use Rattle.chunk_emit.proofs.FitsEntries.{Gives, AllGive, loop_gives, list_any_of_middle}
 use Rattle.chunk_emit.proofs.FitsUpdates.{one_operator, any_none}
 
 -- an item of the loop
@@ -57,7 +57,7 @@ unread_in es (v ∷ vs) x t e f =
     by (bytes_eq v.name x) refl f (unread_in es vs x t parts.1) parts.0
   where
     by : (b : Bool) → bytes_eq v.name x ≡ b → cond b (Some v.type) (var_type x vs) ≡ Some t → (var_type x vs ≡ Some t → list_any (names x) es ≡ false) → list_any (names v.name) es ≡ false → list_any (names x) es ≡ false
-    by true g f more none = ap (λ y. list_any (names y) es) (sym (bytes_told v.name x g)) ∙ none
+    by true g f more none = ap (λ y. list_any (names y) es) (sym (bytes_eq-told v.name x g)) ∙ none
     by false g f more none = more f
 
 module _ (k : Program) (vector : class_of k ≡ Vector) where
@@ -78,7 +78,7 @@ module _ (k : Program) (vector : class_of k ≡ Vector) where
 
   operator_here : (xs : List Entry) (e : Entry) (ys : List Entry) → xs ++ e ∷ ys ≡ loop_entries k → (x : List ℕ) (op : UpdateOp) → e.content ≡ IsUpdate x op → update_of k x ≡ op
   operator_here xs e ys split x op is =
-      one_operator k x op xs e ys vector split is (ap (list_any (updates x)) (sym split) ∙ any_here (updates x) xs e ys (ap (is_update x) is ∙ bytes_same x))
+      one_operator k x op xs e ys vector split is (ap (list_any (updates x)) (sym split) ∙ list_any_of_middle (updates x) xs e ys (ap (is_update x) is ∙ bytes_eq-refl x))
 
   rest_known : (xs es : List Entry) → xs ++ es ≡ loop_entries k → AllGive k es → AreWide k (lane_width_of k) es → AreUsesCounted (entries_of k) es → AreNear (loop_index k) es → AllKnown k es
   rest_known xs [] split g w u n = tt
@@ -127,8 +127,8 @@ pub record At (k : Program) (q : ℕ) (c : Content) (u : ℕ) (t : Option Ty) : 
   pub known : Known k (entry k q c u)
   pub type : item_type k q ≡ t
 
-pub at_head : (k : Program) (q : ℕ) (c : Content) (u : ℕ) (es : List Entry) (t : Option Ty) (ts : List (Option Ty)) → Part k (entry k q c u ∷ es) (t ∷ ts) → At k q c u t
-at_head k q c u es t ts p = record { known = p.known.0; type = here p.types }
+pub known_at_head : (k : Program) (q : ℕ) (c : Content) (u : ℕ) (es : List Entry) (t : Option Ty) (ts : List (Option Ty)) → Part k (entry k q c u ∷ es) (t ∷ ts) → At k q c u t
+known_at_head k q c u es t ts p = record { known = p.known.0; type = here p.types }
   where
     here : item_type k q ∷ map type_of es ≡ t ∷ ts → item_type k q ≡ t
     here h = cc

@@ -8,7 +8,7 @@ use Rattle.kernel_tree.specs.declared.fault.Binding.{Binding}
 use Rattle.kernel_tree.specs.Plain.{Parameter, Accumulator, PlainLoop, Program}
 use Rattle.kernel_tree.specs.Items.{loop_index, index_of}
 use Rattle.kernel_tree.specs.Typing.{Local, local, has_name, binding_of, binding_of_shape, element_type}
-use Rattle.kernel_tree.proofs.Names.{bytes_told}
+use Rattle.kernel_tree.proofs.Names.{bytes_eq-told}
 use Rattle.kernel_tree.specs.Scopes.{locals_of, accs_of}
 use Rattle.reg_assign.specs.declared.interval.RegClass.TheVariants.{Z}
 use Rattle.loop_form.specs.declared.loop_item.Operand.{Operand}
@@ -79,15 +79,15 @@ data Found (vs : List Local) (env : List Bound) (x y : List ℕ) (new bd : Bindi
   last : y ≡ x → new ≡ bd → operand_at (env ++ bound y s ∷ []) x ≡ s → Found vs env x y new bd s
 
 found_last : (x y : List ℕ) (new bd : Binding) (s : Operand) (b : Bool) → bytes_eq y x ≡ b → option_map binding_of (cond b (Some (local y new)) None) ≡ Some bd → (y ≡ x) × (new ≡ bd) × (cond b s (Constant None (pos 0)) ≡ s)
-found_last x y new bd s true e f = (bytes_told y x e, cc, refl)
+found_last x y new bd s true e f = (bytes_eq-told y x e, cc, refl)
 found_last x y new bd s false e f = absurd cc
 
-found_step : (l : Local) (vs : List Local) (e : Bound) (env : List Bound) (x y : List ℕ) (new bd : Binding) (s : Operand) (b : Bool) → bytes_eq l.name x ≡ b → bytes_eq e.name x ≡ b → (binding_at (vs ++ local y new ∷ []) x ≡ Some bd → Found vs env x y new bd s)
+binding_found_of_cons : (l : Local) (vs : List Local) (e : Bound) (env : List Bound) (x y : List ℕ) (new bd : Binding) (s : Operand) (b : Bool) → bytes_eq l.name x ≡ b → bytes_eq e.name x ≡ b → (binding_at (vs ++ local y new ∷ []) x ≡ Some bd → Found vs env x y new bd s)
     → option_map binding_of (cond b (Some l) (find (has_name x) (vs ++ local y new ∷ []))) ≡ Some bd → Found (l ∷ vs) (e ∷ env) x y new bd s
-found_step l vs e env x y new bd s true g h more f =
+binding_found_of_cons l vs e env x y new bd s true g h more f =
     before (ap (λ t. option_map binding_of (cond t (Some l) (find (has_name x) vs))) g ∙ f)
     (ap (λ t. cond t e.source (operand_at (env ++ bound y s ∷ []) x)) h ∙ sym (ap (λ t. cond t e.source (operand_at env x)) h))
-found_step l vs e env x y new bd s false g h more f = by (more f)
+binding_found_of_cons l vs e env x y new bd s false g h more f = by (more f)
   where
     by : Found vs env x y new bd s → Found (l ∷ vs) (e ∷ env) x y new bd s
     by (before i j) =
@@ -95,18 +95,18 @@ found_step l vs e env x y new bd s false g h more f = by (more f)
         (ap (λ t. cond t e.source (operand_at (env ++ bound y s ∷ []) x)) h ∙ j ∙ sym (ap (λ t. cond t e.source (operand_at env x)) h))
     by (last i j m) = last i j (ap (λ t. cond t e.source (operand_at (env ++ bound y s ∷ []) x)) h ∙ m)
 
-found : (vs : List Local) (env : List Bound) (x y : List ℕ) (new bd : Binding) (s : Operand) → AreNamed vs env → binding_at (vs ++ local y new ∷ []) x ≡ Some bd → Found vs env x y new bd s
-found [] [] x y new bd s h f =
+binding_found : (vs : List Local) (env : List Bound) (x y : List ℕ) (new bd : Binding) (s : Operand) → AreNamed vs env → binding_at (vs ++ local y new ∷ []) x ≡ Some bd → Found vs env x y new bd s
+binding_found [] [] x y new bd s h f =
     let r = found_last x y new bd s (bytes_eq y x) refl f in
     last r.0 r.1 r.2
-found [] (e ∷ env) x y new bd s h f = elim h [ ]
-found (l ∷ vs) [] x y new bd s h f = elim h [ ]
-found (l ∷ vs) (e ∷ env) x y new bd s h f = found_step l vs e env x y new bd s (bytes_eq l.name x) refl (ap (λ z. bytes_eq z x) h.0) (found vs env x y new bd s h.1) f
+binding_found [] (e ∷ env) x y new bd s h f = elim h [ ]
+binding_found (l ∷ vs) [] x y new bd s h f = elim h [ ]
+binding_found (l ∷ vs) (e ∷ env) x y new bd s h f = binding_found_of_cons l vs e env x y new bd s (bytes_eq l.name x) refl (ap (λ z. bytes_eq z x) h.0) (binding_found vs env x y new bd s h.1) f
 
 pub names_more : (k : Program) (b c : ℕ) (vs : List Local) (env : List Bound) (y : List ℕ) (t : Ty) (q : ℕ) → b ≤ c → Names k b vs env → LetHome k c y t (Made q) → Names k c (vs ++ local y (binding.Value t) ∷ []) (env ++ bound y (Made q) ∷ [])
 names_more k b c vs env y t q le n let_home = record {
   named = named_on vs (local y (binding.Value t) ∷ []) env (bound y (Made q) ∷ []) n.named (refl, tt);
-  home = λ x bd e. by x bd (found vs env x y (binding.Value t) bd (Made q) n.named e);
+  home = λ x bd e. by x bd (binding_found vs env x y (binding.Value t) bd (Made q) n.named e);
 }
   where
     by : (x : List ℕ) (bd : Binding) → Found vs env x y (binding.Value t) bd (Made q) → HomeIs k c x bd (operand_at (env ++ bound y (Made q) ∷ []) x)
@@ -133,7 +133,7 @@ shape_home k b n x q bd (shape.Array t) e named at f =
 index_home : (k : Program) (b : ℕ) (x index : List ℕ) (bd : Binding) (t : Bool) → loop_index k ≡ Some index → bytes_eq index x ≡ t → option_map binding_of (cond t (Some (local index binding.Index)) None) ≡ Some bd → HomeIs k b x bd (cond t LoopIndex (Constant None (pos 0)))
 index_home k b x index bd true loop e f =
     let same : binding.Index ≡ bd = cc in
-    subst (λ d. HomeIs k b x d LoopIndex) same (refl, loop ∙ ap Some (bytes_told index x e))
+    subst (λ d. HomeIs k b x d LoopIndex) same (refl, loop ∙ ap Some (bytes_eq-told index x e))
 index_home k b x index bd false loop e f = absurd cc
 
 abbrev pub head_locals : List Parameter → List Accumulator → List ℕ → List Local
@@ -162,7 +162,7 @@ params_home k b n (p ∷ ps) index x bd loop at f =
   where
     by : (t : Bool) → bytes_eq p.name x ≡ t → option_map binding_of (cond t (Some (local p.name (binding_of_shape p.shape))) (find (has_name x) (head_locals ps k.vars index))) ≡ Some bd → slice_get k.params n ≡ Some p
         → (binding_at (head_locals ps k.vars index) x ≡ Some bd → HomeIs k b x bd (operand_at (head_env (suc n) ps k.vars index) x)) → HomeIs k b x bd (cond t (Outer n) (operand_at (head_env (suc n) ps k.vars index) x))
-    by true e g here more = shape_home k b n x p bd p.shape refl (bytes_told p.name x e) here g
+    by true e g here more = shape_home k b n x p bd p.shape refl (bytes_eq-told p.name x e) here g
     by false e g here more = more g
 
 -- the names of a kernel's loop

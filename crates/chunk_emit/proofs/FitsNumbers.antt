@@ -22,16 +22,16 @@ sooner : (p q : ℕ) (items : List Item) → p ≤ q → Ascends q items → Asc
 sooner p q [] le h = tt
 sooner p q (it ∷ items) le h = let a = h.0 in (omega (arith, a, le), h.1)
 
-step : (p q n : ℕ) (rest : List Item) → p ≤ q → q + 1 ≤ n → Ascends n rest → (p ≤ q) × Ascends (q + 1) rest
-step p q n rest le lt h = (le, sooner (q + 1) n rest lt h)
+ascends_at_next : (p q n : ℕ) (rest : List Item) → p ≤ q → q + 1 ≤ n → Ascends n rest → (p ≤ q) × Ascends (q + 1) rest
+ascends_at_next p q n rest le lt h = (le, sooner (q + 1) n rest lt h)
 
 load_ascends : (scope : Scope) (mask : Option ℕ) (p q n : ℕ) (env : List Bound) (a : List ℕ) (o : Option ℤ) (gathered rest : List Item) → p ≤ q → q + 1 ≤ n → (o ≡ None → Ascends p gathered) → Ascends n rest → Ascends p (load_item scope mask q env a o gathered rest)
 load_ascends scope mask p q n env a None gathered rest le lt g h = g refl
-load_ascends scope mask p q n env a (Some c) gathered rest le lt g h = step p q n rest le lt h
+load_ascends scope mask p q n env a (Some c) gathered rest le lt g h = ascends_at_next p q n rest le lt h
 
 store_ascends : (scope : Scope) (mask : Option ℕ) (p q n : ℕ) (env : List Bound) (a : List ℕ) (o : Option ℤ) (v : Operand) (rest : List Item) → p ≤ q → q + 1 ≤ n → Ascends n rest → Ascends p (store_item scope mask q env a o v rest)
 store_ascends scope mask p q n env a None v rest le lt h = sooner p n rest (omega (arith, le, lt)) h
-store_ascends scope mask p q n env a (Some c) v rest le lt h = step p q n rest le lt h
+store_ascends scope mask p q n env a (Some c) v rest le lt h = ascends_at_next p q n rest le lt h
 
 record TermAscends (t : Term) : Type 0 where
   as_value : (s : Scope) (want : Option Ty) (mask : Option ℕ) (b : ℕ) (env : List Bound) (rest : List Item) → Ascends (b + term_size s.index t) rest → Ascends b (term_items s want mask b env t rest)
@@ -43,53 +43,53 @@ term_ascends (Variable x) = record { as_value = λ s want mask b env rest h. soo
 term_ascends (Element a j) = record {
   as_value = λ s want mask b env rest h. load_ascends s mask b (b + index_items s.index j) _ env a (stream_offset s.index j) _ rest (omega arith) (omega arith)
       (λ none. let same : index_items s.index j ≡ term_size s.index j = ap (λ o. index_size o (term_size s.index j)) none in
-      (term_ascends j).as_value s (index_type s j) mask b env _ (step (b + term_size s.index j) (b + index_items s.index j) (b + (index_items s.index j + 1)) rest (omega (arith, same)) (omega arith) h)) h;
+      (term_ascends j).as_value s (index_type s j) mask b env _ (ascends_at_next (b + term_size s.index j) (b + index_items s.index j) (b + (index_items s.index j + 1)) rest (omega (arith, same)) (omega arith) h)) h;
   as_cond = λ s mask b env rest h. sooner b _ rest (omega arith) h;
 }
 term_ascends (Unary op e) = record {
-  as_value = λ s want mask b env rest h. (term_ascends e).as_value s want mask b env _ (step _ _ (b + (term_size s.index e + 1)) rest (omega arith) (omega arith) h);
+  as_value = λ s want mask b env rest h. (term_ascends e).as_value s want mask b env _ (ascends_at_next _ _ (b + (term_size s.index e + 1)) rest (omega arith) (omega arith) h);
   as_cond = λ s mask b env rest h. sooner b _ rest (omega arith) h;
 }
 term_ascends (Operation op x y) = record {
-  as_value = λ s want mask b env rest h. (term_ascends x).as_value s want mask b env _ ((term_ascends y).as_value s want mask _ env _ (step _ _ (b + (term_size s.index x + term_size s.index y + 1)) rest (omega arith) (omega arith) h));
+  as_value = λ s want mask b env rest h. (term_ascends x).as_value s want mask b env _ ((term_ascends y).as_value s want mask _ env _ (ascends_at_next _ _ (b + (term_size s.index x + term_size s.index y + 1)) rest (omega arith) (omega arith) h));
   as_cond = λ s mask b env rest h. sooner b _ rest (omega arith) h;
 }
 term_ascends (Shift to_left e n) = record {
-  as_value = λ s want mask b env rest h. (term_ascends e).as_value s want mask b env _ (step _ _ (b + (term_size s.index e + 1)) rest (omega arith) (omega arith) h);
+  as_value = λ s want mask b env rest h. (term_ascends e).as_value s want mask b env _ (ascends_at_next _ _ (b + (term_size s.index e + 1)) rest (omega arith) (omega arith) h);
   as_cond = λ s mask b env rest h. sooner b _ rest (omega arith) h;
 }
 term_ascends (Conversion e t) = record {
-  as_value = λ s want mask b env rest h. (term_ascends e).as_value s (own s e) mask b env _ (step _ _ (b + (term_size s.index e + 1)) rest (omega arith) (omega arith) h);
+  as_value = λ s want mask b env rest h. (term_ascends e).as_value s (own s e) mask b env _ (ascends_at_next _ _ (b + (term_size s.index e + 1)) rest (omega arith) (omega arith) h);
   as_cond = λ s mask b env rest h. sooner b _ rest (omega arith) h;
 }
 term_ascends (Choice c x y) = record {
-  as_value = λ s want mask b env rest h. (term_ascends x).as_value s want mask b env _ ((term_ascends y).as_value s want mask _ env _ ((term_ascends c).as_cond s mask _ env _ (step _ _ (b + term_size s.index (Choice c x y)) rest (omega arith) (omega arith) h)));
+  as_value = λ s want mask b env rest h. (term_ascends x).as_value s want mask b env _ ((term_ascends y).as_value s want mask _ env _ ((term_ascends c).as_cond s mask _ env _ (ascends_at_next _ _ (b + term_size s.index (Choice c x y)) rest (omega arith) (omega arith) h)));
   as_cond = λ s mask b env rest h. sooner b _ rest (omega arith) h;
 }
 term_ascends (Comparison op x y) = record {
   as_value = λ s want mask b env rest h. sooner b _ rest (omega arith) h;
-  as_cond = λ s mask b env rest h. (term_ascends x).as_value s (side_type s x y) mask b env _ ((term_ascends y).as_value s (side_type s x y) mask _ env _ (step _ _ (b + term_size s.index (Comparison op x y)) rest (omega arith) (omega arith) h));
+  as_cond = λ s mask b env rest h. (term_ascends x).as_value s (side_type s x y) mask b env _ ((term_ascends y).as_value s (side_type s x y) mask _ env _ (ascends_at_next _ _ (b + term_size s.index (Comparison op x y)) rest (omega arith) (omega arith) h));
 }
 term_ascends (Both x y) = record {
   as_value = λ s want mask b env rest h. sooner b _ rest (omega arith) h;
-  as_cond = λ s mask b env rest h. (term_ascends x).as_cond s mask b env _ ((term_ascends y).as_cond s (Some (truth_home s.index b x)) _ env _ (step _ _ (b + term_size s.index (Both x y)) rest (omega arith) (omega arith) h));
+  as_cond = λ s mask b env rest h. (term_ascends x).as_cond s mask b env _ ((term_ascends y).as_cond s (Some (truth_home s.index b x)) _ env _ (ascends_at_next _ _ (b + term_size s.index (Both x y)) rest (omega arith) (omega arith) h));
 }
 term_ascends (Either x y) = record {
   as_value = λ s want mask b env rest h. sooner b _ rest (omega arith) h;
   as_cond = λ s mask b env rest h.
       let mark = b + term_size s.index x in
-      (term_ascends x).as_cond s mask b env _ (step mark mark (mark + 1) _ (omega arith) (omega arith)
-      ((term_ascends y).as_cond s (Some mark) (mark + 1) env _ (step _ _ (b + term_size s.index (Either x y)) rest (omega arith) (omega arith) h)));
+      (term_ascends x).as_cond s mask b env _ (ascends_at_next mark mark (mark + 1) _ (omega arith) (omega arith)
+      ((term_ascends y).as_cond s (Some mark) (mark + 1) env _ (ascends_at_next _ _ (b + term_size s.index (Either x y)) rest (omega arith) (omega arith) h)));
 }
 term_ascends (Not e) = record {
   as_value = λ s want mask b env rest h. sooner b _ rest (omega arith) h;
-  as_cond = λ s mask b env rest h. (term_ascends e).as_cond s mask b env _ (step _ _ (b + term_size s.index (Not e)) rest (omega arith) (omega arith) h);
+  as_cond = λ s mask b env rest h. (term_ascends e).as_cond s mask b env _ (ascends_at_next _ _ (b + term_size s.index (Not e)) rest (omega arith) (omega arith) h);
 }
 
 -- ---- statements
 
 break_ascends : (c : Term) (s : Scope) (mask : Option ℕ) (b : ℕ) (env : List Bound) (rest : List Item) → Ascends (b + (term_size s.index c + 1)) rest → Ascends b (break_items s mask b env c rest)
-break_ascends c s mask b env rest h = (term_ascends c).as_cond s mask b env _ (step _ _ (b + (term_size s.index c + 1)) rest (omega arith) (omega arith) h)
+break_ascends c s mask b env rest h = (term_ascends c).as_cond s mask b env _ (ascends_at_next _ _ (b + (term_size s.index c + 1)) rest (omega arith) (omega arith) h)
 
 leave_ascends : (c : Term) (s : Scope) (mask : Option ℕ) (b : ℕ) (env : List Bound) (rest : List Item) → Ascends (b + (term_size s.index c + 1)) rest → Ascends b (leave_items s mask b env c rest)
 leave_ascends (Either x y) s mask b env rest h =
@@ -99,9 +99,9 @@ leave_ascends c s mask b env rest h = break_ascends c s mask b env rest h
 
 mutual
   action_ascends : (a : Action) (s : Scope) (mask : Option ℕ) (b : ℕ) (env : List Bound) (rest : List Item) → Ascends (b + action_size s.index a) rest → Ascends b (action_items s mask b env a rest)
-  action_ascends (Define x t e) s mask b env rest h = (term_ascends e).as_value s (first t (own s e)) mask b env _ (step _ _ (b + (term_size s.index e + 1)) rest (omega arith) (omega arith) h)
+  action_ascends (Define x t e) s mask b env rest h = (term_ascends e).as_value s (first t (own s e)) mask b env _ (ascends_at_next _ _ (b + (term_size s.index e + 1)) rest (omega arith) (omega arith) h)
   action_ascends (Put a j e) s mask b env rest h = (term_ascends e).as_value s (array_type s a) mask b env _ (store_ascends s mask _ (b + term_size s.index e) (b + (term_size s.index e + 1)) env a (stream_offset s.index j) _ rest (omega arith) (omega arith) h)
-  action_ascends (Update x op e) s mask b env rest h = (term_ascends e).as_value s (accumulator_of s x) mask b env _ (step _ _ (b + (term_size s.index e + 1)) rest (omega arith) (omega arith) h)
+  action_ascends (Update x op e) s mask b env rest h = (term_ascends e).as_value s (accumulator_of s x) mask b env _ (ascends_at_next _ _ (b + (term_size s.index e + 1)) rest (omega arith) (omega arith) h)
   action_ascends (Choose c t d) s mask b env rest h =
       let inner = b + term_size s.index c + 1 in
       let second = inner + block_size s.index t in

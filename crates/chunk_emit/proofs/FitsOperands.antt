@@ -9,7 +9,7 @@ use Rattle.kernel_tree.specs.Plain.{Term, Literal, Variable, Element, Unary, Ope
 use Rattle.kernel_tree.specs.Wrap.{bits_of}
 use Rattle.kernel_tree.specs.Items.{stream_offset, term_size, index_items, loop_index}
 use Rattle.kernel_tree.specs.Typing.{Scope, Local, own, value_type, index_type, side_type, array_type}
-use Rattle.kernel_tree.proofs.Names.{bytes_same}
+use Rattle.kernel_tree.proofs.Names.{bytes_eq-refl}
 use Rattle.reg_assign.specs.declared.interval.RegClass.TheVariants.{Z, P}
 use Rattle.reg_assign.specs.Registers.{Assignment}
 use Rattle.loop_form.specs.declared.loop_item.Operand.{Operand}
@@ -106,12 +106,12 @@ module _ (k : Program) (zs ps : Assignment) (f : Setting) (setting : FitsSetting
         let same : t ≡ T = cc in
         subst (FitsInRegister (layout_of_loop k zs ps) u T) (sym h.1) (at.known.gives.content.0 h.0 t h.2, ap scalar_type h.2 ∙ same)
     home_fits x T b u (binding.Array t) s le at e h = absurd cc
-    home_fits x T b u (binding.Accumulator t) s le at e h = let unread = at.known.unread x t h in let read = bytes_same x in absurd cc
+    home_fits x T b u (binding.Accumulator t) s le at e h = let unread = at.known.unread x t h in let read = bytes_eq-refl x in absurd cc
     home_fits x T b u (binding.Value t) s le at e h =
         let same : t ≡ T = cc in
         let lt = h.before in
         let last_use = h.last_use in
-        let used = at.known.used x h.from (bytes_same x) in
+        let used = at.known.used x h.from (bytes_eq-refl x) in
         subst (FitsInRegister (layout_of_loop k zs ps) u T) (sym h.is) ((omega (arith, lt, le), omega (arith, last_use, used)), h.type ∙ same)
     home_fits x T b u binding.Index s le at e h =
         let same : U64 ≡ T = cc in

@@ -14,8 +14,8 @@ use Rattle.chunk_emit.specs.Fits.{FitsMask, FitsCast, MakesNothing, NoneBetween}
 use Rattle.chunk_emit.specs.LoopFits.{FitsStep, FitsSteps}
 
 -- the same number said otherwise
-pub moved : (l : Layout) (f : Setting) (p q : ℕ) (items : List Item) → p ≡ q → FitsSteps l f p items → FitsSteps l f q items
-moved l f p q items e h = subst (λ n. FitsSteps l f n items) e h
+pub fits_steps_at_equal_place : (l : Layout) (f : Setting) (p q : ℕ) (items : List Item) → p ≡ q → FitsSteps l f p items → FitsSteps l f q items
+fits_steps_at_equal_place l f p q items e h = subst (λ n. FitsSteps l f n items) e h
 
 none_from : (l : Layout) (p q : ℕ) → MakesNothing l p → NoneBetween l (p + 1) q → NoneBetween l p q
 none_from l p q here later r from to =
@@ -30,8 +30,8 @@ skip l f p [] n h = tt
 skip l f p (it ∷ items) n h = let a = h.0 in (omega (arith, a), none_from l p it.item n h.1, h.2, h.3, h.4, h.5)
 
 -- one item
-pub step : (l : Layout) (f : Setting) (q p : ℕ) (mask : Option ℕ) (op : Op) (rest : List Item) → p ≡ q + 1 → FitsMask l q mask → FitsStep l f q op → FitsCast l (item q mask op) rest → FitsSteps l f p rest → FitsSteps l f q (item q mask op ∷ rest)
-step l f q p mask op rest e m s c h = (omega arith, (λ r from to. absurd (omega (arith, from, to))), m, s, c, moved l f p (q + 1) rest e h)
+pub fits_steps_of_cons : (l : Layout) (f : Setting) (q p : ℕ) (mask : Option ℕ) (op : Op) (rest : List Item) → p ≡ q + 1 → FitsMask l q mask → FitsStep l f q op → FitsCast l (item q mask op) rest → FitsSteps l f p rest → FitsSteps l f q (item q mask op ∷ rest)
+fits_steps_of_cons l f q p mask op rest e m s c h = (omega arith, (λ r from to. absurd (omega (arith, from, to))), m, s, c, fits_steps_at_equal_place l f p (q + 1) rest e h)
 
 -- the mask of items with numbers from b to e
 abbrev pub IsMasked : Layout → (b e : ℕ) → Option ℕ → Type 0
@@ -49,7 +49,7 @@ no_cast l it (next ∷ rest) h = λ op e. let none = h it.item next.op in absurd
 
 -- one item that is no cast
 pub plain_step : (l : Layout) (f : Setting) (q p : ℕ) (mask : Option ℕ) (op : Op) (rest : List Item) → p ≡ q + 1 → FitsMask l q mask → FitsStep l f q op → ((r : ℕ) (next : Op) → past_cast r op next ≡ None) → FitsSteps l f p rest → FitsSteps l f q (item q mask op ∷ rest)
-plain_step l f q p mask op rest e m s c h = step l f q p mask op rest e m s (no_cast l (item q mask op) rest c) h
+plain_step l f q p mask op rest e m s c h = fits_steps_of_cons l f q p mask op rest e m s (no_cast l (item q mask op) rest c) h
 
 abbrev stores : Op → Bool
 stores (ops.Store a base t c v) = true

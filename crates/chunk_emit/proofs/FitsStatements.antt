@@ -20,12 +20,12 @@ use Rattle.chunk_emit.specs.Registers.{Layout}
 use Rattle.chunk_emit.specs.Fits.{FitsTruth}
 use Rattle.chunk_emit.specs.KernelLayout.{item_last_use, truth_last_use, layout_of_loop}
 use Rattle.chunk_emit.specs.LoopFits.{FitsSetting, FitsSteps}
-use Rattle.chunk_emit.proofs.FitsKnown.{Part, part_left, part_right, part_following, At, at_head}
+use Rattle.chunk_emit.proofs.FitsKnown.{Part, part_left, part_right, part_following, At, known_at_head}
 use Rattle.chunk_emit.proofs.FitsNumbers.{IsBefore}
 use Rattle.chunk_emit.proofs.FitsNames.{LetHome, Names, names_later, names_more}
 use Rattle.chunk_emit.proofs.FitsTrees.{KnownTruth, IsStream, is_stream, value_known, truth_known}
 use Rattle.chunk_emit.proofs.FitsOperands.{AllTyped, value_following, truth_following, made_is, truth_same, truth_none, truth_is, truth_lasts}
-use Rattle.chunk_emit.proofs.FitsPlaces.{moved, skip, plain_step, IsMasked, plain_casts}
+use Rattle.chunk_emit.proofs.FitsPlaces.{fits_steps_at_equal_place, skip, plain_step, IsMasked, plain_casts}
 use Rattle.chunk_emit.proofs.FitsTerms.{value_makes, truth_makes, nothing_made, operand, value_steps, truth_steps}
 use Rattle.chunk_emit.proofs.FitsWrites.{store_ends, store_steps, update_steps}
 use Rattle.kernel_tree.specs.declared.fault.Binding.TheVariants as binding
@@ -93,7 +93,7 @@ module _ (k : Program) (zs ps : Assignment) (f : Setting) (setting : FitsSetting
       let want = first t (own S e) in
       let w = untyped_some (g + term_size i e) want (nil-right (twice (g + term_size i e) S x) _ (nil-right (faults S g (Value want) e) _ none)) in
       let T = w.0 in
-      let at = at_head k q (IsLet x) q [] want [] (part_right k (term_entries k b q e) _ (term_types S (Value want) e) _ (term_matches k e S (Value want) b q refl) part) in
+      let at = known_at_head k q (IsLet x) q [] want [] (part_right k (term_entries k b q e) _ (term_types S (Value want) e) _ (term_matches k e S (Value want) b q refl) part) in
       let ti = value_following k e S want mask b env (item q mask (ops.Let want (home i want b env e)) ∷ rest) types in
       let new : LetHome k (b + action_size i (Define x t e)) x T (Made q) = record { item = q; is = refl; before = omega arith; type = made_is k q T (ti.0.type ∙ w.1); from = q; last_use = at.known.gives.value_last_use } in
       record {
@@ -173,9 +173,9 @@ module _ (k : Program) (zs ps : Assignment) (f : Setting) (setting : FitsSetting
         truth_steps k zs ps f setting few v tk ins b env names c mask b1 u last known from types (λ r lo hi. masked r lo (omega (arith, hi, number))) here
 
     -- a number before that of the first item makes no condition where none stands there
-    starts : (l : Layout) (p r : ℕ) (items : List Item) → r < p → FitsSteps l f p items → IsBefore r items
-    starts l p r [] lt h = tt
-    starts l p r (it ∷ items) lt h = let a = h.0 in omega (arith, a, lt)
+    before_of_fits_steps : (l : Layout) (p r : ℕ) (items : List Item) → r < p → FitsSteps l f p items → IsBefore r items
+    before_of_fits_steps l p r [] lt h = tt
+    before_of_fits_steps l p r (it ∷ items) lt h = let a = h.0 in omega (arith, a, lt)
 
     leave_steps : (c : Term) (mask : Option ℕ) (b1 u p : ℕ) (rest : List Item) → KnownTruth k S b1 u c → b ≤ b1 → item_last_use k Z (b1 + term_size i c) ≡ 0 → b1 + term_size i c ≤ u → p ≡ b1 + term_size i c + 1 → AllTyped k (leave_items S mask b1 env c rest) → IsMasked (layout_of_loop k zs ps) b1 p mask
         → FitsSteps (layout_of_loop k zs ps) f p rest → FitsSteps (layout_of_loop k zs ps) f b1 (leave_items S mask b1 env c rest)
@@ -187,8 +187,8 @@ module _ (k : Program) (zs ps : Assignment) (f : Setting) (setting : FitsSetting
         let quit = (truth_following k y S mask (mark + 1) env (item q mask (ops.Break (truth_home i (mark + 1) y)) ∷ rest) typed).0 in
         let same : b1 + term_size i (Either x y) ≡ q + 1 = omega arith in
         let past : item_last_use k Z (q + 1) ≡ 0 = ap (item_last_use k Z) (sym same) ∙ value in
-        let truth : truth_last_use k (q + 1) ≡ 0 = truth_none k (q + 1) (quit.gap (q + 1) (omega arith) (starts L p (q + 1) rest (omega (arith, number)) following)) in
-        let later : FitsSteps L f (q + 1) rest = skip L f (q + 1) rest (omega (arith, past), omega (arith, truth)) (moved L f p (q + 1 + 1) rest (omega (arith, number)) following) in
+        let truth : truth_last_use k (q + 1) ≡ 0 = truth_none k (q + 1) (quit.gap (q + 1) (omega arith) (before_of_fits_steps L p (q + 1) rest (omega (arith, number)) following)) in
+        let later : FitsSteps L f (q + 1) rest = skip L f (q + 1) rest (omega (arith, past), omega (arith, truth)) (fits_steps_at_equal_place L f p (q + 1 + 1) rest (omega (arith, number)) following) in
         let steps = one_break_steps y mask (mark + 1) q (q + 1) rest known.2 (omega (arith, from)) known.3.known.gives.value_last_use (omega arith) refl typed (λ r lo hi. masked r (omega (arith, lo)) (omega (arith, hi, number))) later in
         leave_steps x mask b1 q (mark + 1) second known.0 from known.1.known.gives.value_last_use (omega arith) refl types (λ r lo hi. masked r lo (omega (arith, hi, number))) steps
     leave_steps c mask b1 u p rest known from value le number types masked following = one_break_steps c mask b1 u p rest known from value le number types masked following
@@ -204,7 +204,7 @@ module _ (k : Program) (zs ps : Assignment) (f : Setting) (setting : FitsSetting
         let want = first t (own S e) in
         let w = untyped_some (g + term_size i e) want (nil-right (twice (g + term_size i e) S x) _ (nil-right (faults S g (Value want) e) _ none)) in
         let m = term_matches k e S (Value want) b q refl in
-        let at = at_head k q (IsLet x) q [] want [] (part_right k (term_entries k b q e) _ _ _ m part) in
+        let at = known_at_head k q (IsLet x) q [] want [] (part_right k (term_entries k b q e) _ _ _ m part) in
         let_steps v tk ins b env names x e mask g (b + action_size i (Define x t e)) rest want w.0 w.1 (nil-left (faults S g (Value want) e) _ none) (part_left k (term_entries k b q e) _ _ _ m part) at (omega arith) types masked following
     action_steps (Put a j e) v tk ins env mask b g rest names none part types masked following =
         let S = scope v tk ins in
@@ -214,7 +214,7 @@ module _ (k : Program) (zs ps : Assignment) (f : Setting) (setting : FitsSetting
         let none2 = nil-right (faults S g (Value want) e) _ none in
         let w = target_some n (lookup S a) (nil-left (target_faults n (lookup S a)) _ none2) in
         let m = term_matches k e S (Value want) b q refl in
-        let at = at_head k q (IsStore a j) q [] None [] (part_right k (term_entries k b q e) _ _ _ m part) in
+        let at = known_at_head k q (IsStore a j) q [] None [] (part_right k (term_entries k b q e) _ _ _ m part) in
         let stream = is_stream i j (stream_some n (stream_offset i j) (nil-right (target_faults n (lookup S a)) _ none2)) at.known.near in
         put_steps v tk ins b env names a j e mask g (b + action_size i (Put a j e)) rest want w.0 refl w.1 stream (nil-left (faults S g (Value want) e) _ none) (part_left k (term_entries k b q e) _ _ _ m part) at (omega arith) types masked following
     action_steps (Update x op e) v tk ins env mask b g rest names none part types masked following =
@@ -223,7 +223,7 @@ module _ (k : Program) (zs ps : Assignment) (f : Setting) (setting : FitsSetting
         let want = accumulator_of S x in
         let w = update_some (g + term_size i e) (lookup S x) (nil-right (faults S g (Value want) e) _ none) in
         let m = term_matches k e S (Value want) b q refl in
-        let at = at_head k q (IsUpdate x op) q [] None [] (part_right k (term_entries k b q e) _ _ _ m part) in
+        let at = known_at_head k q (IsUpdate x op) q [] None [] (part_right k (term_entries k b q e) _ _ _ m part) in
         add_steps v tk ins b env names x op e mask g (b + action_size i (Update x op e)) rest want w.0 refl w.1 (nil-left (faults S g (Value want) e) _ none) (part_left k (term_entries k b q e) _ _ _ m part) at (omega arith) types masked following
     action_steps (Choose c t d) v tk ins env mask b g rest names none part types masked following =
         let L = layout_of_loop k zs ps in
@@ -237,11 +237,11 @@ module _ (k : Program) (zs ps : Assignment) (f : Setting) (setting : FitsSetting
         let m = term_matches k c S Condition b second refl in
         let part2 = part_right k (term_entries k b second c) _ _ _ m part in
         let part3 = part_following k _ _ None _ part2 in
-        let at_then = at_head k then (IsPlain kind.Then) then _ None _ part2 in
+        let at_then = known_at_head k then (IsPlain kind.Then) then _ None _ part2 in
         let mt = block_matches k t S inner refl in
         let part4 = part_right k (block_entries k inner t) _ _ _ mt part3 in
         let md = otherwise_matches k d S2 second end refl in
-        let at_end = at_head k end (IsPlain kind.End) end [] None [] (part_right k (otherwise_entries k second end d) _ _ _ md part4) in
+        let at_end = known_at_head k end (IsPlain kind.End) end [] None [] (part_right k (otherwise_entries k second end d) _ _ _ md part4) in
         let none2 = nil-right (faults S g Condition c) _ none in
         let known = truth_known k v tk ins c g b second (nil-left (faults S g Condition c) _ none) (part_left k (term_entries k b second c) _ _ _ m part) in
         let last = otherwise_items S2 mask second picked env d rest in
@@ -249,7 +249,7 @@ module _ (k : Program) (zs ps : Assignment) (f : Setting) (setting : FitsSetting
         let is = truth_is k v tk ins c mask b second env middle known types in
         let types2 = truth_following k c S mask b env middle types in
         let types3 = block_following k t S (Some picked) inner env last types2 in
-        let following2 = skip L f end rest (nothing_made k zs ps f setting few end at_end.known.gives.value_last_use at_end.known.gives.truth_last_use) (moved L f (b + action_size i (Choose c t d)) (end + 1) rest (omega arith) following) in
+        let following2 = skip L f end rest (nothing_made k zs ps f setting few end at_end.known.gives.value_last_use at_end.known.gives.truth_last_use) (fits_steps_at_equal_place L f (b + action_size i (Choose c t d)) (end + 1) rest (omega arith) following) in
         let steps3 =
         otherwise_steps d v (after_block S t).taken ins env mask second picked (g + term_size i c + 1 + block_size i t) end rest (names_later k b second v env (omega arith) names) (nil-right (block_faults S (g + term_size i c + 1) t) _ none2) (part_left k (otherwise_entries k second end d) _ _ _ md part4) types3
         (truth_lasts k zs ps c b second second is (omega arith) (omega arith)) (λ r lo hi. masked r (omega (arith, lo)) (omega (arith, hi))) refl following2 in
@@ -261,12 +261,12 @@ module _ (k : Program) (zs ps : Assignment) (f : Setting) (setting : FitsSetting
         let q = b + term_size i c in
         let m = term_matches k c (scope v tk ins) Condition b q refl in
         let known = truth_known k v tk ins c g b q none (part_left k (term_entries k b q c) _ _ _ m part) in
-        let at = at_head k q (IsPlain kind.Break) q [] None [] (part_right k (term_entries k b q c) _ _ _ m part) in
+        let at = known_at_head k q (IsPlain kind.Break) q [] None [] (part_right k (term_entries k b q c) _ _ _ m part) in
         leave_steps v tk ins b env names c mask b q (b + action_size i (Leave c)) rest known (omega arith) at.known.gives.value_last_use (omega arith) (omega arith) types masked following
 
     pub block_steps : (t : Block) (v : List Local) (tk : List (List ℕ)) (ins : Bool) (env : List Bound) (mask : Option ℕ) (b g : ℕ) (rest : List Item) → Names k b v env → block_faults (scope v tk ins) g t ≡ [] → Part k (block_entries k b t) (block_types (scope v tk ins) t) → AllTyped k (block_items (scope v tk ins) mask b env t rest)
         → IsMasked (layout_of_loop k zs ps) b (b + block_size i t) mask → FitsSteps (layout_of_loop k zs ps) f (b + block_size i t) rest → FitsSteps (layout_of_loop k zs ps) f b (block_items (scope v tk ins) mask b env t rest)
-    block_steps Done v tk ins env mask b g rest names none part types masked following = moved (layout_of_loop k zs ps) f (b + 0) b rest (omega arith) following
+    block_steps Done v tk ins env mask b g rest names none part types masked following = fits_steps_at_equal_place (layout_of_loop k zs ps) f (b + 0) b rest (omega arith) following
     block_steps (Then a t) v tk ins env mask b g rest names none part types masked following =
         let L = layout_of_loop k zs ps in
         let S = scope v tk ins in
@@ -282,21 +282,21 @@ module _ (k : Program) (zs ps : Assignment) (f : Setting) (setting : FitsSetting
         let types_t : AllTyped k (block_items S2 mask next n.env' t rest) = subst (λ e. AllTyped k (block_items S2 mask next e t rest)) n.env_is (subst (λ s. AllTyped k (block_items s mask next (after_env S b env a) t rest)) n.scope_is (action_following k a S mask b env more types)) in
         let steps_t =
         block_steps t n.visible n.taken ins n.env' mask next (g + action_size i a) rest n.names (subst (λ s. block_faults s (g + action_size i a) t ≡ []) n.scope_is none_t) (subst (λ s. Part k (block_entries k next t) (block_types s t)) n.scope_is part_t) types_t (λ r lo hi. masked r (omega (arith, lo)) (omega (arith, hi)))
-        (moved L f (b + block_size i (Then a t)) (next + block_size i t) rest (omega arith) following) in
+        (fits_steps_at_equal_place L f (b + block_size i (Then a t)) (next + block_size i t) rest (omega arith) following) in
         let following_a : FitsSteps L f next more = subst (λ s. FitsSteps L f next (block_items s mask next (after_env S b env a) t rest)) (sym n.scope_is) (subst (λ e. FitsSteps L f next (block_items S2 mask next e t rest)) (sym n.env_is) steps_t) in
         action_steps a v tk ins env mask b g more names none_a part_a types (λ r lo hi. masked r lo (omega (arith, hi))) following_a
 
     otherwise_steps : (d : Otherwise) (v : List Local) (tk : List (List ℕ)) (ins : Bool) (env : List Bound) (mask : Option ℕ) (b c g end : ℕ) (rest : List Item) → Names k b v env → otherwise_faults (scope v tk ins) g d ≡ [] → Part k (otherwise_entries k b end d) (otherwise_types (scope v tk ins) d)
         → AllTyped k (otherwise_items (scope v tk ins) mask b c env d rest) → FitsTruth (layout_of_loop k zs ps) b c → IsMasked (layout_of_loop k zs ps) b (b + otherwise_size i d) mask → end ≡ b + otherwise_size i d → FitsSteps (layout_of_loop k zs ps) f end rest
         → FitsSteps (layout_of_loop k zs ps) f b (otherwise_items (scope v tk ins) mask b c env d rest)
-    otherwise_steps Nothing v tk ins env mask b c g end rest names none part types picked masked number following = moved (layout_of_loop k zs ps) f end b rest (omega (arith, number)) following
+    otherwise_steps Nothing v tk ins env mask b c g end rest names none part types picked masked number following = fits_steps_at_equal_place (layout_of_loop k zs ps) f end b rest (omega (arith, number)) following
     otherwise_steps (Else t) v tk ins env mask b c g end rest names none part types picked masked number following =
         let L = layout_of_loop k zs ps in
         let S = scope v tk ins in
-        let at = at_head k b (IsPlain kind.Else) end _ None _ part in
+        let at = known_at_head k b (IsPlain kind.Else) end _ None _ part in
         let last_use : truth_last_use k b ≡ end = truth_same k b types.0.truth ∙ at.known.gives.truth_last_use in
         let later = block_items S (Some b) (b + 1) env t rest in
         let steps_t =
         block_steps t v tk ins env (Some b) (b + 1) (g + 1) rest (names_later k b (b + 1) v env (omega arith) names) none (part_following k _ _ None _ part) types.1 (λ r lo hi. (omega (arith, lo), omega (arith, hi, last_use, number)))
-        (moved L f end (b + 1 + block_size i t) rest (omega (arith, number)) following) in
+        (fits_steps_at_equal_place L f end (b + 1 + block_size i t) rest (omega (arith, number)) following) in
         plain_step L f b (b + 1) mask (ops.Not c) later refl (masked b (omega arith) (omega arith)) (picked, truth_makes k zs ps f setting few b at.known.gives.value_last_use) (λ r next. refl) steps_t

@@ -32,7 +32,7 @@ use Rattle.chunk_emit.proofs.FitsKnown.{At}
 use Rattle.chunk_emit.proofs.FitsNames.{binding_at, HomeIs, Names}
 use Rattle.chunk_emit.proofs.FitsTrees.{IndexBy, KnownValue, KnownTruth}
 use Rattle.chunk_emit.proofs.FitsOperands.{AllTyped, value_following, truth_following, made_is, at_width, operand_fits, truth_less, truth_same, truth_is, truth_lasts}
-use Rattle.chunk_emit.proofs.FitsPlaces.{NoStore, moved, skip, step, plain_step, IsMasked, CastsEnd, plain_casts, value_plain, truth_plain}
+use Rattle.chunk_emit.proofs.FitsPlaces.{NoStore, fits_steps_at_equal_place, skip, fits_steps_of_cons, plain_step, IsMasked, CastsEnd, plain_casts, value_plain, truth_plain}
 
 -- a count of a shift that the type allows
 count_below : (n : ℤ) (m : ℕ) → is_below n m ≡ true → shift_count n < m
@@ -114,7 +114,7 @@ module _ (k : Program) (zs ps : Assignment) (f : Setting) (setting : FitsSetting
         let ti = value_following k x S (Some U) mask b env last typed2 in
         let wide = subst (λ z. bits_of z ≤ width_bits f.w) same (at_width k zs ps f setting q (IsPlain kind.Cast) u T at) in
         let here =
-        step L f q p mask act rest number (masked q (omega arith) (omega (arith, number))) (operand x U mask b q last h from (omega arith) typed2, wide, value_makes q t at.known.gives.truth_last_use ti.0.type) (casts (item q mask act) (omega arith)) following in
+        fits_steps_of_cons L f q p mask act rest number (masked q (omega arith) (omega (arith, number))) (operand x U mask b q last h from (omega arith) typed2, wide, value_makes q t at.known.gives.truth_last_use ti.0.type) (casts (item q mask act) (omega arith)) following in
         subst (λ z. FitsSteps L f b (term_items S z mask b env x (item q mask (ops.Cast z t (home i z b env x)) ∷ rest))) (sym e) (before last typed2 (plain_casts L b last refl, here))
 
     test_steps : (op : CompareOp) (x y : Term) (mask : Option ℕ) (b u p : ℕ) (rest : List Item) (o : Option Ty) (U : Ty) → o ≡ Some U → KnownValue k S U b (b + term_size i x + term_size i y) x → KnownValue k S U (b + term_size i x) (b + term_size i x + term_size i y) y
@@ -146,7 +146,7 @@ module _ (k : Program) (zs ps : Assignment) (f : Setting) (setting : FitsSetting
         → b0 ≤ b
         → FitsSteps (layout_of_loop k zs ps) f b (load_item S mask (b + index_size o (term_size i j)) env a o (term_items S (index_type S j) mask b env j (gather_item S mask b (b + index_size o (term_size i j)) env a j ∷ rest)) rest)
     element_steps a j T mask b u p rest (Some c) near at array lt number typed masked following more from =
-        moved (layout_of_loop k zs ps) f (b + 0) b (load_item S mask (b + 0) env a (Some c) (term_items S (index_type S j) mask b env j (gather_item S mask b (b + 0) env a j ∷ rest)) rest) (omega arith)
+        fits_steps_at_equal_place (layout_of_loop k zs ps) f (b + 0) b (load_item S mask (b + 0) env a (Some c) (term_items S (index_type S j) mask b env j (gather_item S mask b (b + 0) env a j ∷ rest)) rest) (omega arith)
         (load_steps a j T mask (b + 0) p u (term_items S (index_type S j) mask b env j (gather_item S mask b (b + 0) env a j ∷ rest)) rest c (array_type S a) at refl array near (omega (arith, lt)) (omega (arith, number)) typed (λ r lo hi. masked r (omega (arith, lo)) (omega (arith, hi))) following)
     element_steps a j T mask b u p rest None known at array lt number typed masked following more from =
         let q : ℕ = b + term_size i j in

@@ -10,11 +10,11 @@ use Rattle.kernel_tree.proofs.Faultless.{nil-left, nil-right, never}
 use Rattle.kernel_tree.proofs.NoFault.{is_empty, no_mismatch, no_name, no_read, untyped_some}
 use Rattle.loop_form.specs.Entries.{IsLiteral, IsName, IsRead, IsPlain, inner_entries, term_entries}
 use Rattle.chunk_emit.specs.Fits.{IsNear}
-use Rattle.loop_form.proofs.ItemTypes.{inner, term_matches}
+use Rattle.loop_form.proofs.ItemTypes.{matches_inner, term_matches}
 use Rattle.loop_form.specs.Lanes.{lane_width_of}
 use Rattle.guest_types.specs.declared.length.Width.TheVariants.{D}
 use Rattle.kernel_tree.specs.declared.ops.Ty.TheVariants.{U64}
-use Rattle.chunk_emit.proofs.FitsKnown.{Part, part_left, part_right, part_following, At, at_head}
+use Rattle.chunk_emit.proofs.FitsKnown.{Part, part_left, part_right, part_following, At, known_at_head}
 use Rattle.loop_form.specs.Near as near
 use Rattle.loop_form.specs.declared.item.ItemKind.TheVariants as kind
 use Rattle.loop_form.specs.Near as near
@@ -111,8 +111,8 @@ module _ (k : Program) (v : List Local) (tk : List (List ℕ)) (ins : Bool) wher
 
   mutual
     pub value_known : (t : Term) (T : Ty) (f b user : ℕ) → faults S f (Value (Some T)) t ≡ [] → Part k (term_entries k b user t) (term_types S (Value (Some T)) t) → KnownValue k S T b user t
-    value_known (Literal n) T f b user e p = at_head k b _ user [] (Some T) [] p
-    value_known (Variable x) T f b user e p = (at_head k b _ user [] (Some T) [] p, no_name f T (lookup S x) (nil-right (as_value f (Value (Some T))) _ e))
+    value_known (Literal n) T f b user e p = known_at_head k b _ user [] (Some T) [] p
+    value_known (Variable x) T f b user e p = (known_at_head k b _ user [] (Some T) [] p, no_name f T (lookup S x) (nil-right (as_value f (Value (Some T))) _ e))
     value_known (Element a j) T f b user e p =
         let o = stream_offset i j in
         let item = f + index_items i j in
@@ -121,12 +121,12 @@ module _ (k : Program) (v : List Local) (tk : List (List ℕ)) (ins : Bool) wher
         let e2 = nil-right (as_value item (Value (Some T))) _ (nil-right (inner_faults o fs) _ e) in
         let es = term_entries k b q j in
         let ts = term_types S (Value (index_type S j)) j in
-        let at = at_head k q _ user [] (Some T) [] (part_right k (inner_entries o es) _ (inner_types o ts) _ (inner k o es ts (term_matches k j S _ b q refl)) p) in (
+        let at = known_at_head k q _ user [] (Some T) [] (part_right k (inner_entries o es) _ (inner_types o ts) _ (matches_inner k o es ts (term_matches k j S _ b q refl)) p) in (
           at,
           no_read item ins T (lookup S a) (nil-left (read_faults item ins (Some T) (lookup S a)) _ e2),
           index_by o at.known.near (λ none.
               let U = first_of (own S j) in
-              let inner_known : Part k es ts = subst (λ (o : Option ℤ). Part k (inner_entries o es) (inner_types o ts)) none (part_left k (inner_entries o es) _ (inner_types o ts) _ (inner k o es ts (term_matches k j S _ b q refl)) p) in
+              let inner_known : Part k es ts = subst (λ (o : Option ℤ). Part k (inner_entries o es) (inner_types o ts)) none (part_left k (inner_entries o es) _ (inner_types o ts) _ (matches_inner k o es ts (term_matches k j S _ b q refl)) p) in
               let fine : fs ≡ [] = subst (λ (o : Option ℤ). inner_faults o fs ≡ []) none (nil-left (inner_faults o fs) _ e) in (
                 U.0,
                 U.1,
@@ -137,7 +137,7 @@ module _ (k : Program) (v : List Local) (tk : List (List ℕ)) (ins : Bool) wher
     value_known (Unary op x) T f b user e p =
         let q = b + term_size i x in
         let m = term_matches k x S (Value (Some T)) b q refl in
-        (value_known x T f b q (nil-left (faults S f (Value (Some T)) x) _ e) (part_left k (term_entries k b q x) _ _ _ m p), at_head k q _ user [] (Some T) [] (part_right k (term_entries k b q x) _ _ _ m p))
+        (value_known x T f b q (nil-left (faults S f (Value (Some T)) x) _ e) (part_left k (term_entries k b q x) _ _ _ m p), known_at_head k q _ user [] (Some T) [] (part_right k (term_entries k b q x) _ _ _ m p))
     value_known (Operation op x y) T f b user e p =
         let b1 = b + term_size i x in let q = b1 + term_size i y in
         let m = term_matches k x S (Value (Some T)) b q refl in
@@ -146,14 +146,14 @@ module _ (k : Program) (v : List Local) (tk : List (List ℕ)) (ins : Bool) wher
         let e2 = nil-right (faults S f (Value (Some T)) x) _ e in (
           value_known x T f b q (nil-left (faults S f (Value (Some T)) x) _ e) (part_left k (term_entries k b q x) _ _ _ m p),
           value_known y T (f + term_size i x) b1 q (nil-left (faults S (f + term_size i x) (Value (Some T)) y) _ e2) (part_left k (term_entries k b1 q y) _ _ _ n p2),
-          at_head k q _ user [] (Some T) [] (part_right k (term_entries k b1 q y) _ _ _ n p2),
+          known_at_head k q _ user [] (Some T) [] (part_right k (term_entries k b1 q y) _ _ _ n p2),
         )
     value_known (Shift to_left x n) T f b user e p =
         let q = b + term_size i x in
         let m = term_matches k x S (Value (Some T)) b q refl in
         let e2 = nil-right (as_value (f + term_size i x) (Value (Some T))) _ (nil-right (faults S f (Value (Some T)) x) _ e) in (
           value_known x T f b q (nil-left (faults S f (Value (Some T)) x) _ e) (part_left k (term_entries k b q x) _ _ _ m p),
-          at_head k q _ user [] (Some T) [] (part_right k (term_entries k b q x) _ _ _ m p),
+          known_at_head k q _ user [] (Some T) [] (part_right k (term_entries k b q x) _ _ _ m p),
           no_shift (f + term_size i x) T n e2,
         )
     value_known (Conversion x t) T f b user e p =
@@ -165,7 +165,7 @@ module _ (k : Program) (v : List Local) (tk : List (List ℕ)) (ins : Bool) wher
           w.0,
           w.1,
           value_known x w.0 f b q (sym (ap (λ o. faults S f (Value o) x) w.1) ∙ nil-left (faults S f (Value (own S x)) x) _ e) (subst (λ o. Part k (term_entries k b q x) (term_types S (Value o) x)) w.1 px),
-          at_head k q _ user [] (Some T) [] (part_right k (term_entries k b q x) _ _ _ m p),
+          known_at_head k q _ user [] (Some T) [] (part_right k (term_entries k b q x) _ _ _ m p),
           no_mismatch _ T t (nil-left (mismatch (f + term_size i x) (Some T) t) _ e2),
         )
     value_known (Choice c x y) T f b user e p =
@@ -180,7 +180,7 @@ module _ (k : Program) (v : List Local) (tk : List (List ℕ)) (ins : Bool) wher
           value_known x T f b q (nil-left (faults S f (Value (Some T)) x) _ e) (part_left k (term_entries k b q x) _ _ _ m p),
           value_known y T (f + term_size i x) b1 q (nil-left (faults S (f + term_size i x) (Value (Some T)) y) _ e2) (part_left k (term_entries k b1 q y) _ _ _ n p2),
           truth_known c (f + term_size i x + term_size i y) b2 q (nil-left (faults S (f + term_size i x + term_size i y) Condition c) _ e3) (part_left k (term_entries k b2 q c) _ _ _ r p3),
-          at_head k q _ user [] (Some T) [] (part_right k (term_entries k b2 q c) _ _ _ r p3),
+          known_at_head k q _ user [] (Some T) [] (part_right k (term_entries k b2 q c) _ _ _ r p3),
         )
     value_known (Comparison op x y) T f b user e p = absurd (never (nil-left (as_condition (f + term_size i x + term_size i y) (Value (Some T))) _ (nil-right (faults S (f + term_size i x) (Value (side_type S x y)) y) _ (nil-right (faults S f (Value (side_type S x y)) x) _ e))))
     value_known (Both x y) T f b user e p = absurd (never (nil-right (faults S (f + term_size i x) Condition y) _ (nil-right (faults S f Condition x) _ e)))
@@ -204,7 +204,7 @@ module _ (k : Program) (v : List Local) (tk : List (List ℕ)) (ins : Bool) wher
           known.1,
           value_known x known.0 f b q (sym (ap (λ o. faults S f (Value o) x) known.1) ∙ e1) (subst (λ o. Part k (term_entries k b q x) (term_types S (Value o) x)) known.1 p1),
           value_known y known.0 (f + term_size i x) b1 q (sym (ap (λ o. faults S (f + term_size i x) (Value o) y) known.1) ∙ e3) (subst (λ o. Part k (term_entries k b1 q y) (term_types S (Value o) y)) known.1 p3),
-          at_head k q _ user [] None [] (part_right k (term_entries k b1 q y) _ _ _ n p2),
+          known_at_head k q _ user [] None [] (part_right k (term_entries k b1 q y) _ _ _ n p2),
         )
     truth_known (Both x y) f b user e p =
         let b1 = b + term_size i x in let q = b1 + term_size i y in
@@ -214,7 +214,7 @@ module _ (k : Program) (v : List Local) (tk : List (List ℕ)) (ins : Bool) wher
         let e2 = nil-right (faults S f Condition x) _ e in (
           truth_known x f b q (nil-left (faults S f Condition x) _ e) (part_left k (term_entries k b q x) _ _ _ m p),
           truth_known y (f + term_size i x) b1 q (nil-left (faults S (f + term_size i x) Condition y) _ e2) (part_left k (term_entries k b1 q y) _ _ _ n p2),
-          at_head k q _ user [] None [] (part_right k (term_entries k b1 q y) _ _ _ n p2),
+          known_at_head k q _ user [] None [] (part_right k (term_entries k b1 q y) _ _ _ n p2),
         )
     truth_known (Either x y) f b user e p =
         let mark = b + term_size i x in let q = mark + 1 + term_size i y in
@@ -224,14 +224,14 @@ module _ (k : Program) (v : List Local) (tk : List (List ℕ)) (ins : Bool) wher
         let p3 = part_following k _ _ None _ p2 in
         let e2 = nil-right (faults S f Condition x) _ e in (
           truth_known x f b q (nil-left (faults S f Condition x) _ e) (part_left k (term_entries k b q x) _ _ _ m p),
-          at_head k mark _ q _ None _ p2,
+          known_at_head k mark _ q _ None _ p2,
           truth_known y (f + term_size i x + 1) (mark + 1) q (nil-left (faults S (f + term_size i x + 1) Condition y) _ e2) (part_left k (term_entries k (mark + 1) q y) _ _ _ n p3),
-          at_head k q _ user [] None [] (part_right k (term_entries k (mark + 1) q y) _ _ _ n p3),
+          known_at_head k q _ user [] None [] (part_right k (term_entries k (mark + 1) q y) _ _ _ n p3),
         )
     truth_known (Not x) f b user e p =
         let q = b + term_size i x in
         let m = term_matches k x S Condition b q refl in
-        (truth_known x f b q (nil-left (faults S f Condition x) _ e) (part_left k (term_entries k b q x) _ _ _ m p), at_head k q _ user [] None [] (part_right k (term_entries k b q x) _ _ _ m p))
+        (truth_known x f b q (nil-left (faults S f Condition x) _ e) (part_left k (term_entries k b q x) _ _ _ m p), known_at_head k q _ user [] None [] (part_right k (term_entries k b q x) _ _ _ m p))
     truth_known (Literal n) f b user e p = absurd cc
     truth_known (Variable x) f b user e p = absurd cc
     truth_known (Element a j) f b user e p = absurd (never (nil-left (as_value (f + index_items i j) Condition) _ (nil-right (inner_faults (stream_offset i j) (faults S f (Value (index_type S j)) j)) _ e)))

@@ -9,7 +9,7 @@ use Rattle.kernel_tree.specs.declared.fault.Binding.{Binding}
 use Rattle.kernel_tree.specs.Plain.{Term, Literal, Variable, Element, Unary, Operation, Shift, Conversion, Choice, Comparison, Both, Either, Not, Program}
 use Rattle.kernel_tree.specs.Items.{stream_offset, loop_index}
 use Rattle.kernel_tree.specs.Typing.{Scope, Local, value_type, accumulator_type, array_type}
-use Rattle.kernel_tree.proofs.Names.{bytes_same}
+use Rattle.kernel_tree.proofs.Names.{bytes_eq-refl}
 use Rattle.reg_assign.specs.declared.interval.RegClass.TheVariants.{Z}
 use Rattle.reg_assign.specs.Registers.{Assignment}
 use Rattle.loop_form.specs.declared.loop_item.Operand.{Operand}
@@ -63,7 +63,7 @@ module _ (k : Program) (zs ps : Assignment) (f : Setting) (setting : FitsSetting
     home_before : (x : List ℕ) (T : Ty) (b q r : ℕ) (bd : Binding) (s : Operand) → b0 ≤ b → At k b (IsName x) q (Some T) → value_type bd ≡ Some T → HomeIs k b0 x bd s → s ≡ Made r → b ≤ r → item_last_use k Z r ≤ q
     home_before x T b q r (binding.Scalar t) s from at e h made lo = let other = h.1 in absurd cc
     home_before x T b q r (binding.Array t) s from at e h made lo = absurd cc
-    home_before x T b q r (binding.Accumulator t) s from at e h made lo = let unread = at.known.unread x t h in let read = bytes_same x in absurd cc
+    home_before x T b q r (binding.Accumulator t) s from at e h made lo = let unread = at.known.unread x t h in let read = bytes_eq-refl x in absurd cc
     home_before x T b q r (binding.Value t) s from at e h made lo =
         let lt = h.before in
         let is = h.is in

@@ -15,9 +15,9 @@ use Rattle.guest_types.proofs.Stores.{number_at-below}
 use Rattle.guest_types.proofs.AtWidths.{at-register}
 use Rattle.kernel_tree.specs.declared.ops.Ty.{Ty}
 use Rattle.kernel_tree.specs.declared.ops.Ty.TheVariants as ty
-use Rattle.kernel_tree.specs.Wrap.{wrap, bits_of}
+use Rattle.kernel_tree.specs.Wrap.{wrap, bits_of, byte_count, log_bytes}
 use Rattle.kernel_meaning.specs.Operators.{word}
-use Rattle.kernel_meaning.specs.Eval.{address, byte_count}
+use Rattle.kernel_meaning.specs.Eval.{address}
 use Rattle.kernel_meaning.proofs.Residues.{word-add}
 use Rattle.kernel_meaning.proofs.TypeRanges.{wrap-of, of-fits}
 use Rattle.machine_model.specs.declared.outcome.StopKind.TheVariants.{Read}
@@ -47,13 +47,13 @@ use Rattle.lane_emit.proofs.Shifts.{lsl_does}
 use Rattle.lane_emit.proofs.CopyCode.{extend_z}
 use Rattle.lane_emit.proofs.Stretches.{ready_then, only_same, only_then, only_wrote, lanes_z, done_z}
 use Rattle.chunk_emit.specs.Registers.{Layout, z_of, IsValueUsed}
-use Rattle.chunk_emit.specs.ChunkCode.{dtype_of, memory_size, gather_word, gather_by, reach_type, cut_reach, cut_word, gather_code, op_words, vectors, puts}
+use Rattle.chunk_emit.specs.ChunkCode.{dtype_of, gather_word, gather_by, reach_type, cut_reach, cut_word, gather_code, op_words, vectors, puts}
 use Rattle.chunk_emit.specs.Chunk.{Setting, chunk_of, count_of, Holds}
 use Rattle.chunk_emit.specs.Fits.{Assigned, IsReach, FitsOperand, FitsMask, MakesValue}
 use Rattle.chunk_emit.specs.ItemsRun.{Does, does_fine, does_fail}
 use Rattle.chunk_emit.proofs.DraftVectors.{do_goes}
 use Rattle.chunk_emit.proofs.ItemLanes.{first_short, first_holds, lane_out, Own, OwnColumn, own_fine, own_fail, own_column}
-use Rattle.chunk_emit.proofs.ChunkStates.{holds_on, ready, mask_exact, operand_right, inside, outside}
+use Rattle.chunk_emit.proofs.ChunkStates.{holds_on, ready, mask_exact, operand_right, lane_below_and, outside}
 use Rattle.chunk_emit.proofs.PureItems.{value_moves}
 use Rattle.chunk_emit.proofs.LoadForms.{IsForm, is_form, bytes_power}
 use Rattle.chunk_emit.proofs.Loads.{read_lane, read_does, read_of, lane_value, does_after}
@@ -69,7 +69,7 @@ gather_does ty.I8 u d m base offsets = refl
 gather_does other u d m base offsets = refl
 
 -- the bytes of an element, as a shift
-byte_shift : (t : Ty) → 2 ^ memory_size t ≡ byte_count t
+byte_shift : (t : Ty) → 2 ^ log_bytes t ≡ byte_count t
 byte_shift ty.I8 = refl
 byte_shift other = refl
 
@@ -77,7 +77,7 @@ most_bits : (t : Ty) → bits_of t ≤ 64
 most_bits ty.I8 = omega arith
 most_bits other = omega arith
 
-few_shift : (t : Ty) → memory_size t < 64
+few_shift : (t : Ty) → log_bytes t < 64
 few_shift ty.I8 = omega arith
 few_shift other = omega arith
 
@@ -138,7 +138,7 @@ times_one : (v : ℤ) → v *ℤ pos 1 ≡ v
 times_one v = omega (arith, ints)
 
 -- an index times the size of an element is its offset
-offset_is : (t : Ty) (v : ℤ) → v *ℤ pos (2 ^ memory_size t) ≡ pos (byte_count t) *ℤ v
+offset_is : (t : Ty) (v : ℤ) → v *ℤ pos (2 ^ log_bytes t) ≡ pos (byte_count t) *ℤ v
 offset_is t v = ap (λ n. v *ℤ pos n) (byte_shift t) ∙ *ℤ_comm v (pos (byte_count t))
 
 module _ (l : Layout) (fit : Assigned l) (f : Setting) (d : Laid) (rest : List DraftEntry) (p : ℕ) (t : Lanes) (mask : Option ℕ) (fm : FitsMask l p mask) (a : List ℕ) (x : ℕ) (ty : Ty) (reach : Option ℕ) (U : Ty) (y : Operand) (low : x < 8) (based : slice_index f.x x ≡ word (nth_value f.names x)) (wide : f.w ≡ D) (makes : MakesValue l p ty) (used : IsValueUsed l p) where
@@ -209,48 +209,48 @@ module _ (l : Layout) (fit : Assigned l) (f : Setting) (d : Laid) (rest : List D
     memory_is : u.memory ≡ t.memory
     memory_is = only.memory ∙ h.memory
 
-    count_is : count ≡ count_of f
-    count_is = ap₂ lanes (only.vl ∙ h.vl) element_is
+    gather_count : count ≡ count_of f
+    gather_count = ap₂ lanes (only.vl ∙ h.vl) element_is
 
-    p_is : p_at u m ≡ p_at s m
-    p_is = ap (λ ps. slice_index_or ps m []) only.p
+    gather_mask_kept : p_at u m ≡ p_at s m
+    gather_mask_kept = ap (λ ps. slice_index_or ps m []) only.p
 
-    on_in : (e : ℕ) → e < f.n → on e ≡ on_mask mask (t.lane (f.i + e))
-    on_in e lt = ap₂ (λ w ps. active w ps e) element_is p_is ∙ mask_exact h mask fm e (omega (arith, lt, h.few)) ∙ inside e f.n _ lt
+    gather_on_in : (e : ℕ) → e < f.n → on e ≡ on_mask mask (t.lane (f.i + e))
+    gather_on_in e lt = ap₂ (λ w ps. active w ps e) element_is gather_mask_kept ∙ mask_exact h mask fm e (omega (arith, lt, h.few)) ∙ lane_below_and e f.n _ lt
 
-    on_out : (e : ℕ) → f.n ≤ e → e < count_of f → on e ≡ false
-    on_out e le lt = ap₂ (λ w ps. active w ps e) element_is p_is ∙ mask_exact h mask fm e lt ∙ outside e f.n _ le
+    gather_on_out : (e : ℕ) → f.n ≤ e → e < count_of f → on e ≡ false
+    gather_on_out e le lt = ap₂ (λ w ps. active w ps e) element_is gather_mask_kept ∙ mask_exact h mask fm e lt ∙ outside e f.n _ le
 
-    base_is : x_or_sp u x ≡ word (nth_value f.names x)
-    base_is = ap (λ b. if b then u.sp else x_at u x) (ne_eqb x 31 (λ e. absurd (omega (arith, low, e)))) ∙ ap (λ xs. slice_index xs x) only.x ∙ h.x x (λ e. absurd (omega (arith, low, e))) ∙ based
+    gather_base : x_or_sp u x ≡ word (nth_value f.names x)
+    gather_base = ap (λ b. if b then u.sp else x_at u x) (ne_eqb x 31 (λ e. absurd (omega (arith, low, e)))) ∙ ap (λ xs. slice_index xs x) only.x ∙ h.x x (λ e. absurd (omega (arith, low, e))) ∙ based
 
     spot_is : (e : ℕ) → e < f.n → spot e ≡ place (f.i + e) (t.lane (f.i + e))
     spot_is e lt =
-        ap₂ sum base_is (offsets e lt)
+        ap₂ sum gather_base (offsets e lt)
         ∙ sym (word-add (nth_value f.names x) (pos (byte_count ty) *ℤ element e))
 
     fault_is : (e : ℕ) → e < f.n → lane_fault form u.memory spot e ≡ fault (f.i + e) (t.lane (f.i + e))
     fault_is e lt = ap (λ mem. first_fault (can_read mem) (spot e) (width_bytes form.memory)) memory_is ∙ ap₂ (first_fault (can_read t.memory)) (spot_is e lt) is.memory
 
-    number_is : (e : ℕ) → e < f.n → number_at u.memory (spot e) (width_bytes form.memory) ≡ number (f.i + e) (t.lane (f.i + e))
-    number_is e lt = ap (λ mem. number_at mem (spot e) (width_bytes form.memory)) memory_is ∙ ap₂ (number_at t.memory) (spot_is e lt) is.memory
+    gather_number : (e : ℕ) → e < f.n → number_at u.memory (spot e) (width_bytes form.memory) ≡ number (f.i + e) (t.lane (f.i + e))
+    gather_number e lt = ap (λ mem. number_at mem (spot e) (width_bytes form.memory)) memory_is ∙ ap₂ (number_at t.memory) (spot_is e lt) is.memory
 
     number_low : (e : ℕ) → number (f.i + e) (t.lane (f.i + e)) < 2 ^ bits_of ty
     number_low e = subst (λ k. number (f.i + e) (t.lane (f.i + e)) < k) (bytes_power ty) (subst (λ mem. number_at mem (place (f.i + e) (t.lane (f.i + e))) (byte_count ty) < 256 ^ byte_count ty) memory_is (number_at-below u.memory (place (f.i + e) (t.lane (f.i + e))) (byte_count ty) u_is.mapped))
 
     cols : OwnColumn new f.n f.i t (first_true test f.n 0) (column act f.n f.i t)
-    cols = own_column act bad new test f.i f.n 0 f.i t (omega arith) own (λ e le lt. ap₂ (λ b o. b && is_some o) (on_in e (omega (arith, lt))) (fault_is e (omega (arith, lt))))
+    cols = own_column act bad new test f.i f.n 0 f.i t (omega arith) own (λ e le lt. ap₂ (λ b o. b && is_some o) (gather_on_in e (omega (arith, lt))) (fault_is e (omega (arith, lt))))
 
     short : first_true test count 0 ≡ first_true test f.n 0
-    short = first_short test count f.n 0 (omega (arith, h.few, count_is)) (λ e le lt. ap (λ b. b && is_some (lane_fault form u.memory spot e)) (on_out e (omega (arith, le)) (omega (arith, lt, count_is))))
+    short = first_short test count f.n 0 (omega (arith, h.few, gather_count)) (λ e le lt. ap (λ b. b && is_some (lane_fault form u.memory spot e)) (gather_on_out e (omega (arith, le)) (omega (arith, lt, gather_count))))
 
     value_is : (e : ℕ) → e < f.n → at f.w made e ≡ held f.w (val (f.i + e) (t.lane (f.i + e)))
     value_is e lt =
-        let inside_all : e < count = omega (arith, lt, h.few, count_is) in
+        let inside_all : e < count = omega (arith, lt, h.few, gather_count) in
         ap (λ w. at w made e) wide
         ∙ ap (λ w. at D (register (width_bytes w) (loaded_lane form u.memory on spot) count) e) is.element
         ∙ at-register D (loaded_lane form u.memory on spot) count e inside_all
-        ∙ ap₂ (λ b n. cond b (extended form n) 0 % modulus D) (on_in e lt) (number_is e lt)
+        ∙ ap₂ (λ b n. cond b (extended form n) 0 % modulus D) (gather_on_in e lt) (gather_number e lt)
         ∙ lane_value ty D (on_mask mask (t.lane (f.i + e))) (number (f.i + e) (t.lane (f.i + e))) is (number_low e)
         ∙ ap (λ w. held w (val (f.i + e) (t.lane (f.i + e)))) (sym wide)
 
@@ -260,27 +260,27 @@ module _ (l : Layout) (fit : Assigned l) (f : Setting) (d : Laid) (rest : List D
     does : do_vector (gather_word ty (z_of l p) m x o) u ≡ load_ends (first_true test count 0)
     does = gather_does ty u (z_of l p) m x o
 
-    refused : (e : ℕ) (b : Option ℕ) → lane_fault form u.memory spot e ≡ b → is_some b ≡ true → load_ends (first_true test count 0) ≡ load_ends (Some e) → Stops d (puts (vectors (gather_word ty (z_of l p) m x o ∷ [])) rest) u Read u.memory 1
-    refused e None eq some ends = absurd cc
-    refused e (Some z) eq some ends = put_stops u.pc z (does ∙ ends ∙ ap (λ o. after_load (or_fault (read_fault o) (record { z = made; ffr = u.ffr })) (z_of l p) u) eq)
+    gather_stops_at_fault : (e : ℕ) (b : Option ℕ) → lane_fault form u.memory spot e ≡ b → is_some b ≡ true → load_ends (first_true test count 0) ≡ load_ends (Some e) → Stops d (puts (vectors (gather_word ty (z_of l p) m x o ∷ [])) rest) u Read u.memory 1
+    gather_stops_at_fault e None eq some ends = absurd cc
+    gather_stops_at_fault e (Some z) eq some ends = put_stops u.pc z (does ∙ ends ∙ ap (λ o. after_load (or_fault (read_fault o) (record { z = made; ffr = u.ffr })) (z_of l p) u) eq)
 
-    ends : (b : Option ℕ) {out : Out} → first_true test count 0 ≡ b → OwnColumn new f.n f.i t b out → Does l f d (puts (vectors (gather_word ty (z_of l p) m x o ∷ [])) rest) u rest (p + 1) 1 out
-    ends b eq (own_fine v mem here before past) =
+    gather_does_column : (b : Option ℕ) {out : Out} → first_true test count 0 ≡ b → OwnColumn new f.n f.i t b out → Does l f d (puts (vectors (gather_word ty (z_of l p) m x o ∷ [])) rest) u rest (p + 1) 1 out
+    gather_does_column b eq (own_fine v mem here before past) =
         let end = next (with_z u (z_of l p) made) in
         let done : IsState end = load_put u end (z_of l p) None form.element (loaded_lane form u.memory on spot) u.ffr u_is refl in
         let written : z_at end (z_of l p) ≡ made = get_or-set_same u.z (z_of l p) made [] (omega (arith, u_is.z_count, fit.z_small p)) in
         does_fine end (put_goes (does ∙ ap load_ends eq))
         (holds_on h (value_moves h fit ty (λ e. val (f.i + e) (t.lane (f.i + e))) v end makes used mem here done (only_then only (only_wrote (z_of l p) u made))
         (λ e lt. ap (λ z. at f.w z e) written ∙ value_is e lt) (λ e lt. read_of ty (on_mask mask (t.lane (f.i + e))) (number (f.i + e) (t.lane (f.i + e))))))
-    ends b eq (own_fail e) =
+    gather_does_column b eq (own_fail e) =
         let on_both = first_holds test count 0 e eq in
-        does_fail Read (inl refl) (subst (λ mem. Stops d (puts (vectors (gather_word ty (z_of l p) m x o ∷ [])) rest) u Read mem 1) memory_is (refused e (lane_fault form u.memory spot e) refl (and_parts (on e) (is_some (lane_fault form u.memory spot e)) on_both).1 (ap load_ends eq)))
+        does_fail Read (inl refl) (subst (λ mem. Stops d (puts (vectors (gather_word ty (z_of l p) m x o ∷ [])) rest) u Read mem 1) memory_is (gather_stops_at_fault e (lane_fault form u.memory spot e) refl (and_parts (on e) (is_some (lane_fault form u.memory spot e)) on_both).1 (ap load_ends eq)))
 
     pub gather_from : Does l f d (puts (vectors (gather_word ty (z_of l p) m x o ∷ [])) rest) u rest (p + 1) 1 (column act f.n f.i t)
-    gather_from = ends (first_true test f.n 0) short cols
+    gather_from = gather_does_column (first_true test f.n 0) short cols
 
   -- the shift and the read, from a state in which a register has the elements
-  by_shift : {s : State} → Holds l f p t s → (v : State) → IsState v → OnlyZ (z_of l p) s v → (o : ℕ) → ZRight D f.n (z_at v o) element → (k : ℕ) → memory_size ty ≡ k
+  by_shift : {s : State} → Holds l f p t s → (v : State) → IsState v → OnlyZ (z_of l p) s v → (o : ℕ) → ZRight D f.n (z_at v o) element → (k : ℕ) → log_bytes ty ≡ k
       → Does l f d (puts (vectors (gather_by k ty (z_of l p) m x o)) rest) v rest (p + 1) (length (vectors (gather_by k ty (z_of l p) m x o))) (column act f.n f.i t)
   by_shift {s = s} h v v_is only o right zero e =
       gather_from s h v v_is only o (λ j lt. right j lt ∙ ap (held D) (sym (times_one (element j)) ∙ ap (λ n. element j *ℤ pos (2 ^ n)) (sym e) ∙ offset_is ty (element j)))
@@ -302,10 +302,10 @@ module _ (l : Layout) (fit : Assigned l) (f : Setting) (d : Laid) (rest : List D
 
       by : (o : Option ℕ) → cut_reach reach U ≡ o → Does l f d (puts (vectors (gather_code ty o (z_of l p) m x (l.registers.source y))) rest) s rest (p + 1) (length (vectors (gather_code ty o (z_of l p) m x (l.registers.source y)))) (column act f.n f.i t)
       by None e =
-          by_shift h s h.is (only_same (z_of l p) s) (l.registers.source y) (λ j lt. whole j lt ∙ ap (held D) (sym (uncut reach U reached e (index j) (right.typed j lt)))) (memory_size ty) refl
+          by_shift h s h.is (only_same (z_of l p) s) (l.registers.source y) (λ j lt. whole j lt ∙ ap (held D) (sym (uncut reach U reached e (index j) (right.typed j lt)))) (log_bytes ty) refl
       by (Some n) e =
           let mine : reach ≡ Some n = cut_same reach U n e in
           let near : IsReach (Some n) = subst IsReach mine reached in
           let first : MakesZ (cut_word n (z_of l p) (l.registers.source y) ∷ []) s (z_of l p) D f.n (λ j. wrap (reach_type n) (index j)) = cut_z n (z_of l p) (l.registers.source y) index (subst (λ w. Ready w f.n s) wide (ready h)) (fit.z_small p) right.number whole in
-          does_after (suc (length (vectors (gather_by (memory_size ty) ty (z_of l p) m x (z_of l p))))) (omega arith) (do_goes (cut_word n (z_of l p) (l.registers.source y) ∷ []) s first.end first.runs)
-          (by_shift h first.end first.is first.only (z_of l p) (λ j lt. first.right j lt ∙ ap (held D) (sym (reach_wraps n near (index j)) ∙ ap (λ r. index_value r (index j)) (sym mine))) (memory_size ty) refl)
+          does_after (suc (length (vectors (gather_by (log_bytes ty) ty (z_of l p) m x (z_of l p))))) (omega arith) (do_goes (cut_word n (z_of l p) (l.registers.source y) ∷ []) s first.end first.runs)
+          (by_shift h first.end first.is first.only (z_of l p) (λ j lt. first.right j lt ∙ ap (held D) (sym (reach_wraps n near (index j)) ∙ ap (λ r. index_value r (index j)) (sym mine))) (log_bytes ty) refl)

@@ -129,39 +129,39 @@ made_taken q r own cast x a base ty c joined true e h = record {
 }
 made_taken q r own cast x a base ty c joined false e h = absurd cc
 
-pub taken : (q : ℕ) (op next joined : Op) → past_cast q op next ≡ Some joined → Taken q op next joined
-taken q (ops.Cast s t x) (ops.Store a base ty c (Made r)) joined h = made_taken q r s t x a base ty c joined (nat_eq q r) refl h
-taken q (ops.Cast s t x) (ops.Store a base ty c (Constant u z)) joined h = absurd cc
-taken q (ops.Cast s t x) (ops.Store a base ty c (Outer p)) joined h = absurd cc
-taken q (ops.Cast s t x) (ops.Store a base ty c LoopIndex) joined h = absurd cc
-taken q (ops.Cast s t x) (ops.Load a base ty c) joined h = absurd cc
-taken q (ops.Cast s t x) (ops.Gather a base ty r u y) joined h = absurd cc
-taken q (ops.Cast s t x) (ops.Unary op ty y) joined h = absurd cc
-taken q (ops.Cast s t x) (ops.Binary op ty y z) joined h = absurd cc
-taken q (ops.Cast s t x) (ops.Shift left n ty y) joined h = absurd cc
-taken q (ops.Cast s t x) (ops.Cast own ty y) joined h = absurd cc
-taken q (ops.Cast s t x) (ops.Let ty y) joined h = absurd cc
-taken q (ops.Cast s t x) (ops.Select ty c y z) joined h = absurd cc
-taken q (ops.Cast s t x) (ops.Update v op ty y) joined h = absurd cc
-taken q (ops.Cast s t x) (ops.Compare op ty y z) joined h = absurd cc
-taken q (ops.Cast s t x) (ops.Not c) joined h = absurd cc
-taken q (ops.Cast s t x) (ops.And c) joined h = absurd cc
-taken q (ops.Cast s t x) (ops.Or c d) joined h = absurd cc
-taken q (ops.Cast s t x) (ops.Break c) joined h = absurd cc
-taken q (ops.Load a base ty c) next joined h = absurd cc
-taken q (ops.Gather a base ty r u y) next joined h = absurd cc
-taken q (ops.Unary op ty y) next joined h = absurd cc
-taken q (ops.Binary op ty y z) next joined h = absurd cc
-taken q (ops.Shift left n ty y) next joined h = absurd cc
-taken q (ops.Let ty y) next joined h = absurd cc
-taken q (ops.Select ty c y z) next joined h = absurd cc
-taken q (ops.Store a base ty c v) next joined h = absurd cc
-taken q (ops.Update v op ty y) next joined h = absurd cc
-taken q (ops.Compare op ty y z) next joined h = absurd cc
-taken q (ops.Not c) next joined h = absurd cc
-taken q (ops.And c) next joined h = absurd cc
-taken q (ops.Or c d) next joined h = absurd cc
-taken q (ops.Break c) next joined h = absurd cc
+pub cast_is_taken : (q : ℕ) (op next joined : Op) → past_cast q op next ≡ Some joined → Taken q op next joined
+cast_is_taken q (ops.Cast s t x) (ops.Store a base ty c (Made r)) joined h = made_taken q r s t x a base ty c joined (nat_eq q r) refl h
+cast_is_taken q (ops.Cast s t x) (ops.Store a base ty c (Constant u z)) joined h = absurd cc
+cast_is_taken q (ops.Cast s t x) (ops.Store a base ty c (Outer p)) joined h = absurd cc
+cast_is_taken q (ops.Cast s t x) (ops.Store a base ty c LoopIndex) joined h = absurd cc
+cast_is_taken q (ops.Cast s t x) (ops.Load a base ty c) joined h = absurd cc
+cast_is_taken q (ops.Cast s t x) (ops.Gather a base ty r u y) joined h = absurd cc
+cast_is_taken q (ops.Cast s t x) (ops.Unary op ty y) joined h = absurd cc
+cast_is_taken q (ops.Cast s t x) (ops.Binary op ty y z) joined h = absurd cc
+cast_is_taken q (ops.Cast s t x) (ops.Shift left n ty y) joined h = absurd cc
+cast_is_taken q (ops.Cast s t x) (ops.Cast own ty y) joined h = absurd cc
+cast_is_taken q (ops.Cast s t x) (ops.Let ty y) joined h = absurd cc
+cast_is_taken q (ops.Cast s t x) (ops.Select ty c y z) joined h = absurd cc
+cast_is_taken q (ops.Cast s t x) (ops.Update v op ty y) joined h = absurd cc
+cast_is_taken q (ops.Cast s t x) (ops.Compare op ty y z) joined h = absurd cc
+cast_is_taken q (ops.Cast s t x) (ops.Not c) joined h = absurd cc
+cast_is_taken q (ops.Cast s t x) (ops.And c) joined h = absurd cc
+cast_is_taken q (ops.Cast s t x) (ops.Or c d) joined h = absurd cc
+cast_is_taken q (ops.Cast s t x) (ops.Break c) joined h = absurd cc
+cast_is_taken q (ops.Load a base ty c) next joined h = absurd cc
+cast_is_taken q (ops.Gather a base ty r u y) next joined h = absurd cc
+cast_is_taken q (ops.Unary op ty y) next joined h = absurd cc
+cast_is_taken q (ops.Binary op ty y z) next joined h = absurd cc
+cast_is_taken q (ops.Shift left n ty y) next joined h = absurd cc
+cast_is_taken q (ops.Let ty y) next joined h = absurd cc
+cast_is_taken q (ops.Select ty c y z) next joined h = absurd cc
+cast_is_taken q (ops.Store a base ty c v) next joined h = absurd cc
+cast_is_taken q (ops.Update v op ty y) next joined h = absurd cc
+cast_is_taken q (ops.Compare op ty y z) next joined h = absurd cc
+cast_is_taken q (ops.Not c) next joined h = absurd cc
+cast_is_taken q (ops.And c) next joined h = absurd cc
+cast_is_taken q (ops.Or c d) next joined h = absurd cc
+cast_is_taken q (ops.Break c) next joined h = absurd cc
 
 -- both items as one step
 module _ (l : Layout) (fit : Assigned l) (f : Setting) (d : Laid) (rest : List DraftEntry) {q p : ℕ} {t : Lanes} {s : State} (h : Holds l f q t s) (first second : Option ℕ) (mask : FitsMask l q first) (following_mask : FitsMask l p second) (lt : q + 1 ≤ p) (between : NoneBetween l (q + 1) p) (last : l.z_last_use q ≤ p) where
@@ -206,7 +206,7 @@ items_run l f d rest (it ∷ next ∷ items) p t s fit k h =
         (then_does (length (words ++ items_words f.w l (next ∷ items))) (by_item (acts_of f.names (next ∷ items)) f.n f.i) (length-append words (items_words f.w l (next ∷ items))) here more)
     step (Some joined) e more last =
         let words = item_words f.w l (record next { op = joined }) in
-        let here = pair_does l fit f d (puts (items_words f.w l items) rest) (holds_later h it.item k.0 k.1) it.mask next.mask k.2 k.5.2 k.5.0 k.5.1 (k.4 joined e) it.op next.op joined (taken it.item it.op next.op joined e) k.3 k.5.3 in
+        let here = pair_does l fit f d (puts (items_words f.w l items) rest) (holds_later h it.item k.0 k.1) it.mask next.mask k.2 k.5.2 k.5.0 k.5.1 (k.4 joined e) it.op next.op joined (cast_is_taken it.item it.op next.op joined e) k.3 k.5.3 in
         subst (λ es. Does l f d es s rest (following_items p (it ∷ next ∷ items)) (length (words ++ items_words f.w l items)) (by_item (acts_of f.names (it ∷ next ∷ items)) f.n f.i t)) (sym (puts-append words (items_words f.w l items) rest))
         (subst (λ o. Does l f d (puts words (puts (items_words f.w l items) rest)) s rest (following_items p (it ∷ next ∷ items)) (length (words ++ items_words f.w l items)) o) (go_twice (column (item_act f.names it) f.n f.i t) (column (item_act f.names next) f.n f.i) (by_item (acts_of f.names items) f.n f.i))
         (then_does (length (words ++ items_words f.w l items)) (by_item (acts_of f.names items) f.n f.i) (length-append words (items_words f.w l items)) here last))

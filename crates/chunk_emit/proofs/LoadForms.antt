@@ -11,8 +11,7 @@ use Rattle.guest_types.specs.Lanes.{sign_extended}
 use Rattle.guest_types.specs.LaneMemory.{load_form, extended}
 use Rattle.kernel_tree.specs.declared.ops.Ty.{Ty}
 use Rattle.kernel_tree.specs.declared.ops.Ty.TheVariants as ty
-use Rattle.kernel_tree.specs.Wrap.{wrap, residue, bits_of, is_signed, width_of}
-use Rattle.kernel_meaning.specs.Eval.{byte_count}
+use Rattle.kernel_tree.specs.Wrap.{wrap, residue, bits_of, is_signed, integer_width, byte_count}
 use Rattle.lane_emit.proofs.Residues.{held, held-plain}
 use Rattle.lane_emit.proofs.ExtendedLanes.{held-wrap, sxtb-held, sxth-held, sxtw-held}
 use Rattle.chunk_emit.specs.ChunkCode.{dtype_of}
@@ -23,7 +22,7 @@ up t w v le lt = let most : 2 ^ bits_of t ≤ 2 ^ width_bits w = pow_mono le in 
 
 unsigned_held : (t : Ty) (w : Width) (v : ℕ) → is_signed t ≡ false → bits_of t ≤ width_bits w → v < 2 ^ bits_of t → v ≡ held w (wrap t (pos v))
 unsigned_held t w v kind le lt =
-    let is : wrap t (pos v) ≡ pos v = ap (λ b. if b then cast_signed (width_of t) (residue (bits_of t) (pos v)) else pos (residue (bits_of t) (pos v))) kind ∙ ap pos (mod-eq_of_lt lt) in
+    let is : wrap t (pos v) ≡ pos v = ap (λ b. if b then cast_signed (integer_width t) (residue (bits_of t) (pos v)) else pos (residue (bits_of t) (pos v))) kind ∙ ap pos (mod-eq_of_lt lt) in
     sym (ap (held w) is ∙ held-plain w v (up t w v le lt))
 
 same_held : (t : Ty) (w : Width) (v : ℕ) → bits_of t ≡ width_bits w → v < 2 ^ bits_of t → v ≡ held w (wrap t (pos v))

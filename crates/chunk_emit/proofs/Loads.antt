@@ -13,9 +13,9 @@ use Rattle.guest_types.proofs.Stores.{number_at-below}
 use Rattle.guest_types.proofs.AtWidths.{at-register}
 use Rattle.kernel_tree.specs.declared.ops.Ty.{Ty}
 use Rattle.kernel_tree.specs.declared.ops.Ty.TheVariants as ty
-use Rattle.kernel_tree.specs.Wrap.{wrap, bits_of}
+use Rattle.kernel_tree.specs.Wrap.{wrap, bits_of, byte_count}
 use Rattle.kernel_meaning.specs.Operators.{word}
-use Rattle.kernel_meaning.specs.Eval.{address, byte_count, read_value}
+use Rattle.kernel_meaning.specs.Eval.{address, read_value}
 use Rattle.machine_model.specs.declared.outcome.StopKind.TheVariants.{Read}
 use Rattle.machine_model.specs.InstructionTable.{Vector}
 use Rattle.machine_model.specs.Machine.{State, Step, x_at, x_or_sp, z_at, with_z, p_at, next}
@@ -40,11 +40,12 @@ use Rattle.chunk_emit.specs.Chunk.{Setting, count_of, Holds}
 use Rattle.chunk_emit.specs.Fits.{Assigned, FitsMask, MakesValue, IsNear}
 use Rattle.chunk_emit.specs.ItemsRun.{Does, does_fine, does_fail}
 use Rattle.chunk_emit.proofs.ItemLanes.{first_short, first_holds, lane_out, Own, OwnColumn, own_fine, own_fail, own_column}
-use Rattle.chunk_emit.proofs.ChunkStates.{holds_on, mask_exact, inside, outside}
+use Rattle.chunk_emit.proofs.ChunkStates.{holds_on, mask_exact, lane_below_and, outside}
 use Rattle.chunk_emit.proofs.PureItems.{value_moves}
 use Rattle.chunk_emit.proofs.Indexes.{indexed, lane_place}
 use Rattle.chunk_emit.proofs.LoadForms.{IsForm, is_form, bytes_power}
 pub use Rattle.lane_emit.proofs.Stretches.{only_wrote}
+use Rattle.lane_emit.proofs.JoinLaws.{zero_of}
 
 -- the value of a read in one lane: 0 outside its mask
 abbrev pub read_lane : Ty → Bool → ℕ → ℤ
@@ -58,17 +59,6 @@ read_does t q i s true None n = refl
 read_does t q i s true (Some fault) n = refl
 read_does t q i s false None n = refl
 read_does t q i s false (Some fault) n = refl
-
--- 0 is a value of each type
-pub zero_of : (t : Ty) → IsOf t (pos 0)
-zero_of ty.I8 = wrap-is_of ty.I8 (pos 0)
-zero_of ty.I16 = wrap-is_of ty.I16 (pos 0)
-zero_of ty.I32 = wrap-is_of ty.I32 (pos 0)
-zero_of ty.I64 = wrap-is_of ty.I64 (pos 0)
-zero_of ty.U8 = wrap-is_of ty.U8 (pos 0)
-zero_of ty.U16 = wrap-is_of ty.U16 (pos 0)
-zero_of ty.U32 = wrap-is_of ty.U32 (pos 0)
-zero_of ty.U64 = wrap-is_of ty.U64 (pos 0)
 
 pub read_of : (t : Ty) (b : Bool) (n : ℕ) → IsOf t (read_lane t b n)
 read_of t true n = wrap-is_of t (pos n)
@@ -139,42 +129,42 @@ module _ (l : Layout) (fit : Assigned l) (f : Setting) (d : Laid) (rest : List D
     abbrev made : List ℕ
     made = register (width_bytes form.element) (loaded_lane form u.memory on spot) count
 
-    count_is : count ≡ count_of f
-    count_is = ap₂ lanes h.vl is.element
+    load_count : count ≡ count_of f
+    load_count = ap₂ lanes h.vl is.element
 
-    on_in : (e : ℕ) → e < f.n → on e ≡ on_mask mask (t.lane (f.i + e))
-    on_in e lt = ap (λ w. active w (p_at u m) e) is.element ∙ mask_exact h mask fm e (omega (arith, lt, h.few)) ∙ inside e f.n _ lt
+    load_on_in : (e : ℕ) → e < f.n → on e ≡ on_mask mask (t.lane (f.i + e))
+    load_on_in e lt = ap (λ w. active w (p_at u m) e) is.element ∙ mask_exact h mask fm e (omega (arith, lt, h.few)) ∙ lane_below_and e f.n _ lt
 
-    on_out : (e : ℕ) → f.n ≤ e → e < count_of f → on e ≡ false
-    on_out e le lt = ap (λ w. active w (p_at u m) e) is.element ∙ mask_exact h mask fm e lt ∙ outside e f.n _ le
+    load_on_out : (e : ℕ) → f.n ≤ e → e < count_of f → on e ≡ false
+    load_on_out e le lt = ap (λ w. active w (p_at u m) e) is.element ∙ mask_exact h mask fm e lt ∙ outside e f.n _ le
 
-    base_is : x_or_sp u x ≡ word (nth_value f.names x)
-    base_is = ap (λ b. if b then u.sp else x_at u x) (ne_eqb x 31 (λ e. absurd (omega (arith, low, e)))) ∙ h.x x (λ e. absurd (omega (arith, low, e))) ∙ based
+    load_base : x_or_sp u x ≡ word (nth_value f.names x)
+    load_base = ap (λ b. if b then u.sp else x_at u x) (ne_eqb x 31 (λ e. absurd (omega (arith, low, e)))) ∙ h.x x (λ e. absurd (omega (arith, low, e))) ∙ based
 
     spot_is : (e : ℕ) → spot e ≡ place (f.i + e)
-    spot_is e = ap (λ k. lane_address (x_or_sp u x) (x_at u (index_of c)) k e) is.memory ∙ lane_place ty (nth_value f.names x) c f.i e (x_or_sp u x) (x_at u (index_of c)) base_is at_index
+    spot_is e = ap (λ k. lane_address (x_or_sp u x) (x_at u (index_of c)) k e) is.memory ∙ lane_place ty (nth_value f.names x) c f.i e (x_or_sp u x) (x_at u (index_of c)) load_base at_index
 
     fault_is : (e : ℕ) → lane_fault form u.memory spot e ≡ fault (f.i + e)
     fault_is e = ap (λ mem. first_fault (can_read mem) (spot e) (width_bytes form.memory)) h.memory ∙ ap₂ (first_fault (can_read t.memory)) (spot_is e) is.memory
 
-    number_is : (e : ℕ) → number_at u.memory (spot e) (width_bytes form.memory) ≡ number (f.i + e)
-    number_is e = ap (λ mem. number_at mem (spot e) (width_bytes form.memory)) h.memory ∙ ap₂ (number_at t.memory) (spot_is e) is.memory
+    load_number : (e : ℕ) → number_at u.memory (spot e) (width_bytes form.memory) ≡ number (f.i + e)
+    load_number e = ap (λ mem. number_at mem (spot e) (width_bytes form.memory)) h.memory ∙ ap₂ (number_at t.memory) (spot_is e) is.memory
 
     number_low : (e : ℕ) → number (f.i + e) < 2 ^ bits_of ty
     number_low e = subst (λ k. number (f.i + e) < k) (bytes_power ty) (subst (λ mem. number_at mem (place (f.i + e)) (byte_count ty) < 256 ^ byte_count ty) h.memory (number_at-below u.memory (place (f.i + e)) (byte_count ty) h.is.mapped))
 
     cols : OwnColumn new f.n f.i t (first_true test f.n 0) (column act f.n f.i t)
-    cols = own_column act bad new test f.i f.n 0 f.i t (omega arith) own (λ e le lt. ap₂ (λ b o. b && is_some o) (on_in e (omega (arith, lt))) (fault_is e))
+    cols = own_column act bad new test f.i f.n 0 f.i t (omega arith) own (λ e le lt. ap₂ (λ b o. b && is_some o) (load_on_in e (omega (arith, lt))) (fault_is e))
 
     short : first_true test count 0 ≡ first_true test f.n 0
-    short = first_short test count f.n 0 (omega (arith, h.few, count_is)) (λ e le lt. ap (λ b. b && is_some (lane_fault form u.memory spot e)) (on_out e (omega (arith, le)) (omega (arith, lt, count_is))))
+    short = first_short test count f.n 0 (omega (arith, h.few, load_count)) (λ e le lt. ap (λ b. b && is_some (lane_fault form u.memory spot e)) (load_on_out e (omega (arith, le)) (omega (arith, lt, load_count))))
 
     value_is : (e : ℕ) → e < f.n → at f.w made e ≡ held f.w (val (f.i + e) (t.lane (f.i + e)))
     value_is e lt =
-        let inside_all : e < count = omega (arith, lt, h.few, count_is) in
+        let inside_all : e < count = omega (arith, lt, h.few, load_count) in
         ap (λ w. at f.w (register (width_bytes w) (loaded_lane form u.memory on spot) count) e) is.element
         ∙ at-register f.w (loaded_lane form u.memory on spot) count e inside_all
-        ∙ ap₂ (λ b n. cond b (extended form n) 0 % modulus f.w) (on_in e lt) (number_is e)
+        ∙ ap₂ (λ b n. cond b (extended form n) 0 % modulus f.w) (load_on_in e lt) (load_number e)
         ∙ lane_value ty f.w (on_mask mask (t.lane (f.i + e))) (number (f.i + e)) is (number_low e)
 
     abbrev load_ends : Option ℕ → Step
@@ -183,24 +173,24 @@ module _ (l : Layout) (fit : Assigned l) (f : Setting) (d : Laid) (rest : List D
     does : do_vector (load_word f.w ty (z_of l p) m x (index_of c)) u ≡ load_ends (first_true test count 0)
     does = refl
 
-    refused : (e : ℕ) (o : Option ℕ) → lane_fault form u.memory spot e ≡ o → is_some o ≡ true → load_ends (first_true test count 0) ≡ load_ends (Some e) → Stops d (puts (Vector (load_word f.w ty (z_of l p) m x (index_of c)) ∷ []) rest) u Read u.memory 1
-    refused e None eq some ends = absurd cc
-    refused e (Some z) eq some ends = put_stops u.pc z (ends ∙ ap (λ o. after_load (or_fault (read_fault o) (record { z = made; ffr = u.ffr })) (z_of l p) u) eq)
+    load_stops_at_fault : (e : ℕ) (o : Option ℕ) → lane_fault form u.memory spot e ≡ o → is_some o ≡ true → load_ends (first_true test count 0) ≡ load_ends (Some e) → Stops d (puts (Vector (load_word f.w ty (z_of l p) m x (index_of c)) ∷ []) rest) u Read u.memory 1
+    load_stops_at_fault e None eq some ends = absurd cc
+    load_stops_at_fault e (Some z) eq some ends = put_stops u.pc z (ends ∙ ap (λ o. after_load (or_fault (read_fault o) (record { z = made; ffr = u.ffr })) (z_of l p) u) eq)
 
-    ends : (o : Option ℕ) {out : Out} → first_true test count 0 ≡ o → OwnColumn new f.n f.i t o out → Does l f d (puts (Vector (load_word f.w ty (z_of l p) m x (index_of c)) ∷ []) rest) u rest (p + 1) 1 out
-    ends o eq (own_fine v mem here before past) =
+    load_does_column : (o : Option ℕ) {out : Out} → first_true test count 0 ≡ o → OwnColumn new f.n f.i t o out → Does l f d (puts (Vector (load_word f.w ty (z_of l p) m x (index_of c)) ∷ []) rest) u rest (p + 1) 1 out
+    load_does_column o eq (own_fine v mem here before past) =
         let end = next (with_z u (z_of l p) made) in
         let done : IsState end = load_put u end (z_of l p) None form.element (loaded_lane form u.memory on spot) u.ffr h.is refl in
         let written : z_at end (z_of l p) ≡ made = get_or-set_same u.z (z_of l p) made [] (omega (arith, h.is.z_count, fit.z_small p)) in
         does_fine end (put_goes (ap load_ends eq))
         (holds_on h (value_moves h fit ty (λ e. val (f.i + e) (t.lane (f.i + e))) v end makes used mem here done (only_wrote (z_of l p) u made)
         (λ e lt. ap (λ z. at f.w z e) written ∙ value_is e lt) (λ e lt. read_of ty (on_mask mask (t.lane (f.i + e))) (number (f.i + e)))))
-    ends o eq (own_fail e) =
+    load_does_column o eq (own_fail e) =
         let on_both = first_holds test count 0 e eq in
-        does_fail Read (inl refl) (subst (λ mem. Stops d (puts (Vector (load_word f.w ty (z_of l p) m x (index_of c)) ∷ []) rest) u Read mem 1) h.memory (refused e (lane_fault form u.memory spot e) refl (and_parts (on e) (is_some (lane_fault form u.memory spot e)) on_both).1 (ap load_ends eq)))
+        does_fail Read (inl refl) (subst (λ mem. Stops d (puts (Vector (load_word f.w ty (z_of l p) m x (index_of c)) ∷ []) rest) u Read mem 1) h.memory (load_stops_at_fault e (lane_fault form u.memory spot e) refl (and_parts (on e) (is_some (lane_fault form u.memory spot e)) on_both).1 (ap load_ends eq)))
 
     pub read_does_from : Does l f d (puts (Vector (load_word f.w ty (z_of l p) m x (index_of c)) ∷ []) rest) u rest (p + 1) 1 (column act f.n f.i t)
-    read_does_from = ends (first_true test f.n 0) short cols
+    read_does_from = load_does_column (first_true test f.n 0) short cols
 
   pub load_runs : {s : State} → Holds l f p t s → IsNear c → Does l f d (puts (op_words f.w l p m (ops.Load a (Outer x) (Some ty) c)) rest) s rest (p + 1) (length (op_words f.w l p m (ops.Load a (Outer x) (Some ty) c))) (column act f.n f.i t)
   load_runs h near =

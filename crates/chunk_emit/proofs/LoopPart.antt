@@ -48,13 +48,13 @@ before_count k =
     let both = length-append (params_entries k 0 k.params) (vars_entries k (length k.params) k.vars) in
     omega (arith, p, v, both)
 
-parts : (k : Program) → entries_of k ≡ before k ++ (loop_entries k ++ following k)
-parts k = sym (append_assoc (params_entries k 0 k.params) (vars_entries k (length k.params) k.vars) (loop_entries k ++ following k))
+entries_of_kernel : (k : Program) → entries_of k ≡ before k ++ (loop_entries k ++ following k)
+entries_of_kernel k = sym (append_assoc (params_entries k 0 k.params) (vars_entries k (length k.params) k.vars) (loop_entries k ++ following k))
 
 loop_within : (k : Program) → loop_start k + length (loop_entries k) ≤ length (entries_of k)
 loop_within k =
     let b = before_count k in
-    let all = ap length (parts k) in
+    let all = ap length (entries_of_kernel k) in
     let both = length-append (before k) (loop_entries k ++ following k) in
     let two = length-append (loop_entries k) (following k) in
     omega (arith, b, all, both, two)
@@ -64,7 +64,7 @@ listed_within k = let within = loop_within k in let same = length-map (entries_o
 
 loop_part : (k : Program) → take (length (loop_entries k)) (drop (loop_start k) (listing_of k)) ≡ map (item_of (entries_of k)) (loop_entries k)
 loop_part k =
-    ap (λ n. take (length (loop_entries k)) (drop n (listing_of k))) (sym (before_count k)) ∙ ap (λ es. take (length (loop_entries k)) (drop (length (before k)) (map (item_of (entries_of k)) es))) (parts k)
+    ap (λ n. take (length (loop_entries k)) (drop n (listing_of k))) (sym (before_count k)) ∙ ap (λ es. take (length (loop_entries k)) (drop (length (before k)) (map (item_of (entries_of k)) es))) (entries_of_kernel k)
     ∙ middle_part (item_of (entries_of k)) (before k) (loop_entries k) (following k)
 
 values_last : (all es : List Entry) → map z_last (map (item_of all) es) ≡ map (last_in Z all) es

@@ -34,7 +34,7 @@ use Rattle.chunk_emit.specs.Fits.{Assigned, FitsMask, MakesValue, MakesTruth, Ma
 use Rattle.chunk_emit.specs.ItemsRun.{Does, does_fine}
 use Rattle.chunk_emit.proofs.DraftVectors.{do_goes}
 use Rattle.chunk_emit.proofs.ItemLanes.{first_none, OwnColumn, own_fine, own_column}
-use Rattle.chunk_emit.proofs.ChunkStates.{Moves, holds_on, ready, mask_right, masked}
+use Rattle.chunk_emit.proofs.ChunkStates.{Moves, holds_on, ready, mask_right, and_below_same}
 
 -- ---- what an item leaves of its lane
 
@@ -138,7 +138,7 @@ module _ {l : Layout} {f : Setting} {p : ℕ} {t : Lanes} {s : State} (h : Holds
           values = λ q e lt el. ap (λ (a : Lane). a.value q) (gives e el);
           truths = λ q e lt el. ap (λ (a : Lane). a.truth q) (gives e el) ∙ truth_other (t.lane (f.i + e)) p q (b e) (λ eq. absurd (omega (arith, lt, eq)));
           value = λ lt. absurd (omega (arith, lt, makes));
-          truth = λ lt e el. right e el ∙ masked e f.n _ _ (λ en. sym (ap (λ (a : Lane). a.truth p) (gives e en) ∙ truth_same (t.lane (f.i + e)) p (b e)));
+          truth = λ lt e el. right e el ∙ and_below_same e f.n _ _ (λ en. sym (ap (λ (a : Lane). a.truth p) (gives e en) ∙ truth_same (t.lane (f.i + e)) p (b e)));
           sums = sums_kept u v (λ x is. ap (λ zs. slice_index_or zs (l.sum x) []) only.z) (λ e el. ap (λ (a : Lane). a.shares) (gives e el));
         }
 
@@ -159,9 +159,9 @@ module _ (l : Layout) (fit : Assigned l) (f : Setting) (d : Laid) (rest : List D
       subst (λ o. OwnColumn new f.n f.i t o (column (act_of op) f.n f.i t)) (first_none (λ e. false) f.n 0 (λ j le lt. refl))
       (own_column (act_of op) (λ j a. false) new (λ e. false) f.i f.n 0 f.i t (omega arith) (record { does = λ j u e. ap (λ o. done o j u) (does j u.memory (u.lane j)) }) (λ e le lt. refl))
 
-  ends : (new : ℕ → Lane → Lane) {code : List DraftEntry} {most : ℕ} (end : State) {out : Out} → OwnColumn new f.n f.i t None out → Goes d code s rest end most
+  pure_item_does_column : (new : ℕ → Lane → Lane) {code : List DraftEntry} {most : ℕ} (end : State) {out : Out} → OwnColumn new f.n f.i t None out → Goes d code s rest end most
       → ((u : Lanes) → u.memory ≡ t.memory → ((e : ℕ) → e < f.n → u.lane (f.i + e) ≡ new (f.i + e) (t.lane (f.i + e))) → Moves l f p t s u end) → Does l f d code s rest (p + 1) most out
-  ends new end (own_fine u mem here before past) goes moves = does_fine end goes (holds_on h (moves u mem here))
+  pure_item_does_column new end (own_fine u mem here before past) goes moves = does_fine end goes (holds_on h (moves u mem here))
 
   runs : (op : Op) → OperandsRight c l.registers s op → ItemRuns c l.registers s p m mask op
   runs op operands = lanes_right_law c l.registers s p m mask op (ready h) (fit.z_small p) (fit.p_small p) (mask_right h mask fm) operands
@@ -186,11 +186,11 @@ module _ (l : Layout) (fit : Assigned l) (f : Setting) (d : Laid) (rest : List D
       by true used =
           let run = runs op operands in
           let made = subst (λ b. Makes b c l.registers s p m mask op) kind run.makes in
-          ends (λ j a. with_value a p (val j a)) made.end cols (do_goes (op_code f.w l.registers p m op) s made.end made.runs)
+          pure_item_does_column (λ j a. with_value a p (val j a)) made.end cols (do_goes (op_code f.w l.registers p m op) s made.end made.runs)
           (λ u mem here. value_moves h fit ty (new_value c op p mask) u made.end makes (ltb-true p (l.z_last_use p) used) mem (λ e lt. here e lt ∙ ap (with_value (t.lane (f.i + e)) p) (sym (value_is e))) made.is made.only made.right (subst (λ o. AllTyped o f.n (new_value c op p mask)) made_is run.typed))
       by false unused =
           let none : MakesNothing l p = (ltb-false p (l.z_last_use p) unused, makes.0) in
-          ends (λ j a. with_value a p (val j a)) s cols (stay 0)
+          pure_item_does_column (λ j a. with_value a p (val j a)) s cols (stay 0)
           (λ u mem here. unused_moves h u none mem
           (λ q e lt el. ap (λ (a : Lane). a.value q) (here e el) ∙ value_other (t.lane (f.i + e)) p q (val (f.i + e) (t.lane (f.i + e))) (λ eq. absurd (omega (arith, lt, eq))))
           (λ q e lt el. ap (λ (a : Lane). a.truth q) (here e el)) (λ e el. ap (λ (a : Lane). a.shares) (here e el)))
@@ -212,12 +212,12 @@ module _ (l : Layout) (fit : Assigned l) (f : Setting) (d : Laid) (rest : List D
       by true used =
           let run = runs op operands in
           let made = subst (λ b. Makes b c l.registers s p m mask op) kind run.makes in
-          ends (λ j a. with_truth a p (val j a)) made.end cols (do_goes (op_code f.w l.registers p m op) s made.end made.runs)
+          pure_item_does_column (λ j a. with_truth a p (val j a)) made.end cols (do_goes (op_code f.w l.registers p m op) s made.end made.runs)
           (λ u mem here. truth_moves h fit (new_truth c op p mask) u made.end makes (ltb-true p (l.p_last_use p) used) mem (λ e lt. here e lt ∙ ap (with_truth (t.lane (f.i + e)) p) (sym (truth_is e))) made.is made.only
           (subst (λ v. PRight f.w (lanes v f.w) (p_at made.end (p_of l p)) (within f.n (new_truth c op p mask))) h.vl made.right))
       by false unused =
           let none : MakesNothing l p = (makes, ltb-false p (l.p_last_use p) unused) in
-          ends (λ j a. with_truth a p (val j a)) s cols (stay 0)
+          pure_item_does_column (λ j a. with_truth a p (val j a)) s cols (stay 0)
           (λ u mem here. unused_moves h u none mem
           (λ q e lt el. ap (λ (a : Lane). a.value q) (here e el))
           (λ q e lt el. ap (λ (a : Lane). a.truth q) (here e el) ∙ truth_other (t.lane (f.i + e)) p q (val (f.i + e) (t.lane (f.i + e))) (λ eq. absurd (omega (arith, lt, eq)))) (λ e el. ap (λ (a : Lane). a.shares) (here e el)))

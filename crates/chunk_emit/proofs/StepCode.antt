@@ -16,7 +16,7 @@ use Rattle.chunk_emit.specs.Registers.{Layout}
 use Rattle.chunk_emit.specs.ChunkCode.{past_cast, item_words, items_words, puts}
 use Rattle.chunk_emit.specs.Steps.{chosen, takes_next, left_words}
 use Rattle.chunk_emit.specs.Writable.{IsWritable, AreWritable}
-use Rattle.chunk_emit.proofs.ItemRuns.{Taken, taken, puts-append}
+use Rattle.chunk_emit.proofs.ItemRuns.{Taken, cast_is_taken, puts-append}
 
 -- the item after the first one
 abbrev pub first_of : List Item → Option Item
@@ -42,7 +42,7 @@ store_writable w a base (Some t) c u v h = h
 
 past_writable : (w : Width) (q : ℕ) (op next joined : Op) → past_cast q op next ≡ Some joined → IsWritable w next → IsWritable w joined
 past_writable w q op next joined e h =
-    let t : Taken q op next joined = taken q op next joined e in
+    let t : Taken q op next joined = cast_is_taken q op next joined e in
     subst (IsWritable w) (sym t.joined_is) (store_writable w t.a t.base t.ty t.c (Made q) t.x (subst (IsWritable w) t.next_is h))
 
 pub chosen_writable : (w : Width) (it : Item) (items : List Item) → AreWritable w (it ∷ items) → IsWritable w (chosen it (first_of items)).op
@@ -108,8 +108,8 @@ pub writable_following : (w : Width) (items : List LoopItem) (p : ℕ) → AreWr
 writable_following w items p all = subst (AreWritable w) (drop_one items p) (tail_writable w (view (drop p items)) all)
 
 -- after the last item
-pub none_left : (w : Width) (l : Layout) (done : Bool) (items : List LoopItem) (p : ℕ) (rest : List DraftEntry) → length items ≤ p → rest ≡ puts (left_words w l done (view (drop p items))) rest
-none_left w l done items p rest h = sym (nothing done) ∙ ap (λ its. puts (left_words w l done (view its)) rest) (sym (drop_all p items h))
+pub no_words_past_items : (w : Width) (l : Layout) (done : Bool) (items : List LoopItem) (p : ℕ) (rest : List DraftEntry) → length items ≤ p → rest ≡ puts (left_words w l done (view (drop p items))) rest
+no_words_past_items w l done items p rest h = sym (nothing done) ∙ ap (λ its. puts (left_words w l done (view its)) rest) (sym (drop_all p items h))
   where
     nothing : (b : Bool) → puts (left_words w l b []) rest ≡ rest
     nothing true = refl

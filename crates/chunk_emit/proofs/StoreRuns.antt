@@ -9,8 +9,9 @@ use Rattle.guest_types.specs.Elements.{at, active}
 use Rattle.guest_types.specs.LaneMemory.{width_of_size, lane_address, StoredLanes, AllStored, StoreFault, store_lanes}
 use Rattle.kernel_tree.specs.declared.ops.Ty.{Ty}
 use Rattle.kernel_tree.specs.declared.ops.Ty.TheVariants as ty
+use Rattle.kernel_tree.specs.Wrap.{byte_count, log_bytes}
 use Rattle.kernel_meaning.specs.Operators.{word}
-use Rattle.kernel_meaning.specs.Eval.{address, byte_count}
+use Rattle.kernel_meaning.specs.Eval.{address}
 use Rattle.machine_model.specs.declared.outcome.StopKind.TheVariants.{Write}
 use Rattle.machine_model.specs.InstructionTable.{Vector}
 use Rattle.machine_model.specs.Machine.{State, x_at, x_or_sp, z_at, p_at, next}
@@ -33,18 +34,18 @@ use Rattle.lane_emit.specs.ItemCode.{operand, mask_register}
 use Rattle.lane_emit.proofs.Residues.{held}
 use Rattle.lane_emit.proofs.Stretches.{width-size}
 use Rattle.chunk_emit.specs.Registers.{Layout}
-use Rattle.chunk_emit.specs.ChunkCode.{with_index, index_of, memory_size, store_word, op_words, puts}
+use Rattle.chunk_emit.specs.ChunkCode.{with_index, index_of, store_word, op_words, puts}
 use Rattle.chunk_emit.specs.Chunk.{Setting, chunk_of, count_of, Holds}
 use Rattle.chunk_emit.specs.Fits.{Assigned, FitsMask, FitsOperand, MakesNothing, IsNear}
 use Rattle.chunk_emit.specs.ItemsRun.{Does, does_fine, does_fail}
 use Rattle.chunk_emit.proofs.ItemLanes.{store_short, StoreColumn, all_stored, store_stopped, store_column}
-use Rattle.chunk_emit.proofs.ChunkStates.{Moves, holds_on, mask_exact, inside, outside, operand_right}
+use Rattle.chunk_emit.proofs.ChunkStates.{Moves, holds_on, mask_exact, lane_below_and, outside, operand_right}
 use Rattle.chunk_emit.proofs.PureItems.{sums_kept}
 use Rattle.chunk_emit.proofs.Indexes.{indexed, lane_place}
 use Rattle.chunk_emit.proofs.Loads.{does_after}
 use Rattle.chunk_emit.proofs.StoredBits.{stored-held}
 
-memory-bytes : (t : Ty) → width_bytes (width_of_size (memory_size t)) ≡ byte_count t
+memory-bytes : (t : Ty) → width_bytes (width_of_size (log_bytes t)) ≡ byte_count t
 memory-bytes ty.I8 = refl
 memory-bytes other = refl
 
@@ -93,7 +94,7 @@ module _ (l : Layout) (fit : Assigned l) (f : Setting) (d : Laid) (rest : List D
     width = width_of_size (size_of f.w)
 
     abbrev bytes : ℕ
-    bytes = width_bytes (width_of_size (memory_size ty))
+    bytes = width_bytes (width_of_size (log_bytes ty))
 
     abbrev on : ℕ → Bool
     on = active width (p_at u m)
@@ -110,54 +111,54 @@ module _ (l : Layout) (fit : Assigned l) (f : Setting) (d : Laid) (rest : List D
     abbrev val : ℕ → ℤ
     val = operand (chunk_of f t) y
 
-    count_is : count ≡ count_of f
-    count_is = ap₂ lanes h.vl (width-size f.w)
+    store_count : count ≡ count_of f
+    store_count = ap₂ lanes h.vl (width-size f.w)
 
-    on_in : (e : ℕ) → e < f.n → on e ≡ on_mask mask (t.lane (f.i + e))
-    on_in e lt = ap (λ w. active w (p_at u m) e) (width-size f.w) ∙ mask_exact h mask fm e (omega (arith, lt, h.few)) ∙ inside e f.n _ lt
+    store_on_in : (e : ℕ) → e < f.n → on e ≡ on_mask mask (t.lane (f.i + e))
+    store_on_in e lt = ap (λ w. active w (p_at u m) e) (width-size f.w) ∙ mask_exact h mask fm e (omega (arith, lt, h.few)) ∙ lane_below_and e f.n _ lt
 
-    on_out : (e : ℕ) → f.n ≤ e → e < count_of f → on e ≡ false
-    on_out e le lt = ap (λ w. active w (p_at u m) e) (width-size f.w) ∙ mask_exact h mask fm e lt ∙ outside e f.n _ le
+    store_on_out : (e : ℕ) → f.n ≤ e → e < count_of f → on e ≡ false
+    store_on_out e le lt = ap (λ w. active w (p_at u m) e) (width-size f.w) ∙ mask_exact h mask fm e lt ∙ outside e f.n _ le
 
-    base_is : x_or_sp u x ≡ word (nth_value f.names x)
-    base_is = ap (λ b. if b then u.sp else x_at u x) (ne_eqb x 31 (λ e. absurd (omega (arith, low, e)))) ∙ h.x x (λ e. absurd (omega (arith, low, e))) ∙ based
+    store_base : x_or_sp u x ≡ word (nth_value f.names x)
+    store_base = ap (λ b. if b then u.sp else x_at u x) (ne_eqb x 31 (λ e. absurd (omega (arith, low, e)))) ∙ h.x x (λ e. absurd (omega (arith, low, e))) ∙ based
 
     spot_is : (e : ℕ) → spot e ≡ place (f.i + e)
-    spot_is e = ap (λ k. lane_address (x_or_sp u x) (x_at u (index_of c)) k e) (memory-bytes ty) ∙ lane_place ty (nth_value f.names x) c f.i e (x_or_sp u x) (x_at u (index_of c)) base_is at_index
+    spot_is e = ap (λ k. lane_address (x_or_sp u x) (x_at u (index_of c)) k e) (memory-bytes ty) ∙ lane_place ty (nth_value f.names x) c f.i e (x_or_sp u x) (x_at u (index_of c)) store_base at_index
 
     sent_is : (e : ℕ) → e < f.n → sent e ≡ held f.w (gives e)
     sent_is e lt = ap (λ w. at w (z_at u src) e) (width-size f.w) ∙ right e lt
 
-    same : (e : ℕ) → e < f.n → (mem : Memory) → stored mem (spot e) bytes (word (val e)) ≡ stored mem (spot e) bytes (sent e)
-    same e lt mem =
+    stored_sent_is_stored_value : (e : ℕ) → e < f.n → (mem : Memory) → stored mem (spot e) bytes (word (val e)) ≡ stored mem (spot e) bytes (sent e)
+    stored_sent_is_stored_value e lt mem =
         ap (λ k. stored mem (spot e) k (word (val e))) (memory-bytes ty) ∙ given e lt mem (spot e)
         ∙ ap₂ (λ k v. stored mem (spot e) k v) (sym (memory-bytes ty)) (sym (sent_is e lt))
 
     acts : (e : ℕ) → e < f.n → (mem : Memory) → act (f.i + e) mem (t.lane (f.i + e)) ≡ (if on e then Writes (spot e) bytes (word (val e)) else Keeps (t.lane (f.i + e)))
     acts e lt mem =
-        ap (λ b. if b then Writes (place (f.i + e)) (byte_count ty) (word (val e)) else Keeps (t.lane (f.i + e))) (sym (on_in e lt))
+        ap (λ b. if b then Writes (place (f.i + e)) (byte_count ty) (word (val e)) else Keeps (t.lane (f.i + e))) (sym (store_on_in e lt))
         ∙ ap₂ (λ z k. if on e then Writes z k (word (val e)) else Keeps (t.lane (f.i + e))) (sym (spot_is e)) (sym (memory-bytes ty))
 
     cols : StoreColumn t.lane (store_lanes on spot sent bytes f.n 0 t.memory) (column act f.n f.i t)
-    cols = store_column act on spot (λ e. word (val e)) sent bytes f.i t.lane f.n 0 f.i t (omega arith) (λ j. refl) (λ e le lt. acts e (omega (arith, lt))) (λ e le lt. same e (omega (arith, lt)))
+    cols = store_column act on spot (λ e. word (val e)) sent bytes f.i t.lane f.n 0 f.i t (omega arith) (λ j. refl) (λ e le lt. acts e (omega (arith, lt))) (λ e le lt. stored_sent_is_stored_value e (omega (arith, lt)))
 
     short : store_lanes on spot sent bytes count 0 u.memory ≡ store_lanes on spot sent bytes f.n 0 t.memory
     short =
         ap (store_lanes on spot sent bytes count 0) h.memory
-        ∙ store_short on spot sent bytes count f.n 0 t.memory (omega (arith, h.few, count_is)) (λ e le lt. on_out e (omega (arith, le)) (omega (arith, lt, count_is)))
+        ∙ store_short on spot sent bytes count f.n 0 t.memory (omega (arith, h.few, store_count)) (λ e le lt. store_on_out e (omega (arith, le)) (omega (arith, lt, store_count)))
 
-    does : do_vector the_word u ≡ after_store (store_lanes on spot sent bytes count 0 u.memory) u
-    does = refl
+    store_word_does : do_vector the_word u ≡ after_store (store_lanes on spot sent bytes count 0 u.memory) u
+    store_word_does = refl
 
-    ends : (o : StoredLanes) {out : Out} → store_lanes on spot sent bytes count 0 u.memory ≡ o → StoreColumn t.lane o out → Does l f d (puts (Vector the_word ∷ []) rest) u rest (p + 1) 1 out
-    ends (AllStored mem) eq (all_stored v is same_lanes) =
+    store_does_column : (o : StoredLanes) {out : Out} → store_lanes on spot sent bytes count 0 u.memory ≡ o → StoreColumn t.lane o out → Does l f d (puts (Vector the_word ∷ []) rest) u rest (p + 1) 1 out
+    store_does_column (AllStored mem) eq (all_stored v is same_lanes) =
         let end = next (record u { memory = mem }) in
         let good : IsState end = store_put u end (AllStored mem) (λ k e. let one : mem ≡ k = cc in subst IsMemory one (stored_memory on spot sent bytes count 0 u.memory mem h.is.mapped eq)) h.is refl in
         does_fine end (put_goes (ap (λ o. after_store o u) eq)) (holds_on h (store_moves h none mem v is same_lanes good))
-    ends (StoreFault fault mem) eq store_stopped = does_fail Write (inr refl) (put_stops u.pc fault.address (ap (λ o. after_store o u) eq))
+    store_does_column (StoreFault fault mem) eq store_stopped = does_fail Write (inr refl) (put_stops u.pc fault.address (ap (λ o. after_store o u) eq))
 
     pub write_does_from : Does l f d (puts (Vector the_word ∷ []) rest) u rest (p + 1) 1 (column act f.n f.i t)
-    write_does_from = ends (store_lanes on spot sent bytes f.n 0 t.memory) short cols
+    write_does_from = store_does_column (store_lanes on spot sent bytes f.n 0 t.memory) short cols
 
   -- from the register of a value that gives, in its low bytes, what the store is to write
   pub store_from : {s : State} → Holds l f p t s → IsNear c → Stored → ZRight f.w f.n (z_at s src) gives

@@ -9,9 +9,8 @@ use Rattle.guest_types.specs.Length.{width_bits}
 use Rattle.guest_types.specs.Memory.{Memory, put_byte, put_number, next_address, can_write, first_fault, stored}
 use Rattle.guest_types.proofs.Shifts.{modulus-power}
 use Rattle.kernel_tree.specs.declared.ops.Ty.{Ty}
-use Rattle.kernel_tree.specs.Wrap.{bits_of}
+use Rattle.kernel_tree.specs.Wrap.{bits_of, byte_count}
 use Rattle.kernel_meaning.specs.Operators.{word}
-use Rattle.kernel_meaning.specs.Eval.{byte_count}
 use Rattle.lane_emit.proofs.Residues.{held, held-word}
 use Rattle.chunk_emit.proofs.LoadForms.{bytes_power}
 

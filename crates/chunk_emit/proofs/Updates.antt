@@ -7,7 +7,7 @@ use Rattle.guest_types.specs.Elements.{at}
 use Rattle.kernel_tree.specs.declared.ops.Ty.{Ty}
 use Rattle.kernel_tree.specs.declared.ops.UpdateOp.{UpdateOp}
 use Rattle.kernel_tree.specs.Wrap.{residue}
-use Rattle.kernel_tree.proofs.Names.{bytes_told, bytes_same}
+use Rattle.kernel_tree.proofs.Names.{bytes_eq-told, bytes_eq-refl}
 use Rattle.kernel_meaning.specs.Operators.{operator_of}
 use Rattle.machine_model.specs.Machine.{State, z_at}
 use Rattle.label_fix.specs.DraftRun.{DraftEntry, Laid}
@@ -58,9 +58,9 @@ of_more : (t : Ty) (vs : List ℤ) (v : ℤ) → AreOf t vs → IsOf t v → Are
 of_more t [] v h k = (k, tt)
 of_more t (u ∷ vs) v h k = (h.0, of_more t vs v h.1 k)
 
-no_more : (vs : List ℤ) → vs ++ [] ≡ vs
-no_more [] = refl
-no_more (v ∷ vs) = ap (λ us. v ∷ us) (no_more vs)
+append_none : (vs : List ℤ) → vs ++ [] ≡ vs
+append_none [] = refl
+append_none (v ∷ vs) = ap (λ us. v ∷ us) (append_none vs)
 
 -- a lane that gives a share, or does not
 abbrev given_share : Bool → Lane → Share → Lane
@@ -76,7 +76,7 @@ given_truths false a s = refl
 
 -- a share for another accumulator
 given_other : (b : Bool) (a : Lane) (s : Share) (v : List ℕ) → bytes_eq s.name v ≡ false → given_to v (given_share b a s).shares ≡ given_to v a.shares
-given_other true a s v e = given_more v a.shares s ∙ ap (λ b. given_to v a.shares ++ (if b then s.value ∷ [] else [])) e ∙ no_more (given_to v a.shares)
+given_other true a s v e = given_more v a.shares s ∙ ap (λ b. given_to v a.shares ++ (if b then s.value ∷ [] else [])) e ∙ append_none (given_to v a.shares)
 given_other false a s v e = refl
 
 given_alike : (b : Bool) (a : Lane) (s : Share) (v : List ℕ) (op : UpdateOp) (t : Ty) → ShareAlike v op t a.shares → (bytes_eq s.name v ≡ true → (s.op ≡ operator_of op) × (s.type ≡ Some t)) → ShareAlike v op t (given_share b a s).shares
@@ -154,13 +154,13 @@ module _ (l : Layout) (fit : Assigned l) (f : Setting) (d : Laid) (rest : List D
       let inside = (and_parts (ltb e f.n) (mask_of (chunk_of f t) mask e) is).0 in
       (operand_right h fit ty y fits).right e (ltb-true e f.n inside) ∙ ap (residue (width_bits f.w)) (sym (ap (λ b. cond b (operand (chunk_of f t) y e) (taken e)) inside))
 
-  count_is : lanes s.vl f.w ≡ count_of f
-  count_is = ap (λ v. lanes v f.w) h.vl
+  update_count : lanes s.vl f.w ≡ count_of f
+  update_count = ap (λ v. lanes v f.w) h.vl
 
   run : Updated (update_code f.w op ty (l.sum x) m src) s op ty f.w (lanes s.vl f.w) (l.sum x) (λ e. cond (on e) (joined op ty (taken e) (value e)) (taken e))
   run = update_taken op ty f.w s (l.sum x) m src on taken value h.is (fit.sum_small x updated) fits.1 (mask_right h mask fm)
-      (λ e lt. subst (λ k. accumulators.Holds k ty f.w (at f.w (z_at s (l.sum x)) e) (taken e)) op_is (subst (λ k. accumulators.Holds (l.update x) k f.w (at f.w (z_at s (l.sum x)) e) (taken e)) ty_is (old.holds e (omega (arith, lt, count_is)))))
-      (λ e lt. (taken_of e (omega (arith, lt, count_is)), value_of e (omega (arith, lt, count_is)), value_right e))
+      (λ e lt. subst (λ k. accumulators.Holds k ty f.w (at f.w (z_at s (l.sum x)) e) (taken e)) op_is (subst (λ k. accumulators.Holds (l.update x) k f.w (at f.w (z_at s (l.sum x)) e) (taken e)) ty_is (old.holds e (omega (arith, lt, update_count)))))
+      (λ e lt. (taken_of e (omega (arith, lt, update_count)), value_of e (omega (arith, lt, update_count)), value_right e))
 
   module _ (u : Lanes) (mem : u.memory ≡ t.memory) (here : (e : ℕ) → e < f.n → u.lane (f.i + e) ≡ new (f.i + e) (lane_of e)) where
     abbrev end : State
@@ -179,7 +179,7 @@ module _ (l : Layout) (fit : Assigned l) (f : Setting) (d : Laid) (rest : List D
             ap (λ b. cond (b && on_mask mask (lane_of e)) (joined op ty (taken e) (value e)) (taken e)) low
             ∙ ap₂ (λ k v. cond (on_mask mask (lane_of e)) (joined op ty k v) k) before gives
             ∙ ap₂ (λ o k. cond (on_mask mask (lane_of e)) (joined o k (after_all (l.update x) (l.sum_type x) (f.sum x e) (given_to x (lane_of e).shares)) (operand (chunk_of f t) y e)) (after_all (l.update x) (l.sum_type x) (f.sum x e) (given_to x (lane_of e).shares))) (sym op_is) (sym ty_is)
-            ∙ sym (given_own (on_mask mask (lane_of e)) (lane_of e) (gift (f.i + e) (lane_of e)) x (l.update x) (l.sum_type x) (f.sum x e) (bytes_same x))
+            ∙ sym (given_own (on_mask mask (lane_of e)) (lane_of e) (gift (f.i + e) (lane_of e)) x (l.update x) (l.sum_type x) (f.sum x e) (bytes_eq-refl x))
             ∙ ap (λ (k : Lane). after_all (l.update x) (l.sum_type x) (f.sum x e) (given_to x k.shares)) (sym (here e en))
             ∙ sym (ap (λ b. if b then after_all (l.update x) (l.sum_type x) (f.sum x e) (given_to x (u.lane (f.i + e)).shares) else f.sum x e) low)
 
@@ -195,10 +195,10 @@ module _ (l : Layout) (fit : Assigned l) (f : Setting) (d : Laid) (rest : List D
       alike = λ e lt. subst (λ (k : Lane). ShareAlike x (l.update x) (l.sum_type x) k.shares) (sym (here e lt))
           (given_alike (on_mask mask (lane_of e)) (lane_of e) (gift (f.i + e) (lane_of e)) x (l.update x) (l.sum_type x) (old.alike e lt) (λ same. (ap operator_of (sym op_is), ap Some (sym ty_is))));
       typed = λ e lt. subst (λ (k : Lane). AreOf (l.sum_type x) (given_to x k.shares)) (sym (here e lt))
-          (own_of (on_mask mask (lane_of e)) (lane_of e) (gift (f.i + e) (lane_of e)) x (l.sum_type x) (bytes_same x) (old.typed e lt) (subst (λ k. IsOf k (operand (chunk_of f t) y e)) (sym ty_is) (typed e lt)));
+          (own_of (on_mask mask (lane_of e)) (lane_of e) (gift (f.i + e) (lane_of e)) x (l.sum_type x) (bytes_eq-refl x) (old.typed e lt) (subst (λ k. IsOf k (operand (chunk_of f t) y e)) (sym ty_is) (typed e lt)));
       holds = λ e lt. taken_same (l.update x) (l.sum_type x) f.w (at f.w (z_at end (l.sum x)) e) (cond (on e) (joined op ty (taken e) (value e)) (taken e)) (sum_at l f u x e) (taken_is e)
           (subst (λ k. accumulators.Holds (l.update x) k f.w (at f.w (z_at end (l.sum x)) e) (cond (on e) (joined op ty (taken e) (value e)) (taken e))) (sym ty_is)
-          (subst (λ k. accumulators.Holds k ty f.w (at f.w (z_at end (l.sum x)) e) (cond (on e) (joined op ty (taken e) (value e)) (taken e))) (sym op_is) (run.holds e (omega (arith, lt, count_is)))));
+          (subst (λ k. accumulators.Holds k ty f.w (at f.w (z_at end (l.sum x)) e) (cond (on e) (joined op ty (taken e) (value e)) (taken e))) (sym op_is) (run.holds e (omega (arith, lt, update_count)))));
     }
 
     -- another accumulator
@@ -220,7 +220,7 @@ module _ (l : Layout) (fit : Assigned l) (f : Setting) (d : Laid) (rest : List D
     all_sums v is = by (bytes_eq x v) refl
       where
         by : (b : Bool) → bytes_eq x v ≡ b → SumRight l f u v (z_at end (l.sum v))
-        by true same = subst (λ k. SumRight l f u k (z_at end (l.sum k))) (bytes_told x v same) own_sum
+        by true same = subst (λ k. SumRight l f u k (z_at end (l.sum k))) (bytes_eq-told x v same) own_sum
         by false differ = other_sum v is differ
 
     update_moves : Moves l f p t s u end
@@ -244,8 +244,8 @@ module _ (l : Layout) (fit : Assigned l) (f : Setting) (d : Laid) (rest : List D
           sums = all_sums;
         }
 
-  ends : {out : Out} → OwnColumn new f.n f.i t None out → Does l f d (puts (op_words f.w l p m the_op) rest) s rest (p + 1) (length (op_words f.w l p m the_op)) out
-  ends (own_fine u mem here before past) = does_fine run.end (do_goes (update_code f.w op ty (l.sum x) m src) s run.end run.runs) (holds_on h (update_moves u mem here))
+  update_does_column : {out : Out} → OwnColumn new f.n f.i t None out → Does l f d (puts (op_words f.w l p m the_op) rest) s rest (p + 1) (length (op_words f.w l p m the_op)) out
+  update_does_column (own_fine u mem here before past) = does_fine run.end (do_goes (update_code f.w op ty (l.sum x) m src) s run.end run.runs) (holds_on h (update_moves u mem here))
 
   pub update_runs : Does l f d (puts (op_words f.w l p m the_op) rest) s rest (p + 1) (length (op_words f.w l p m the_op)) (column act f.n f.i t)
-  update_runs = ends cols
+  update_runs = update_does_column cols

@@ -8,6 +8,7 @@ use Rattle.guest_types.specs.EarlyLoads.{StopList}
 use Rattle.kernel_meaning.specs.Eval.{Names}
 use Rattle.machine_model.specs.Machine.{State, x_at, z_at, p_at}
 use Rattle.machine_model.specs.States.{IsState}
+use Rattle.label_fix.specs.Registers.{all_true, iteration, lanes_left, scratch}
 use Rattle.vector_order.specs.Orders.{Lane, Lanes}
 use Rattle.loop_form.specs.declared.loop_item.Operand.{Operand}
 use Rattle.loop_form.specs.declared.loop_item.Operand.TheVariants.{Made}
@@ -80,11 +81,11 @@ pub record Holds (l : Layout) (f : Setting) (p : ℕ) (t : Lanes) (s : State) : 
   pub vl : s.vl ≡ f.vl
   pub stops : s.stops ≡ f.stops
   pub memory : s.memory ≡ t.memory
-  pub x : (r : ℕ) → r ≢ 26 → x_at s r ≡ slice_index f.x r
-  pub index : slice_index f.x 9 ≡ f.i
-  pub active : TruthExact f (p_at s 0) all_at
-  pub top : IsTop f.w f.n (p_at s 0)
-  pub all : PRight f.w (count_of f) (p_at s 1) all_at
+  pub x : (r : ℕ) → r ≢ scratch → x_at s r ≡ slice_index f.x r
+  pub index : slice_index f.x iteration ≡ f.i
+  pub active : TruthExact f (p_at s lanes_left) all_at
+  pub top : IsTop f.w f.n (p_at s lanes_left)
+  pub all : PRight f.w (count_of f) (p_at s all_true) all_at
   pub held : (x : Operand) → l.held x ≡ true → HeldRight l f s x
   pub values : (q : ℕ) → q < p → p ≤ l.z_last_use q → ValueRight l f t s q
   pub truths : (q : ℕ) → q < p → p ≤ l.p_last_use q → TruthExact f (p_at s (p_of l q)) (truth_of (chunk_of f t) q)

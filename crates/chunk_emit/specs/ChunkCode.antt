@@ -5,6 +5,7 @@ use Rattle.guest_types.specs.declared.length.Width.{Width}
 use Rattle.guest_types.specs.declared.length.Width.TheVariants.{B, H, S, D}
 use Rattle.kernel_tree.specs.declared.ops.Ty.{Ty}
 use Rattle.kernel_tree.specs.declared.ops.Ty.TheVariants as ty
+use Rattle.kernel_tree.specs.Wrap.{log_bytes}
 use Rattle.a64_code.specs.Table as a64
 use Rattle.sve_code.specs.Table.{Name, ld1, gld1b, gld1h, gld1w, gld1d, gld1sb, gld1sh, gld1sw, st1, lsl_imm, uxtb, uxth}
 use Rattle.machine_model.specs.InstructionTable.{Listed, Scalar, Vector}
@@ -19,33 +20,23 @@ use Rattle.lane_emit.specs.ItemCode.{mask_register, op_code}
 use Rattle.lane_emit.specs.AccumulatorLanes.{update_code}
 use Rattle.chunk_emit.specs.Registers.{Layout, z_of, base_of, is_used}
 pub use Rattle.label_fix.specs.Emits.{puts}
+use Rattle.label_fix.specs.Registers.{all_true, iteration, scratch}
 
 -- ---- places of elements
 
 -- X26 = X9 + c, where c is not 0, and the words after
 abbrev pub with_index : ℤ → List Listed → List Listed
 with_index (pos zero) rest = rest
-with_index (pos (suc k)) rest = Scalar (record { name = a64.add_imm; numbers = 26 ∷ 9 ∷ suc k ∷ 0 ∷ [] }) ∷ rest
-with_index (negsuc k) rest = Scalar (record { name = a64.sub_imm; numbers = 26 ∷ 9 ∷ suc k ∷ 0 ∷ [] }) ∷ rest
+with_index (pos (suc k)) rest = Scalar (record { name = a64.add_imm; numbers = scratch ∷ iteration ∷ suc k ∷ 0 ∷ [] }) ∷ rest
+with_index (negsuc k) rest = Scalar (record { name = a64.sub_imm; numbers = scratch ∷ iteration ∷ suc k ∷ 0 ∷ [] }) ∷ rest
 
 -- the register that then holds X9 + c
 abbrev pub index_of : ℤ → ℕ
-index_of (pos zero) = 9
-index_of (pos (suc k)) = 26
-index_of (negsuc k) = 26
+index_of (pos zero) = iteration
+index_of (pos (suc k)) = scratch
+index_of (negsuc k) = scratch
 
 -- ---- loads and stores
-
--- the width of a type in memory, as fields name it
-abbrev pub memory_size : Ty → ℕ
-memory_size ty.I8 = 0
-memory_size ty.U8 = 0
-memory_size ty.I16 = 1
-memory_size ty.U16 = 1
-memory_size ty.I32 = 2
-memory_size ty.U32 = 2
-memory_size ty.I64 = 3
-memory_size ty.U64 = 3
 
 -- The field dtype of a load of a type into lanes that are no narrower: it extends the sign of a signed type, where the lane is
 -- wider.
@@ -77,7 +68,7 @@ load_word w t d m base index = word ld1 (d ∷ base ∷ m ∷ index ∷ dtype_of
 
 -- ST1 v, m, [base, index, lsl]
 abbrev pub store_word : Width → Ty → (v m base index : ℕ) → VectorInstruction
-store_word w t v m base index = word st1 (v ∷ base ∷ m ∷ index ∷ size_of w ∷ memory_size t ∷ [])
+store_word w t v m base index = word st1 (v ∷ base ∷ m ∷ index ∷ size_of w ∷ log_bytes t ∷ [])
 
 -- ---- reads at computed indexes, in lanes of 64 bits
 
@@ -111,11 +102,11 @@ cut_reach (Some n) u = if fits u (reach_type n) then None else Some n
 
 -- d = a modulo a reach: UXTB or UXTH d, P1/M, a
 abbrev pub cut_word : (reach d a : ℕ) → VectorInstruction
-cut_word n d a = word (if nat_eq n 256 then uxtb else uxth) (d ∷ a ∷ 1 ∷ size_of D ∷ [])
+cut_word n d a = word (if nat_eq n 256 then uxtb else uxth) (d ∷ a ∷ all_true ∷ size_of D ∷ [])
 
 abbrev pub gather_code : Ty → (cut : Option ℕ) → (d m base index : ℕ) → List VectorInstruction
-gather_code t None d m base index = gather_by (memory_size t) t d m base index
-gather_code t (Some n) d m base index = cut_word n d index ∷ gather_by (memory_size t) t d m base d
+gather_code t None d m base index = gather_by (log_bytes t) t d m base index
+gather_code t (Some n) d m base index = cut_word n d index ∷ gather_by (log_bytes t) t d m base d
 
 -- ---- items
 

@@ -15,13 +15,14 @@ use Rattle.loop_form.specs.LoopItems as ops
 use Rattle.chunk_emit.specs.Registers.{Layout, z_of, p_of, IsValueUsed, IsTruthUsed}
 use Rattle.chunk_emit.specs.ChunkCode.{past_cast}
 use Rattle.chunk_emit.specs.Chunk.{Setting}
+use Rattle.label_fix.specs.Registers.{first_condition_register}
 
 -- Registers in range, and none for two things that are needed at once: Z0 to Z29, and P2 to P7.
 pub record Assigned (l : Layout) : Type 0 where
   pub made : (q : ℕ) → l.registers.source (Made q) ≡ z_of l q
   pub z_small : (q : ℕ) → z_of l q < 32
   pub p_small : (q : ℕ) → p_of l q < 16
-  pub p_low : (q : ℕ) → IsTruthUsed l q → 2 ≤ p_of l q
+  pub p_low : (q : ℕ) → IsTruthUsed l q → first_condition_register ≤ p_of l q
   pub held_small : (x : Operand) → l.held x ≡ true → l.registers.source x < 32
   pub sum_small : (x : List ℕ) → l.updated x ≡ true → l.sum x < 32
   pub z_apart : (p q : ℕ) → q < p → p < l.z_last_use q → IsValueUsed l p → z_of l p ≢ z_of l q

@@ -12,6 +12,7 @@ use Rattle.kernel_meaning.specs.Eval.{Names, value_at}
 use Rattle.kernel_meaning.specs.ScalarRun.{started, bound_of}
 use Rattle.machine_model.specs.Machine.{State, x_at, z_at, p_at}
 use Rattle.machine_model.specs.States.{IsState}
+use Rattle.label_fix.specs.Registers.{all_true, iteration}
 use Rattle.reg_assign.specs.declared.interval.RegClass.TheVariants.{Z, P}
 use Rattle.reg_assign.specs.Registers.{Assignment}
 use Rattle.loop_form.specs.declared.loop_item.Operand.{Operand}
@@ -104,9 +105,9 @@ pub record AtHead (g : Ground) (i : ℕ) (cur : Names) (m : Memory) (sum : List 
   pub is : IsState s
   pub vl : s.vl ≡ g.vl
   pub memory : s.memory ≡ m
-  pub index : x_at s 9 ≡ i
-  pub x : (r : ℕ) → r ≤ 25 → r ≢ 9 → x_at s r ≡ slice_index g.x r
-  pub all : PRight (width g) (most_lanes g) (p_at s 1) all_at
+  pub index : x_at s iteration ≡ i
+  pub x : (r : ℕ) → r ≤ 25 → r ≢ iteration → x_at s r ≡ slice_index g.x r
+  pub all : PRight (width g) (most_lanes g) (p_at s all_true) all_at
   pub held : (x : Operand) → (layout g).held x ≡ true → x ≢ LoopIndex → HeldAll g s x
   pub lanes : (x : List ℕ) → (layout g).updated x ≡ true → LanesHold ((layout g).update x) ((layout g).sum_type x) (width g) (most_lanes g) (z_at s ((layout g).sum x)) (sum x)
 

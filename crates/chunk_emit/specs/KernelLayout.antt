@@ -12,6 +12,7 @@ use Rattle.kernel_tree.specs.Items.{loop_start}
 use Rattle.reg_assign.specs.declared.interval.RegClass.{RegClass}
 use Rattle.reg_assign.specs.declared.interval.RegClass.TheVariants.{Z, P}
 use Rattle.reg_assign.specs.Registers.{Assignment}
+use Rattle.label_fix.specs.Registers.{scratch_vector}
 use Rattle.loop_form.specs.declared.loop_item.Operand.{Operand}
 use Rattle.loop_form.specs.declared.loop_item.Operand.TheVariants.{Constant, Outer, LoopIndex, Made}
 use Rattle.loop_form.specs.Entries.{Content, IsUpdate, Entry, entries_of, loop_entries}
@@ -91,5 +92,5 @@ layout_of_loop k a b = record {
   updated = λ x. is_some (sum_place k x);
   update = update_of k;
   sum_type = λ x. unwrap_or (var_type x k.vars) U64;
-  sum = λ x. register_of 31 a (sum_place k x);
+  sum = λ x. register_of scratch_vector a (sum_place k x);
 }

@@ -2,6 +2,7 @@
 
 ghost use Rattle.std.specs.Prelude.{◌≡◌, ◌<◌, ◌≤◌, [], ◌∷◌, unsigned_abs, OnOk, if◌then◌else◌};
 ghost use Rattle.machine_model.specs.InstructionTable.{Vector};
+ghost use Rattle.kernel_tree.specs.Wrap.{log_bytes};
 ghost use Rattle.label_fix.specs.Emits.{Emits, EmitsBefore, puts};
 ghost use Rattle.loop_form.specs.LoopView.{op_of, view_of};
 ghost use Rattle.sve_code.specs.View.{instruction_view};
@@ -16,17 +17,17 @@ ghost use Rattle.chunk_emit.specs.View.{layout_in, width_in};
 
 use crate::layout::LoopLayout;
 use crate::words::{
-    base_register, cut, cut_reach, gather, index_register, index_shift, index_word, load, store,
+    base_register, cut, cut_reach, gather, index_register, index_word, load, store,
 };
 use a64_code::Reg;
 use guest_types::length::Width;
 use kernel_tree::{Ty, UpdateOp};
+use label_fix::registers::LANES_LEFT;
 use label_fix::{Draft, Word};
 use lane_emit::{emit_item, shift_left, update_word};
 use loop_form::{LoopItem, LoopOp, Operand};
 use std::alloc::{AllocError, Global};
 use sve_code::{GoverningReg, Sve, VectorReg};
-use word_rows::Bits;
 
 /// Vector instructions.
 pub fn put_all(words: &[Sve], draft: &mut Draft) -> Result<(), AllocError>
@@ -54,7 +55,7 @@ pub fn mask_of(layout: &LoopLayout<'_>, mask: Option<u32>) -> GoverningReg
     ensures { result.number ≡ lane.mask_register (layout_in layout.now).registers mask }
 {
     match mask {
-        None => Bits { number: 0 },
+        None => LANES_LEFT,
         Some(item) => layout.registers.p(item),
     }
 }
@@ -96,10 +97,10 @@ fn emit_elements(
     index: VectorReg,
     draft: &mut Draft,
 ) -> Result<(), AllocError>
-    ensures { let words = code.gather_by (code.memory_size ty) ty d.number mask.number base.number index.number in
+    ensures { let words = code.gather_by (log_bytes ty) ty d.number mask.number base.number index.number in
         OnOk result (Emits draft.old draft.new draft.old.labels (puts (code.vectors words))) }
 {
-    let shift = index_shift(ty);
+    let shift = ty.log_bytes();
     if shift == 0 {
         draft.put(gather(ty, d, mask, base, index))?;
     } else {
@@ -148,7 +149,7 @@ fn emit_store(
     draft: &mut Draft,
 ) -> Result<(), AllocError>
     requires place { IsPlace base offset }
-    requires narrow { code.memory_size ty ≤ size_of (width_in layout.now) }
+    requires narrow { log_bytes ty ≤ size_of (width_in layout.now) }
     ensures { let word = code.store_word (width_in layout.now) ty ((layout_in layout.now).registers.source value)
         mask.number (layouts.base_of base) (code.index_of offset) in
         OnOk result (Emits draft.old draft.new draft.old.labels (puts (code.with_index offset (Vector word ∷ [])))) }

@@ -12,7 +12,7 @@ ghost use Rattle.chunk_emit.specs.LoopFits.{LayoutAssigned};
 pub use emit::{emit_index, emit_one, is_used, mask_of, put_all};
 pub use items::emit_items;
 pub use layout::{LoopLayout, loop_layout};
-pub use words::{base_register, index_register, index_shift, load, load_type};
+pub use words::{base_register, index_register, load, load_type};
 
 /// The code of a loop's items without a break, from a state that holds the lanes of a chunk, does what the items do one after
 /// another over these lanes: it comes to the entries after it with the memory and the lanes that they leave, or stops at a

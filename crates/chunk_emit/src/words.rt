@@ -6,8 +6,10 @@ ghost use Rattle.sve_code.specs.Numbers.{size_number, dtype_number};
 ghost use Rattle.sve_code.specs.View.{load_gather_name};
 ghost use Rattle.machine_model.specs.InstructionTable.{Listed, Scalar, Vector};
 ghost use Rattle.kernel_tree.specs.declared.ops.Ty.TheVariants as ty;
+ghost use Rattle.kernel_tree.specs.Wrap.{log_bytes};
 ghost use Rattle.label_fix.specs.Draft.{word_view};
 ghost use Rattle.label_fix.specs.Finished.{is_plain};
+ghost use Rattle.label_fix.specs.Registers.{iteration, scratch};
 ghost use Rattle.lane_emit.specs.LaneCode.{size_of};
 ghost use Rattle.chunk_emit.specs.Registers.{base_of};
 ghost use Rattle.chunk_emit.specs.ChunkCode as code;
@@ -17,6 +19,7 @@ use guest_types::length::Width;
 use kernel_meaning::fits;
 use kernel_tree::Ty;
 use label_fix::Word;
+use label_fix::registers::{ITERATION, SCRATCH};
 use lane_emit::{extend_byte, extend_halfword, size};
 use loop_form::Operand;
 use sve_code::{
@@ -42,21 +45,25 @@ pub fn index_register(offset: i32) -> OffsetReg
     ensures { result.number ≡ code.index_of offset }
 {
     if offset == 0 {
-        OffsetReg { number: 9 }
+        OffsetReg {
+            number: ITERATION.number,
+        }
     } else {
-        OffsetReg { number: 26 }
+        OffsetReg {
+            number: SCRATCH.number,
+        }
     }
 }
 
 // X26 = X9 and a number.
 fn index_up(by: u32) -> Word
     requires { by < 4096 }
-    ensures { word_view result ≡ Scalar (record { name = a64.add_imm; numbers = 26 ∷ 9 ∷ by ∷ 0 ∷ [] }) }
+    ensures { word_view result ≡ Scalar (record { name = a64.add_imm; numbers = scratch ∷ iteration ∷ by ∷ 0 ∷ [] }) }
 {
     Word::A(A64::AddSubImmediate {
         op: AddSubOp::Add,
-        rd: Bits { number: 26 },
-        rn: Bits { number: 9 },
+        rd: SCRATCH,
+        rn: ITERATION,
         imm12: Bits { number: by },
         sh: false,
     })
@@ -65,12 +72,12 @@ fn index_up(by: u32) -> Word
 // X26 = X9 less a number.
 fn index_down(by: u32) -> Word
     requires { by < 4096 }
-    ensures { word_view result ≡ Scalar (record { name = a64.sub_imm; numbers = 26 ∷ 9 ∷ by ∷ 0 ∷ [] }) }
+    ensures { word_view result ≡ Scalar (record { name = a64.sub_imm; numbers = scratch ∷ iteration ∷ by ∷ 0 ∷ [] }) }
 {
     Word::A(A64::AddSubImmediate {
         op: AddSubOp::Sub,
-        rd: Bits { number: 26 },
-        rn: Bits { number: 9 },
+        rd: SCRATCH,
+        rn: ITERATION,
         imm12: Bits { number: by },
         sh: false,
     })
@@ -94,20 +101,15 @@ pub fn index_word(offset: i32) -> Word
 // ---- types
 
 fn memory_size(ty: Ty) -> Size
-    ensures { size_number result ≡ code.memory_size ty }
+    ensures { size_number result ≡ log_bytes ty }
 {
-    match ty {
-        Ty::I8 | Ty::U8 => Size::B,
-        Ty::I16 | Ty::U16 => Size::H,
-        Ty::I32 | Ty::U32 => Size::S,
-        Ty::I64 | Ty::U64 => Size::D,
-    }
+    size(Width::of(ty.log_bytes()))
 }
 
 /// The sizes of a store of elements of a type.
 fn store_sizes(ty: Ty, width: Width) -> StoreSizes
-    requires { code.memory_size ty ≤ size_of width }
-    ensures msz { size_number result.msz ≡ code.memory_size ty }
+    requires { log_bytes ty ≤ size_of width }
+    ensures msz { size_number result.msz ≡ log_bytes ty }
     ensures size { size_number result.size ≡ size_of width }
 {
     StoreSizes {
@@ -203,19 +205,6 @@ pub fn load(
 
 // ---- reads at computed indexes
 
-/// By how many bits the index of an element is shifted: its size.
-pub fn index_shift(ty: Ty) -> u32
-    ensures value { result ≡ code.memory_size ty }
-    ensures within { result < 4 }
-{
-    match ty {
-        Ty::I8 | Ty::U8 => 0,
-        Ty::I16 | Ty::U16 => 1,
-        Ty::I32 | Ty::U32 => 2,
-        Ty::I64 | Ty::U64 => 3,
-    }
-}
-
 fn gather_op(ty: Ty) -> GatherOp
     ensures { load_gather_name result ≡ code.gather_name ty }
 {
@@ -272,7 +261,7 @@ pub fn store(
     base: Reg,
     index: OffsetReg,
 ) -> Word
-    requires { code.memory_size ty ≤ size_of width }
+    requires { log_bytes ty ≤ size_of width }
     ensures { word_view result ≡ Vector (code.store_word width ty v.number m.number base.number index.number) }
 {
     Word::V(Sve::ContiguousStore {

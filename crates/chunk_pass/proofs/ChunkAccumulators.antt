@@ -17,9 +17,9 @@ use Rattle.chunk_emit.specs.KernelLayout.{is_same, next_place, place_in, sum_pla
 use Rattle.chunk_emit.proofs.FitsEntries.{sum_is_held}
 
 -- a value that has a place in a list is in it
-placed : (t : Throughout) (ts : List Throughout) → is_some (place_in t ts) ≡ true → list_any (λ u. is_same u t) ts ≡ true
-placed t [] e = absurd cc
-placed t (u ∷ us) e = by (is_same u t) e (placed t us)
+same_of_place : (t : Throughout) (ts : List Throughout) → is_some (place_in t ts) ≡ true → list_any (λ u. is_same u t) ts ≡ true
+same_of_place t [] e = absurd cc
+same_of_place t (u ∷ us) e = by (is_same u t) e (same_of_place t us)
   where
     later : (o : Option ℕ) → is_some (next_place o) ≡ true → is_some o ≡ true
     later None e = absurd cc
@@ -39,9 +39,9 @@ module _ (x : List ℕ) where
   none_append : (ts us : List Throughout) → list_any is_sum ts ≡ false → list_any is_sum us ≡ false → list_any is_sum (ts ++ us) ≡ false
   none_append ts us e f = list_any-append is_sum ts us ∙ ap (λ b. b || list_any is_sum us) e ∙ f
 
-  no_scalar : (ps : List Parameter) → list_any is_sum (map scalar_of ps) ≡ false
-  no_scalar [] = refl
-  no_scalar (p ∷ ps) = no_scalar ps
+  scalars_are_no_sums : (ps : List Parameter) → list_any is_sum (map scalar_of ps) ≡ false
+  scalars_are_no_sums [] = refl
+  scalars_are_no_sums (p ∷ ps) = scalars_are_no_sums ps
 
   no_new : (before : List Entry) (t : Option Ty) (c : Content) → list_any is_sum (new_constant before t c) ≡ false
   no_new before t (IsLiteral n) = by (list_any (is_constant t n) before)
@@ -61,9 +61,9 @@ module _ (x : List ℕ) where
   no_constant before [] = refl
   no_constant before (e ∷ es) = none_append (new_constant before e.type e.content) (constants (before ++ e ∷ []) es) (no_new before e.type e.content) (no_constant (before ++ e ∷ []) es)
 
-  no_index : (es : List Entry) (o : Option (List ℕ)) → list_any is_sum (index_held es o) ≡ false
-  no_index es None = refl
-  no_index es (Some i) = by (list_any _ es)
+  index_is_no_sum : (es : List Entry) (o : Option (List ℕ)) → list_any is_sum (index_held es o) ≡ false
+  index_is_no_sum es None = refl
+  index_is_no_sum es (Some i) = by (list_any _ es)
     where
       by : (b : Bool) → list_any is_sum (cond b (needs.Index ∷ []) []) ≡ false
       by true = refl
@@ -88,14 +88,14 @@ module _ (x : List ℕ) where
   pub sum_accumulator : (k : Program) → is_some (sum_place k x) ≡ true → is_accumulator k x ≡ true
   sum_accumulator k h =
       var_in (loop_entries k) k.vars
-      (in_last (index_held (loop_entries k) (loop_index k)) _ (no_index (loop_entries k) (loop_index k))
+      (in_last (index_held (loop_entries k) (loop_index k)) _ (index_is_no_sum (loop_entries k) (loop_index k))
       (in_last (constants [] (loop_entries k)) _ (no_constant [] (loop_entries k))
-      (in_last (scalars (loop_entries k) k.params) _ (no_scalar (filter (is_named_scalar (loop_entries k)) k.params)) (placed (needs.Accumulating x) (throughout k Z) h))))
+      (in_last (scalars (loop_entries k) k.params) _ (scalars_are_no_sums (filter (is_named_scalar (loop_entries k)) k.params)) (same_of_place (needs.Accumulating x) (throughout k Z) h))))
 
   -- an accumulator has a type
-  typed : (vs : List Accumulator) → list_any (is_var x) vs ≡ true → (t : Ty) × (var_type x vs ≡ Some t)
-  typed [] h = absurd cc
-  typed (v ∷ vs) h = by (bytes_eq v.name x) h (typed vs)
+  typed_var : (vs : List Accumulator) → list_any (is_var x) vs ≡ true → (t : Ty) × (var_type x vs ≡ Some t)
+  typed_var [] h = absurd cc
+  typed_var (v ∷ vs) h = by (bytes_eq v.name x) h (typed_var vs)
     where
       by : (b : Bool) → b || list_any (is_var x) vs ≡ true → (list_any (is_var x) vs ≡ true → (t : Ty) × (var_type x vs ≡ Some t)) → (t : Ty) × (cond b (Some v.type) (var_type x vs) ≡ Some t)
       by true h more = (v.type, refl)
@@ -107,4 +107,4 @@ module _ (x : List ℕ) where
     where
       by : (b : Bool) → list_any (updates x) (loop_entries k) ≡ b → list_any (updates x) (loop_entries k) ≡ false
       by false e = e
-      by true e = let t = typed k.vars var in let held = sum_is_held k x t.0 t.1 e in absurd cc
+      by true e = let t = typed_var k.vars var in let held = sum_is_held k x t.0 t.1 e in absurd cc

@@ -9,7 +9,7 @@ use Rattle.guest_types.specs.declared.memory.AccessFault.{AccessFault}
 use Rattle.guest_types.specs.Memory.{Memory, stored}
 use Rattle.kernel_tree.specs.declared.ops.Ty.{Ty}
 use Rattle.kernel_tree.specs.Plain.{Program}
-use Rattle.kernel_tree.proofs.Names.{bytes_told}
+use Rattle.kernel_tree.proofs.Names.{bytes_eq-told}
 use Rattle.kernel_meaning.specs.Operators.{binary_value}
 use Rattle.kernel_meaning.specs.Eval.{Named, Names, value_of, is_named, value_at}
 use Rattle.kernel_meaning.specs.Iterate.{named, assigned}
@@ -123,7 +123,7 @@ module _ (x : List ℕ) where
 
       by : (b : Bool) → bytes_eq n.name y ≡ b → value_at (assigned y v ns) x ≡ value_at ns x → value_at (if b then named n.name v ∷ ns else n ∷ assigned y v ns) x ≡ value_at (n ∷ ns) x
       by true f h =
-          let other : bytes_eq n.name x ≡ false = ap (λ z. bytes_eq z x) (bytes_told n.name y f) ∙ e in
+          let other : bytes_eq n.name x ≡ false = ap (λ z. bytes_eq z x) (bytes_eq-told n.name y f) ∙ e in
           ap (λ b. found b (named n.name v) ns) other ∙ sym (ap (λ b. found b n ns) other)
       by false f h = there (bytes_eq n.name x) h
 
@@ -148,5 +148,5 @@ module _ (x : List ℕ) where
       same = ap (λ y. bytes_eq y x) (sym s.0)
 
       by : (b : Bool) → bytes_eq m.name x ≡ b → value_at ns x ≡ value_at ms x → value_at (n ∷ ns) x ≡ value_at (m ∷ ms) x
-      by true e more = ap (λ b. found b n ns) (same ∙ e) ∙ s.1 (ap (is_accumulator k) (bytes_told m.name x e) ∙ h) ∙ sym (ap (λ b. found b m ms) e)
+      by true e more = ap (λ b. found b n ns) (same ∙ e) ∙ s.1 (ap (is_accumulator k) (bytes_eq-told m.name x e) ∙ h) ∙ sym (ap (λ b. found b m ms) e)
       by false e more = ap (λ b. found b n ns) (same ∙ e) ∙ more ∙ sym (ap (λ b. found b m ms) e)

@@ -52,11 +52,11 @@ module _ (x : List ℕ) where
 
   -- ---- statements
 
-  following : (es fs : List Entry) → list_any (updates x) (es ++ fs) ≡ false → list_any (updates x) fs ≡ false
-  following es fs h = (or_parts (list_any (updates x) es) (list_any (updates x) fs) (sym (list_any-append (updates x) es fs) ∙ h)).1
+  no_update_in_rest : (es fs : List Entry) → list_any (updates x) (es ++ fs) ≡ false → list_any (updates x) fs ≡ false
+  no_update_in_rest es fs h = (or_parts (list_any (updates x) es) (list_any (updates x) fs) (sym (list_any-append (updates x) es fs) ∙ h)).1
 
-  before : (es fs : List Entry) → list_any (updates x) (es ++ fs) ≡ false → list_any (updates x) es ≡ false
-  before es fs h = (or_parts (list_any (updates x) es) (list_any (updates x) fs) (sym (list_any-append (updates x) es fs) ∙ h)).0
+  no_update_in_front : (es fs : List Entry) → list_any (updates x) (es ++ fs) ≡ false → list_any (updates x) es ≡ false
+  no_update_in_front es fs h = (or_parts (list_any (updates x) es) (list_any (updates x) fs) (sym (list_any-append (updates x) es fs) ∙ h)).0
 
   break_adds : (c : Term) (scope : Scope) (mask : Option ℕ) (from : ℕ) (env : List Bound) (rest : List Item) → list_any (is_add x) (break_items scope mask from env c rest) ≡ list_any (is_add x) rest
   break_adds c scope mask from env rest = (term_adds c).as_cond scope mask from env _
@@ -71,24 +71,24 @@ module _ (x : List ℕ) where
       action_adds (Define y t e) scope mask from g env rest h r = (term_adds e).as_value scope (first t (own scope e)) mask from env _ ∙ r
       action_adds (Put a i e) scope mask from g env rest h r = (term_adds e).as_value scope (array_type scope a) mask from env _ ∙ store_adds scope mask _ env a (stream_offset scope.index i) _ rest ∙ r
       action_adds (Update y op e) scope mask from g env rest h r =
-          let here = or_parts (bytes_eq y x) false (following (term_entries k g (g + term_size (loop_index k) e) e) _ h) in
+          let here = or_parts (bytes_eq y x) false (no_update_in_rest (term_entries k g (g + term_size (loop_index k) e) e) _ h) in
           (term_adds e).as_value scope (accumulator_of scope y) mask from env _ ∙ ap₂ (λ a b. a || b) here.0 r
       action_adds (Choose c b d) scope mask from g env rest h r =
           let first = g + term_size (loop_index k) c in
           let next = first + 1 + block_size (loop_index k) b in
           let end = next + otherwise_size (loop_index k) d in
           let last : List Entry = otherwise_entries k next end d ++ entry k end (IsPlain kind.End) end ∷ [] in
-          let inner : list_any (updates x) (block_entries k (first + 1) b ++ last) ≡ false = following (term_entries k g next c) (entry k first (IsPlain kind.Then) first ∷ (block_entries k (first + 1) b ++ last)) h in
-          let others = before (otherwise_entries k next end d) _ (following (block_entries k (first + 1) b) last inner) in
+          let inner : list_any (updates x) (block_entries k (first + 1) b ++ last) ≡ false = no_update_in_rest (term_entries k g next c) (entry k first (IsPlain kind.Then) first ∷ (block_entries k (first + 1) b ++ last)) h in
+          let others = no_update_in_front (otherwise_entries k next end d) _ (no_update_in_rest (block_entries k (first + 1) b) last inner) in
           (term_adds c).as_cond scope mask from env _
-          ∙ block_adds b scope (Some (truth_home scope.index from c)) _ (first + 1) env _ (before (block_entries k (first + 1) b) last inner) (otherwise_adds d (left scope (after_block scope b)) mask _ (truth_home scope.index from c) next end env rest others r)
+          ∙ block_adds b scope (Some (truth_home scope.index from c)) _ (first + 1) env _ (no_update_in_front (block_entries k (first + 1) b) last inner) (otherwise_adds d (left scope (after_block scope b)) mask _ (truth_home scope.index from c) next end env rest others r)
       action_adds (Leave c) scope mask from g env rest h r = leave_adds c scope mask from env rest ∙ r
 
       block_adds : (b : Block) (scope : Scope) (mask : Option ℕ) (from g : ℕ) (env : List Bound) (rest : List Item) → list_any (updates x) (block_entries k g b) ≡ false → list_any (is_add x) rest ≡ false → list_any (is_add x) (block_items scope mask from env b rest) ≡ false
       block_adds Done scope mask from g env rest h r = r
       block_adds (Then s b) scope mask from g env rest h r =
           let after = g + action_size (loop_index k) s in
-          action_adds s scope mask from g env _ (before (action_entries k g s) (block_entries k after b) h) (block_adds b (after_action scope s) mask _ after (after_env scope from env s) rest (following (action_entries k g s) (block_entries k after b) h) r)
+          action_adds s scope mask from g env _ (no_update_in_front (action_entries k g s) (block_entries k after b) h) (block_adds b (after_action scope s) mask _ after (after_env scope from env s) rest (no_update_in_rest (action_entries k g s) (block_entries k after b) h) r)
 
       otherwise_adds : (d : Otherwise) (scope : Scope) (mask : Option ℕ) (from c g end : ℕ) (env : List Bound) (rest : List Item) → list_any (updates x) (otherwise_entries k g end d) ≡ false → list_any (is_add x) rest ≡ false → list_any (is_add x) (otherwise_items scope mask from c env d rest) ≡ false
       otherwise_adds Nothing scope mask from c g end env rest h r = r

@@ -17,6 +17,7 @@ use Rattle.reg_assign.specs.declared.interval.RegClass.TheVariants.{Z, P}
 use Rattle.loop_form.specs.declared.loop_item.Operand.{Operand}
 use Rattle.loop_form.specs.declared.loop_item.Operand.TheVariants.{Constant, Outer, LoopIndex, Made}
 use Rattle.loop_form.specs.Entries.{entries_of, for_loop_entries, loop_entries}
+use Rattle.loop_form.proofs.Places.{typed_place-below}
 use Rattle.vector_order.specs.Orders.{Lane, Lanes}
 use Rattle.vector_order.specs.Operands.{operand_value}
 use Rattle.lane_emit.specs.Right.{IsOf, within}
@@ -31,7 +32,6 @@ use Rattle.first_fault.proofs.PrefixBits.{top_active}
 use Rattle.chunk_pass.specs.Chunks.{IsSetting, IsChunk}
 use Rattle.chunk_pass.proofs.LaneHeads.{limit_below}
 use Rattle.lane_emit.specs.AccumulatorLanes as accumulators
-use Rattle.chunk_emit.proofs.FitsBases.{place_within}
 
 -- the setting of n lanes from iteration i on
 abbrev pub setting : Ground → (i n : ℕ) → (List ℕ → ℕ → ℤ) → (x : List ℕ) → StopList → Setting
@@ -42,7 +42,7 @@ pub fits_setting : (g : Ground) {i : ℕ} {cur : Names} {m : Memory} {sum : List
 fits_setting g n stops ground h = record {
   width = refl;
   bases = λ p t is.
-      let inside = place_within g.kernel.params p t is in
+      let inside = typed_place-below g.kernel.params p t is in
       h.x p (omega (arith, inside, ground.few)) (λ e. absurd (omega (arith, inside, ground.few, e))) ∙ ground.given p inside;
 }
 
@@ -81,11 +81,11 @@ loop_index_or_not (Made q) = not_loop_index (λ e. cc)
 -- ---- P0
 
 -- the first bit of an element
-low : (g : Ground) → IsGround g → (e : ℕ) → e < most_lanes g → width_bytes (width g) * e < 256
-low g ground e lt = lane-inside (width g) e (all_lanes (width g)) (omega (arith, lt, (lanes-bound g.vl (width g) ground.sized).1)) (omega (arith, whole-register (width g)))
+lane_byte_below_256 : (g : Ground) → IsGround g → (e : ℕ) → e < most_lanes g → width_bytes (width g) * e < 256
+lane_byte_below_256 g ground e lt = lane-inside (width g) e (all_lanes (width g)) (omega (arith, lt, (lanes-bound g.vl (width g) ground.sized).1)) (omega (arith, whole-register (width g)))
 
 pub top_is : (g : Ground) → IsGround g → (k : ℕ) (p : List ℕ) → IsTop (width g) k p → (e : ℕ) → e < most_lanes g → active (width g) p e ≡ ltb e k
-top_is g ground k p top e lt = top_active (width g) k p top e (low g ground e lt)
+top_is g ground k p top e lt = top_active (width g) k p top e (lane_byte_below_256 g ground e lt)
 
 -- ---- the items before the loop make nothing
 

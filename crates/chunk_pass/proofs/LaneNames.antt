@@ -11,7 +11,7 @@ use Rattle.loop_form.specs.Entries.{Entry, inner_entries, term_entries, action_e
 use Rattle.loop_form.specs.Listing.{names}
 use Rattle.kernel_tree.proofs.Faultless.{nil-left, nil-right, body_faultless}
 use Rattle.kernel_tree.proofs.Scopes.{scope_index, index_after}
-use Rattle.kernel_tree.proofs.Names.{bytes_told, bytes_same, NoName, index_alone}
+use Rattle.kernel_tree.proofs.Names.{bytes_eq-told, bytes_eq-refl, NoName, index_alone}
 use Rattle.kernel_tree.proofs.NoFault.{no_mismatch}
 use Rattle.loop_form.proofs.ItemTypes.{type_of, loop_types}
 use Rattle.kernel_tree.specs.declared.ops.Ty.TheVariants as ty
@@ -24,11 +24,11 @@ Typed x [] (t ∷ ts) = ⊥
 Typed x (e ∷ es) [] = ⊥
 Typed x (e ∷ es) (t ∷ ts) = (names x e ≡ true → t ≡ Some ty.U64) × Typed x es ts
 
-on : (x : List ℕ) (xs ys : List Entry) (ts us : List (Option Ty)) → Typed x xs ts → Typed x ys us → Typed x (xs ++ ys) (ts ++ us)
-on x [] ys [] us h k = k
-on x [] ys (t ∷ ts) us h k = absurd h
-on x (e ∷ xs) ys [] us h k = absurd h
-on x (e ∷ xs) ys (t ∷ ts) us h k = (h.0, on x xs ys ts us h.1 k)
+typed_append : (x : List ℕ) (xs ys : List Entry) (ts us : List (Option Ty)) → Typed x xs ts → Typed x ys us → Typed x (xs ++ ys) (ts ++ us)
+typed_append x [] ys [] us h k = k
+typed_append x [] ys (t ∷ ts) us h k = absurd h
+typed_append x (e ∷ xs) ys [] us h k = absurd h
+typed_append x (e ∷ xs) ys (t ∷ ts) us h k = (h.0, typed_append x xs ys ts us h.1 k)
 
 -- a place that wants a condition, or a value of some type
 abbrev Wants : Role → Type 0
@@ -37,10 +37,10 @@ Wants (Value None) = ⊥
 Wants (Value (Some t)) = Unit {0}
 
 -- where a value stands, its parts are wanted to be of its type
-still : (item : ℕ) (role : Role) → Wants role → as_value item role ≡ [] → Wants (Value (wanted role))
-still item Condition w e = absurd cc
-still item (Value None) w e = absurd w
-still item (Value (Some t)) w e = tt
+wanted_type_wants : (item : ℕ) (role : Role) → Wants role → as_value item role ≡ [] → Wants (Value (wanted role))
+wanted_type_wants item Condition w e = absurd cc
+wanted_type_wants item (Value None) w e = absurd w
+wanted_type_wants item (Value (Some t)) w e = tt
 
 is_typed : (item : ℕ) (o : Option Ty) → untyped item o ≡ [] → Wants (Value o)
 is_typed item None e = absurd cc
@@ -77,7 +77,7 @@ find_more p (v ∷ xs) ys b e = by (p v) e (find_more p xs ys b)
     by false e ih = ih e
 
 find_last : (x : List ℕ) (vs : List Local) → NoName x vs → option_map binding_of (find (has_name x) (vs ++ local x binding.Index ∷ [])) ≡ Some binding.Index
-find_last x [] h = by (bytes_eq x x) (bytes_same x)
+find_last x [] h = by (bytes_eq x x) (bytes_eq-refl x)
   where
     by : (c : Bool) → c ≡ true → option_map binding_of (cond c (Some (local x binding.Index)) None) ≡ Some binding.Index
     by true e = refl
@@ -98,35 +98,35 @@ action_sees s x other e = e
 
 -- ---- expressions
 
-inner : (x : List ℕ) (o : Option ℤ) (es : List Entry) (ts : List (Option Ty)) (fs : List Found) → (fs ≡ [] → Typed x es ts) → inner_faults o fs ≡ [] → Typed x (inner_entries o es) (inner_types o ts)
-inner x (Some c) es ts fs h e = tt
-inner x None es ts fs h e = h e
+typed_inner : (x : List ℕ) (o : Option ℤ) (es : List Entry) (ts : List (Option Ty)) (fs : List Found) → (fs ≡ [] → Typed x es ts) → inner_faults o fs ≡ [] → Typed x (inner_entries o es) (inner_types o ts)
+typed_inner x (Some c) es ts fs h e = tt
+typed_inner x None es ts fs h e = h e
 
 module _ (k : Program) (x : List ℕ) where
   term_typed : (t : Term) (s : Scope) (role : Role) (from f user : ℕ) → s.index ≡ loop_index k → lookup s x ≡ Some binding.Index → Wants role → faults s from role t ≡ [] → Typed x (term_entries k f user t) (term_types s role t)
   term_typed (Literal n) s role from f user q sees w h = (λ e. absurd cc, tt)
   term_typed (Variable y) s role from f user q sees w h =
-      (λ e. name_wanted from role (lookup s y) w (nil-left _ _ h) (nil-right (as_value from role) _ h) (ap (lookup s) (bytes_told y x e) ∙ sees), tt)
+      (λ e. name_wanted from role (lookup s y) w (nil-left _ _ h) (nil-right (as_value from role) _ h) (ap (lookup s) (bytes_eq-told y x e) ∙ sees), tt)
   term_typed (Element a j) s role from f user q sees w h =
       let es = term_entries k f (f + index_items (loop_index k) j) j in
       let ts = term_types s (Value (index_type s j)) j in
       let fs = faults s from (Value (index_type s j)) j in
-      on x _ _ _ _
+      typed_append x _ _ _ _
       (subst (λ o. Typed x (inner_entries (stream_offset o j) es) (inner_types (stream_offset s.index j) ts)) q
-      (inner x (stream_offset s.index j) es ts fs (term_typed j s (Value (index_type s j)) from f _ q sees (index_wants (own s j))) (nil-left _ _ h)))
+      (typed_inner x (stream_offset s.index j) es ts fs (term_typed j s (Value (index_type s j)) from f _ q sees (index_wants (own s j))) (nil-left _ _ h)))
       (λ e. absurd cc, tt)
-  term_typed (Unary op e) s role from f user q sees w h = on x _ _ _ _ (term_typed e s _ _ f _ q sees (still _ role w (nil-right (faults s from (Value (wanted role)) e) _ h)) (nil-left _ _ h)) (λ e. absurd cc, tt)
+  term_typed (Unary op e) s role from f user q sees w h = typed_append x _ _ _ _ (term_typed e s _ _ f _ q sees (wanted_type_wants _ role w (nil-right (faults s from (Value (wanted role)) e) _ h)) (nil-left _ _ h)) (λ e. absurd cc, tt)
   term_typed (Operation op a b) s role from f user q sees w h =
       let more = nil-right (faults s from (Value (wanted role)) a) _ h in
-      let wants = still _ role w (nil-right (faults s _ (Value (wanted role)) b) _ more) in
-      on x _ _ _ _ (term_typed a s _ _ f _ q sees wants (nil-left _ _ h)) (on x _ _ _ _ (term_typed b s _ _ _ _ q sees wants (nil-left _ _ more)) (λ e. absurd cc, tt))
+      let wants = wanted_type_wants _ role w (nil-right (faults s _ (Value (wanted role)) b) _ more) in
+      typed_append x _ _ _ _ (term_typed a s _ _ f _ q sees wants (nil-left _ _ h)) (typed_append x _ _ _ _ (term_typed b s _ _ _ _ q sees wants (nil-left _ _ more)) (λ e. absurd cc, tt))
   term_typed (Shift l e n) s role from f user q sees w h =
       let more = nil-right (faults s from (Value (wanted role)) e) _ h in
-      on x _ _ _ _ (term_typed e s _ _ f _ q sees (still _ role w (nil-left (as_value _ role) _ more)) (nil-left _ _ h)) (λ e. absurd cc, tt)
+      typed_append x _ _ _ _ (term_typed e s _ _ f _ q sees (wanted_type_wants _ role w (nil-left (as_value _ role) _ more)) (nil-left _ _ h)) (λ e. absurd cc, tt)
   term_typed (Conversion e t) s role from f user q sees w h =
       let more = nil-right (faults s from (Value (own s e)) e) _ h in
       let end = nil-right (mismatch _ (wanted role) t) _ (nil-right (as_value _ role) _ more) in
-      on x _ _ _ _ (term_typed e s _ _ f _ q sees (is_typed _ (own s e) end) (nil-left _ _ h)) (λ e. absurd cc, tt)
+      typed_append x _ _ _ _ (term_typed e s _ _ f _ q sees (is_typed _ (own s e) end) (nil-left _ _ h)) (λ e. absurd cc, tt)
   term_typed (Choice c a b) s role from f user q sees w h =
       let next = from + term_size s.index a in
       let last = next + term_size s.index b in
@@ -134,22 +134,22 @@ module _ (k : Program) (x : List ℕ) where
       let value = Value (wanted role) in
       let following : faults s next value b ++ (faults s last Condition c ++ as_value item role) ≡ [] = nil-right (faults s from value a) (faults s next value b ++ (faults s last Condition c ++ as_value item role)) h in
       let most : faults s last Condition c ++ as_value item role ≡ [] = nil-right (faults s next value b) (faults s last Condition c ++ as_value item role) following in
-      let wants = still item role w (nil-right (faults s last Condition c) (as_value item role) most) in
-      on x _ _ _ _ (term_typed a s value from f _ q sees wants (nil-left (faults s from value a) (faults s next value b ++ (faults s last Condition c ++ as_value item role)) h))
-      (on x _ _ _ _ (term_typed b s value next _ _ q sees wants (nil-left (faults s next value b) (faults s last Condition c ++ as_value item role) following))
-      (on x _ _ _ _ (term_typed c s Condition last _ _ q sees tt (nil-left (faults s last Condition c) (as_value item role) most)) (λ e. absurd cc, tt)))
+      let wants = wanted_type_wants item role w (nil-right (faults s last Condition c) (as_value item role) most) in
+      typed_append x _ _ _ _ (term_typed a s value from f _ q sees wants (nil-left (faults s from value a) (faults s next value b ++ (faults s last Condition c ++ as_value item role)) h))
+      (typed_append x _ _ _ _ (term_typed b s value next _ _ q sees wants (nil-left (faults s next value b) (faults s last Condition c ++ as_value item role) following))
+      (typed_append x _ _ _ _ (term_typed c s Condition last _ _ q sees tt (nil-left (faults s last Condition c) (as_value item role) most)) (λ e. absurd cc, tt)))
   term_typed (Comparison op a b) s role from f user q sees w h =
       let more = nil-right (faults s from (Value (side_type s a b)) a) _ h in
       let most = nil-right (faults s _ (Value (side_type s a b)) b) _ more in
       let wants = is_typed _ (side_type s a b) (nil-right (as_condition _ role) _ most) in
-      on x _ _ _ _ (term_typed a s _ _ f _ q sees wants (nil-left _ _ h)) (on x _ _ _ _ (term_typed b s _ _ _ _ q sees wants (nil-left _ _ more)) (λ e. absurd cc, tt))
+      typed_append x _ _ _ _ (term_typed a s _ _ f _ q sees wants (nil-left _ _ h)) (typed_append x _ _ _ _ (term_typed b s _ _ _ _ q sees wants (nil-left _ _ more)) (λ e. absurd cc, tt))
   term_typed (Both a b) s role from f user q sees w h =
       let more = nil-right (faults s from Condition a) _ h in
-      on x _ _ _ _ (term_typed a s _ _ f _ q sees tt (nil-left _ _ h)) (on x _ _ _ _ (term_typed b s _ _ _ _ q sees tt (nil-left _ _ more)) (λ e. absurd cc, tt))
+      typed_append x _ _ _ _ (term_typed a s _ _ f _ q sees tt (nil-left _ _ h)) (typed_append x _ _ _ _ (term_typed b s _ _ _ _ q sees tt (nil-left _ _ more)) (λ e. absurd cc, tt))
   term_typed (Either a b) s role from f user q sees w h =
       let more = nil-right (faults s from Condition a) _ h in
-      on x _ _ _ _ (term_typed a s _ _ f _ q sees tt (nil-left _ _ h)) (λ named. absurd cc, on x _ _ _ _ (term_typed b s _ _ _ _ q sees tt (nil-left _ _ more)) (λ e. absurd cc, tt))
-  term_typed (Not e) s role from f user q sees w h = on x _ _ _ _ (term_typed e s _ _ f _ q sees tt (nil-left _ _ h)) (λ e. absurd cc, tt)
+      typed_append x _ _ _ _ (term_typed a s _ _ f _ q sees tt (nil-left _ _ h)) (λ named. absurd cc, typed_append x _ _ _ _ (term_typed b s _ _ _ _ q sees tt (nil-left _ _ more)) (λ e. absurd cc, tt))
+  term_typed (Not e) s role from f user q sees w h = typed_append x _ _ _ _ (term_typed e s _ _ f _ q sees tt (nil-left _ _ h)) (λ e. absurd cc, tt)
 
   -- ---- statements
 
@@ -157,25 +157,25 @@ module _ (k : Program) (x : List ℕ) where
     action_typed : (a : Action) (s : Scope) (from f : ℕ) → s.index ≡ loop_index k → lookup s x ≡ Some binding.Index → action_faults s from a ≡ [] → Typed x (action_entries k f a) (action_types s a)
     action_typed (Define y t v) s from f q sees h =
         let more = nil-right (faults s from (Value (first t (own s v))) v) _ h in
-        on x _ _ _ _ (term_typed v s _ _ f _ q sees (is_typed _ (first t (own s v)) (nil-right (twice _ s y) _ more)) (nil-left _ _ h)) (λ e. absurd cc, tt)
+        typed_append x _ _ _ _ (term_typed v s _ _ f _ q sees (is_typed _ (first t (own s v)) (nil-right (twice _ s y) _ more)) (nil-left _ _ h)) (λ e. absurd cc, tt)
     action_typed (Put a i v) s from f q sees h =
         let more = nil-right (faults s from (Value (option_and_then element_type (lookup s a))) v) _ h in
-        on x _ _ _ _ (term_typed v s _ _ f _ q sees (target_wants _ (lookup s a) (nil-left _ _ more)) (nil-left _ _ h)) (λ e. absurd cc, tt)
+        typed_append x _ _ _ _ (term_typed v s _ _ f _ q sees (target_wants _ (lookup s a) (nil-left _ _ more)) (nil-left _ _ h)) (λ e. absurd cc, tt)
     action_typed (Update y op v) s from f q sees h =
         let more = nil-right (faults s from (Value (option_and_then accumulator_type (lookup s y))) v) _ h in
-        on x _ _ _ _ (term_typed v s _ _ f _ q sees (update_wants _ (lookup s y) more) (nil-left _ _ h)) (λ e. absurd cc, tt)
+        typed_append x _ _ _ _ (term_typed v s _ _ f _ q sees (update_wants _ (lookup s y) more) (nil-left _ _ h)) (λ e. absurd cc, tt)
     action_typed (Choose c b d) s from f q sees h =
         let more = nil-right (faults s from Condition c) _ h in
-        on x _ _ _ _ (term_typed c s _ _ f _ q sees tt (nil-left _ _ h)) (
+        typed_append x _ _ _ _ (term_typed c s _ _ f _ q sees tt (nil-left _ _ h)) (
           λ named. absurd cc,
-          on x _ _ _ _ (block_typed b s _ _ q sees (nil-left _ _ more)) (on x _ _ _ _ (otherwise_typed d (left s (after_block s b)) _ _ _ q sees (nil-right (block_faults s _ b) _ more)) (λ e. absurd cc, tt)),
+          typed_append x _ _ _ _ (block_typed b s _ _ q sees (nil-left _ _ more)) (typed_append x _ _ _ _ (otherwise_typed d (left s (after_block s b)) _ _ _ q sees (nil-right (block_faults s _ b) _ more)) (λ e. absurd cc, tt)),
         )
-    action_typed (Leave c) s from f q sees h = on x _ _ _ _ (term_typed c s _ _ f _ q sees tt h) (λ e. absurd cc, tt)
+    action_typed (Leave c) s from f q sees h = typed_append x _ _ _ _ (term_typed c s _ _ f _ q sees tt h) (λ e. absurd cc, tt)
 
     block_typed : (b : Block) (s : Scope) (from f : ℕ) → s.index ≡ loop_index k → lookup s x ≡ Some binding.Index → block_faults s from b ≡ [] → Typed x (block_entries k f b) (block_types s b)
     block_typed Done s from f q sees h = tt
     block_typed (Then a b) s from f q sees h =
-        on x _ _ _ _ (action_typed a s from f q sees (nil-left _ _ h)) (block_typed b (after_action s a) _ _ (index_after s a ∙ q) (action_sees s x a sees) (nil-right (action_faults s from a) _ h))
+        typed_append x _ _ _ _ (action_typed a s from f q sees (nil-left _ _ h)) (block_typed b (after_action s a) _ _ (index_after s a ∙ q) (action_sees s x a sees) (nil-right (action_faults s from a) _ h))
 
     otherwise_typed : (d : Otherwise) (s : Scope) (from f end : ℕ) → s.index ≡ loop_index k → lookup s x ≡ Some binding.Index → otherwise_faults s from d ≡ [] → Typed x (otherwise_entries k f end d) (otherwise_types s d)
     otherwise_typed Nothing s from f end q sees h = tt

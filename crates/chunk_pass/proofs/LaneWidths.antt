@@ -3,7 +3,7 @@ use Rattle.std.proofs.Common.{◌≡◌, ◌≢◌, ℕ, ◌<◌, ◌≤◌, Boo
 use Rattle.std.specs.Prelude.{is_some, option_map, slice_get, filter, ◌||◌}
 use Rattle.std.specs.List.{list_any}
 use Rattle.std.proofs.Math.Nat.{lt_of_not-le}
-use Rattle.std.proofs.lemmas.Option.{slice_get_within}
+use Rattle.std.proofs.lemmas.Option.{slice_get_within, same_Some}
 use Rattle.guest_types.specs.declared.length.Width.{Width}
 use Rattle.guest_types.specs.declared.length.Width.TheVariants.{D}
 use Rattle.guest_types.specs.Length.{width_bits}
@@ -27,7 +27,7 @@ use Rattle.loop_form.proofs.IntervalRegisters.{Chosen, chosen_of}
 use Rattle.loop_form.proofs.PlaceLaws.{throughout-place}
 use Rattle.loop_form.proofs.ItemWidths.{AreWide, loop_wide}
 use Rattle.chunk_emit.specs.KernelLayout.{register_of, throughout_of, is_same, next_place, place_in, held_place, operand_register}
-use Rattle.chunk_emit.proofs.FitsAssigned.{Stands, stands, of_one, there, some_same as same_it}
+use Rattle.chunk_emit.proofs.FitsAssigned.{Stands, stands, of_one, there}
 use Rattle.chunk_pass.proofs.LaneNames.{AreTyped, index_typed}
 use Rattle.kernel_tree.specs.declared.ops.Ty.TheVariants as ty
 use Rattle.loop_form.specs.Needs as needs
@@ -58,9 +58,9 @@ any_following (u ∷ xs) ys none e = by (is_same u needs.Index) none e (any_foll
     by true none e more = absurd cc
     by false none e more = more none e
 
-no_scalar : (ps : List Parameter) → list_any is_index (map scalar_of ps) ≡ false
-no_scalar [] = refl
-no_scalar (p ∷ ps) = no_scalar ps
+scalars_are_no_index : (ps : List Parameter) → list_any is_index (map scalar_of ps) ≡ false
+scalars_are_no_index [] = refl
+scalars_are_no_index (p ∷ ps) = scalars_are_no_index ps
 
 no_accumulator : (vs : List Accumulator) → list_any is_index (map accumulating_of vs) ≡ false
 no_accumulator [] = refl
@@ -100,7 +100,7 @@ loop_index_named : (k : Program) (x : List ℕ) → loop_index k ≡ Some x → 
 loop_index_named k x e held =
     let vs = filter (is_updated (loop_entries k)) k.vars in
     let one = place_any (throughout k Z) held in
-    let two = any_following (scalars (loop_entries k) k.params) _ (no_scalar (filter (is_named_scalar (loop_entries k)) k.params)) one in
+    let two = any_following (scalars (loop_entries k) k.params) _ (scalars_are_no_index (filter (is_named_scalar (loop_entries k)) k.params)) one in
     let three = any_following (constants [] (loop_entries k)) _ (no_constant [] (loop_entries k)) two in
     index_named (loop_entries k) x vs (subst (λ (o : Option (List ℕ)). list_any is_index (index_held (loop_entries k) o ++ map accumulating_of vs) ≡ true) e three)
 
@@ -128,15 +128,15 @@ abbrev is_index_one : Option Throughout → Bool
 is_index_one None = false
 is_index_one (Some t) = is_index t
 
-no_index : (k : Program) (x : Operand) → x ≢ LoopIndex → is_index_one (throughout_of k x) ≡ false
-no_index k (Constant t n) ne = refl
-no_index k (Outer p) ne = by (slice_get k.params p)
+operand_is_no_index : (k : Program) (x : Operand) → x ≢ LoopIndex → is_index_one (throughout_of k x) ≡ false
+operand_is_no_index k (Constant t n) ne = refl
+operand_is_no_index k (Outer p) ne = by (slice_get k.params p)
   where
     by : (o : Option Parameter) → is_index_one (option_map scalar_of o) ≡ false
     by None = refl
     by (Some p) = refl
-no_index k LoopIndex ne = absurd (ne refl)
-no_index k (Made q) ne = refl
+operand_is_no_index k LoopIndex ne = absurd (ne refl)
+operand_is_no_index k (Made q) ne = refl
 
 -- a value that is the same as the loop variable and as another one
 both_index : (it t : Throughout) → is_same it needs.Index ≡ true → is_same it t ≡ true → is_index t ≡ true
@@ -167,9 +167,9 @@ loop_index_apart k a f index_place x held ne same =
     let inside_p = slice_get_within all p.0 sp.it sp.is in
     let inside_q = slice_get_within all q.0 sq.it sq.is in
     let differ : q.0 ≢ p.0 = λ e.
-    let one : sq.it ≡ sp.it = same_it (sym sq.is ∙ ap (slice_get all) e ∙ sp.is) in
+    let one : sq.it ≡ sp.it = same_Some sq.it sp.it (sym sq.is ∙ ap (slice_get all) e ∙ sp.is) in
     let yes : is_index t.0 ≡ true = both_index sp.it t.0 sp.same (ap (λ i. is_same i t.0) (sym one) ∙ sq.same) in
-    let none : is_index t.0 ≡ false = sym (ap is_index_one t.1) ∙ no_index k x ne in
+    let none : is_index t.0 ≡ false = sym (ap is_index_one t.1) ∙ operand_is_no_index k x ne in
     cc in
     let most = throughout-few k Z in
     let vars = vars-small (loop_index k) k.vars in

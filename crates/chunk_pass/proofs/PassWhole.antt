@@ -53,7 +53,7 @@ no_region : (items : List Item) → list_any is_loop_break items ≡ false → r
 no_region [] e = refl
 no_region (it ∷ items) e = ap (λ b. if b then it ∷ region_of items else []) e
 
-all_rest : (items : List Item) → list_any is_loop_break items ≡ false → rest_of items ≡ items
+pub all_rest : (items : List Item) → list_any is_loop_break items ≡ false → rest_of items ≡ items
 all_rest [] e = refl
 all_rest (it ∷ items) e = ap (λ b. if b then rest_of items else it ∷ items) e
 

@@ -5,6 +5,7 @@ use Rattle.guest_types.specs.declared.length.Width.{Width}
 use Rattle.a64_code.specs.Table as a64
 use Rattle.sve_code.specs.Table.{whilelo, incp}
 use Rattle.machine_model.specs.InstructionTable.{Listed, Scalar, Vector}
+use Rattle.label_fix.specs.Registers.{iteration, lanes_left, scratch, xzr}
 use Rattle.loop_form.specs.declared.loop_item.Operand.TheVariants.{LoopIndex}
 use Rattle.loop_form.specs.LoopItems.{Item}
 use Rattle.lane_emit.specs.Stretch.{word}
@@ -16,19 +17,19 @@ use Rattle.first_fault.specs.BreakRegion.{region_of, rest_of}
 
 -- WHILELO P0, X9, Xn: the lanes of the chunk are those whose iterations are below the bound
 abbrev pub lanes_word : Width → ℕ → Listed
-lanes_word w n = Vector (word whilelo (0 ∷ 9 ∷ n ∷ size_of w ∷ []))
+lanes_word w n = Vector (word whilelo (lanes_left ∷ iteration ∷ n ∷ size_of w ∷ []))
 
 -- X26 = 1; WHILELO P0, XZR, X26: lane 0 alone
 abbrev pub first_lane_words : Width → List Listed
-first_lane_words w = Scalar (record { name = a64.movz; numbers = 26 ∷ 1 ∷ 0 ∷ [] }) ∷ Vector (word whilelo (0 ∷ 31 ∷ 26 ∷ size_of w ∷ [])) ∷ []
+first_lane_words w = Scalar (record { name = a64.movz; numbers = scratch ∷ 1 ∷ 0 ∷ [] }) ∷ Vector (word whilelo (lanes_left ∷ xzr ∷ scratch ∷ size_of w ∷ [])) ∷ []
 
 -- INDEX z, X9, #1: the loop variable, where it has a register; then the lanes are doublewords
 abbrev pub index_words : Layout → List Listed
-index_words l = if l.held LoopIndex then vectors (index_code (l.registers.source LoopIndex) 9) else []
+index_words l = if l.held LoopIndex then vectors (index_code (l.registers.source LoopIndex) iteration) else []
 
 -- INCP X9, P0
 abbrev pub advance_word : Width → Listed
-advance_word w = Vector (word incp (9 ∷ 0 ∷ size_of w ∷ []))
+advance_word w = Vector (word incp (iteration ∷ lanes_left ∷ size_of w ∷ []))
 
 -- a chunk of a loop with a break
 abbrev pub chunk_words : Width → Layout → (bound : ℕ) → List Item → List Listed

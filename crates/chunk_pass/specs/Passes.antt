@@ -12,6 +12,7 @@ use Rattle.machine_model.specs.Machine.{State, p_at}
 use Rattle.machine_model.specs.Run.{IsAccess}
 use Rattle.label_fix.specs.DraftRun.{DraftEntry, Laid}
 use Rattle.label_fix.specs.Stretches.{Leads, Stops}
+use Rattle.label_fix.specs.Registers.{lanes_left}
 use Rattle.dependence.specs.Apart.{bound_place}
 use Rattle.vector_order.specs.Elsewhere.{Elsewhere}
 use Rattle.chunk_emit.specs.ChunkCode.{puts}
@@ -37,7 +38,7 @@ pub data LeftOut (iteration_end : BlockEnd Names) (cut : ℕ) : Type 0 where
 -- one of these iterations; then no byte differs but those of elements that these iterations store.
 pub data Passes (why : BlockEnd Names → (cut : ℕ) → Type 0) (g : Ground) (n i : ℕ) (cur : Names) (m : Memory) (d : Laid) (code : List DraftEntry) (s : State) (rest : List DraftEntry) (most : ℕ) : Type 0 where
   comes : (k : ℕ) (now : Memory) (names : Names) (sum : List ℕ → ℕ → ℤ) (end : State) → k ≤ n → iterations (var_scope g.kernel) g.for_loop k i m cur ≡ Going now names → (leads : Leads d code s rest end most)
-      → (k < n → why (iterate (var_scope g.kernel) g.for_loop (i + k) now names) leads.cut) → AtHead g (i + k) names now sum end → IsTop (width g) k (p_at end 0) → IndexHeld g i end
+      → (k < n → why (iterate (var_scope g.kernel) g.for_loop (i + k) now names) leads.cut) → AtHead g (i + k) names now sum end → IsTop (width g) k (p_at end lanes_left) → IndexHeld g i end
       → Passes why g n i cur m d code s rest most
   stops : (k j : ℕ) (left faulted : Memory) (kind : StopKind) → k ≤ n → iterations (var_scope g.kernel) g.for_loop k i m cur ≡ Failed faulted j → i ≤ j → j < i + k → IsAccess kind
       → ((z : ℕ) → z < 2 ^ 64 → Elsewhere g.kernel g.args i k z → byte_at left z ≡ byte_at faulted z) → Stops d code s kind left most
@@ -58,5 +59,5 @@ IterationPasses =
 -- A chunk of a loop without a break, of which some lane is to be done, with its lanes in P0: all of them come through.
 abbrev pub PlainPasses : Type 0
 PlainPasses =
-    (g : Ground) (d : Laid) (rest : List DraftEntry) (i : ℕ) (cur : Names) (m : Memory) (sum : List ℕ → ℕ → ℤ) (s : State) → IsGround g → list_any is_loop_break (items_of g) ≡ false → AtHead g i cur m sum s → i < limit g → IsTop (width g) (lanes_at g i) (p_at s 0)
+    (g : Ground) (d : Laid) (rest : List DraftEntry) (i : ℕ) (cur : Names) (m : Memory) (sum : List ℕ → ℕ → ℤ) (s : State) → IsGround g → list_any is_loop_break (items_of g) ≡ false → AtHead g i cur m sum s → i < limit g → IsTop (width g) (lanes_at g i) (p_at s lanes_left)
     → Passes (λ iteration_end cut. ⊥) g (lanes_at g i) i cur m d (puts (plain_words (width g) (layout g) (items_of g)) rest) s rest (length (plain_words (width g) (layout g) (items_of g)))

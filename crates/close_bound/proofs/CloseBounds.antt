@@ -12,7 +12,7 @@ use Rattle.kernel_tree.specs.Items.{size_of}
 use Rattle.reg_assign.specs.declared.interval.RegClass.TheVariants.{Z}
 use Rattle.loop_form.specs.declared.stream.Stream.{Stream}
 use Rattle.loop_form.specs.declared.reach.Reach.{Reach}
-use Rattle.loop_form.specs.Lanes.{width_of, lane_width_of}
+use Rattle.loop_form.specs.Lanes.{type_width, lane_width_of}
 use Rattle.loop_form.specs.LoopItems.{Op, Item, loop_items_of}
 use Rattle.loop_form.specs.LoopItems as ops
 use Rattle.loop_form.specs.Needs.{Throughout, Scalar, throughout}
@@ -21,7 +21,7 @@ use Rattle.loop_form.specs.Streams.{streams_of, is_of}
 use Rattle.dependence.specs.declared.used.Used.{Used}
 use Rattle.dependence.specs.Apart.{is_reach_of, greatest_reach, with_reach, used_by, used_at, used_from, used_of}
 use Rattle.dependence.specs.Bound.{runs_in_chunks, free_bound}
-use Rattle.close_bound.specs.CloseBound.{has_break, offset_steps, lane_steps, early_steps, item_steps, items_steps, around_steps, pass_steps, spare, passes, iteration_steps, last_steps, laid_steps, joined_steps, held_steps, one_if, pairs_with, stored_pairs, is_free, test_steps, guard_steps, outside_steps, loop_steps, close_bound}
+use Rattle.close_bound.specs.CloseBound.{has_break, offset_steps, lane_steps, early_steps, item_steps, items_steps, around_steps, pass_steps, spare, passes, iteration_steps, last_steps, turning_steps, laid_steps, joined_steps, held_steps, one_if, pairs_with, stored_pairs, is_free, test_steps, guard_steps, outside_steps, loop_steps, close_bound}
 use Rattle.close_bound.proofs.LoopSizes.{all_items}
 use Rattle.close_bound.proofs.HeldCounts.{few_held}
 
@@ -97,9 +97,9 @@ one_reached n w (Some r) (u ∷ us) h = h
 
 pub at-few : (ss : List Stream) (rs : List Reach) (n : ℕ) (h : Shape) → length (used_at ss rs n h) ≤ 1
 at-few ss rs n (shape.Scalar t) = omega arith
-at-few ss rs n (shape.Array t) = one_reached n (width_of t) (greatest_reach (filter (is_reach_of n) rs)) (used_by n (width_of t) (filter (is_of n) ss)) (by (filter (is_of n) ss))
+at-few ss rs n (shape.Array t) = one_reached n (type_width t) (greatest_reach (filter (is_reach_of n) rs)) (used_by n (type_width t) (filter (is_of n) ss)) (by (filter (is_of n) ss))
   where
-    by : (ss : List Stream) → length (used_by n (width_of t) ss) ≤ 1
+    by : (ss : List Stream) → length (used_by n (type_width t) ss) ≤ 1
     by [] = omega arith
     by (s ∷ ss) = omega arith
 
@@ -120,12 +120,17 @@ pub last_few : (b : Bool) (k : Program) → last_steps b k ≤ iteration_steps k
 last_few true k = omega arith
 last_few false k = omega arith
 
+turning_few : (b : Bool) → turning_steps b ≤ 3
+turning_few true = omega arith
+turning_few false = omega arith
+
 pub outside_few : (k : Program) → length k.params ≤ 8 → outside_steps k + iteration_steps k ≤ 1000 + 100 * size_of k
 outside_few k few =
     let a = held_few (throughout k Z) in
     let b = few_held k in
+    let t = turning_few (has_break k) in
     let c = guard_few (used_of k) (let u = from-few (streams_of k) (reaches_of k) 0 k.params in omega (arith, u, few)) in
-    omega (arith, a, b, c)
+    omega (arith, a, b, t, c)
 
 -- ---- the whole
 

@@ -60,12 +60,12 @@ copy = record {
 -- ---- outside the loop
 
 -- 4 parameters, k laid into a register, and the test of one pair of two arrays
-axpy-outside : outside_steps axpy ≡ 46
+axpy-outside : outside_steps axpy ≡ 49
 unfolding item_type widest constants before_break computed_index carried least_of greatest_of most_reach used_from
 axpy-outside = refl
 
 -- 3 parameters, four items, and an accumulator
-dot-outside : outside_steps dot ≡ 42
+dot-outside : outside_steps dot ≡ 45
 unfolding item_type widest constants before_break computed_index carried least_of greatest_of most_reach used_from
 dot-outside = refl
 
@@ -75,7 +75,7 @@ unfolding item_type widest constants before_break computed_index carried least_o
 len-outside = refl
 
 -- 4 parameters, a literal, and the test of two pairs of three arrays
-copy-outside : outside_steps copy ≡ 74
+copy-outside : outside_steps copy ≡ 77
 unfolding item_type widest constants before_break computed_index carried least_of greatest_of most_reach used_from
 copy-outside = refl
 
@@ -103,18 +103,18 @@ len-last = refl
 
 -- ---- 64 iterations at 256 bits
 
--- 46 + 13 * 8
-axpy-close : close_bound axpy (0x10000 ∷ 0x20000 ∷ 3 ∷ 64 ∷ []) 256 64 0 ≡ 150
+-- 49 + 13 * 8
+axpy-close : close_bound axpy (0x10000 ∷ 0x20000 ∷ 3 ∷ 64 ∷ []) 256 64 0 ≡ 153
 unfolding item_type widest constants before_break computed_index carried least_of greatest_of most_reach used_from
 axpy-close = refl
 
--- where the arrays overlap, iterations one by one: 46 + 28 * 64
-axpy-over : close_bound axpy (0x10000 ∷ 0x10004 ∷ 3 ∷ 64 ∷ []) 256 64 0 ≡ 1838
+-- where the arrays overlap, iterations one by one: 49 + 28 * 64
+axpy-over : close_bound axpy (0x10000 ∷ 0x10004 ∷ 3 ∷ 64 ∷ []) 256 64 0 ≡ 1841
 unfolding item_type widest constants before_break computed_index carried least_of greatest_of most_reach used_from
 axpy-over = refl
 
--- 42 + 12 * 16
-dot-close : close_bound dot (0x10000 ∷ 0x20000 ∷ 64 ∷ []) 256 64 0 ≡ 234
+-- 45 + 12 * 16
+dot-close : close_bound dot (0x10000 ∷ 0x20000 ∷ 64 ∷ []) 256 64 0 ≡ 237
 unfolding item_type widest constants before_break computed_index carried least_of greatest_of most_reach used_from
 dot-close = refl
 
@@ -128,7 +128,7 @@ len-suppressed : close_bound len (0x10000 ∷ 100 ∷ []) 256 64 3 ≡ 177
 unfolding item_type widest constants before_break computed_index carried least_of greatest_of most_reach used_from
 len-suppressed = refl
 
--- 74 + 8 * 2
-copy-close : close_bound copy (0x10000 ∷ 0x20000 ∷ 0x30000 ∷ 64 ∷ []) 256 64 0 ≡ 90
+-- 77 + 8 * 2
+copy-close : close_bound copy (0x10000 ∷ 0x20000 ∷ 0x30000 ∷ 64 ∷ []) 256 64 0 ≡ 93
 unfolding item_type widest constants before_break computed_index carried least_of greatest_of most_reach used_from
 copy-close = refl

@@ -7,27 +7,18 @@ use Rattle.kernel_tree.specs.Items.{index_of, loop_index, loop_start, size_of}
 use Rattle.reg_assign.specs.declared.interval.RegClass.TheVariants.{Z}
 use Rattle.loop_form.specs.declared.item.ItemKind.TheVariants as kind
 use Rattle.loop_form.specs.Entries.{IsPlain, Entry, entry, block_entries, for_loop_entries, loop_entries}
-use Rattle.loop_form.specs.Needs.{scalars, is_named_scalar, scalar_of, constants, new_constant, index_held, is_updated, accumulating_of, throughout}
+use Rattle.loop_form.specs.Needs.{scalars, is_named_scalar, scalar_of, constants, index_held, is_updated, accumulating_of, throughout}
 use Rattle.loop_form.proofs.FewItems.{vars-small}
 use Rattle.loop_form.proofs.Numbers.{loop-listed}
-use Rattle.loop_form.proofs.IntervalLaws.{constant-few as constant_few, index-few as index_few, filter-few as filter_few}
-
-constants_few : (before es : List Entry) → length (constants before es) ≤ length es
-unfolding constants
-constants_few before [] = omega arith
-constants_few before (e ∷ es) =
-    let a = length-append (new_constant before e.type e.content) (constants (before ++ e ∷ []) es) in
-    let b = constant_few before e e.content in
-    let c = constants_few (before ++ e ∷ []) es in
-    omega (arith, a, b, c)
+use Rattle.loop_form.proofs.IntervalLaws.{index-few as index_few, filter-few as filter_few, constants-few}
 
 -- the first item of a loop is no literal, so there is room for the loop variable
 first_few : (k : Program) (b : ℕ) (l : PlainLoop) → length (constants [] (for_loop_entries k b (Some l))) + 1 ≤ length (for_loop_entries k b (Some l))
 unfolding constants
-first_few k b l = let c = constants_few (entry k b (IsPlain kind.For) b ∷ []) (block_entries k (b + 1) l.body) in omega (arith, c)
+first_few k b l = let c = constants-few (entry k b (IsPlain kind.For) b ∷ []) (block_entries k (b + 1) l.body) in omega (arith, c)
 
 loop_few : (k : Program) (b : ℕ) (o : Option PlainLoop) → length (constants [] (for_loop_entries k b o)) + length (index_held (for_loop_entries k b o) (option_map index_of o)) ≤ length (for_loop_entries k b o)
-loop_few k b None = let c = constants_few [] [] in omega (arith, c)
+loop_few k b None = let c = constants-few [] [] in omega (arith, c)
 loop_few k b (Some l) = let c = first_few k b l in let i = index_few (for_loop_entries k b (Some l)) (Some l.index) in omega (arith, c, i)
 
 pub few_held : (k : Program) → length (throughout k Z) ≤ size_of k

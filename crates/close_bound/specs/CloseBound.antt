@@ -84,6 +84,11 @@ last_steps false k = 0
 
 -- ---- outside the loop
 
+-- where no break stands in the loop, what finds how long four whole chunks are left
+abbrev pub turning_steps : (breaks : Bool) → ℕ
+turning_steps true = 0
+turning_steps false = 3
+
 -- values that are held throughout: each is laid into its register, and an accumulator joined from its lanes after the loop
 abbrev pub laid_steps : Throughout → ℕ
 laid_steps (Scalar x) = 1
@@ -135,9 +140,11 @@ guard_steps us = test_steps (is_free us) us
 abbrev pub ending_steps : Program → ℕ
 ending_steps k = 5 + 4 * answer_size (loop_index k) k.answer
 
--- the parameters, the items of the accumulators' first values, what is held, the test of the arrays, and the end
+-- the parameters, the items of the accumulators' first values, what is held, the test of the arrays, what stands before a pass,
+-- and the end
 abbrev pub outside_steps : Program → ℕ
-outside_steps k = 7 + length k.params + 4 * vars_size (loop_index k) k.vars + held_steps (throughout k Z) + guard_steps (used_of k) + ending_steps k
+outside_steps k =
+    7 + turning_steps (has_break k) + length k.params + 4 * vars_size (loop_index k) k.vars + held_steps (throughout k Z) + guard_steps (used_of k) + ending_steps k
 
 -- ---- the whole
 

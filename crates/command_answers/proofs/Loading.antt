@@ -1,13 +1,15 @@
 -- Programs that are loaded have few pages, and what is wanted where a program or its map is refused.
-use Rattle.std.proofs.Common.{◌≡◌, ℕ, zero, suc, ◌+◌, ◌≤◌, Bool, true, false, cond, List, [], ◌∷◌, length, flat_map, Option, Some, None, Result, Ok, Err, refl, sym, ap, ◌∙◌, subst, arith, length-append}
+use Rattle.std.proofs.Common.{◌≡◌, ℕ, ◌+◌, ◌≤◌, Bool, true, false, cond, List, [], ◌∷◌, length, flat_map, Option, Some, None, Result, Ok, Err, refl, sym, ap, ◌∙◌, subst, arith, length-append}
 use Rattle.std.specs.Prelude.{nat_lt, nat_eq, sum_by, filter, ◌*◌, ◌&&◌, ◌||◌, not, IfErr, IsErrAnd, if◌then◌else◌}
 use Rattle.std.proofs.lemmas.Bool.{ltb-false}
 use Rattle.std.proofs.lemmas.List.Sums.{sum_by-cons}
 use Rattle.guest_types.specs.Memory.{Memory}
+use Rattle.guest_types.proofs.Errors.{ok_unique}
 use Rattle.machine_model.specs.declared.elf_fault.ElfFault.{ElfFault}
 use Rattle.machine_model.specs.declared.elf_fault.ElfFault.TheVariants.{Short, NotElf, NotAarch64, NotStatic, BadSegment, SegmentsClash, TooManyPages, Memory as NoMemory}
 use Rattle.machine_model.specs.Load.{Image, Segment, load, load_segments, segments_from, le_at, image_of, is_loaded, first_bad, any_segment, is_dynamic, has_ident, pages_from, pages_of, page_count, first_page, put_in_order, in_order, clash}
 use Rattle.elf_image.specs.Loaded.{Refuses}
+use Rattle.elf_image.proofs.Memories.{length-pages_from}
 use Rattle.map_text.specs.declared.fault.MapFault.{MapFault}
 use Rattle.map_text.specs.declared.fault.MapFault.TheVariants as maps
 use Rattle.map_text.specs.View.{Refuses as RefusesMap}
@@ -19,16 +21,12 @@ use Rattle.command_answers.specs.Works.{RefusesProgram}
 
 -- ---- an image has few pages
 
-count_from : (bytes : List ℕ) (s : Segment) (n count : ℕ) → length (pages_from bytes s n count) ≡ count
-count_from bytes s n zero = refl
-count_from bytes s n (suc count) = ap suc (count_from bytes s (n + 1) count)
-
 length-pages : (bytes : List ℕ) (xs : List Segment) → length (flat_map (pages_of bytes) xs) ≡ sum_by page_count xs
 unfolding pages_of
 length-pages bytes [] = refl
 length-pages bytes (s ∷ xs) =
     length-append (pages_from bytes s (first_page s) (page_count s)) (flat_map (pages_of bytes) xs)
-    ∙ ap (λ n. n + length (flat_map (pages_of bytes) xs)) (count_from bytes s (first_page s) (page_count s))
+    ∙ ap (λ n. n + length (flat_map (pages_of bytes) xs)) (length-pages_from bytes s (first_page s) (page_count s))
     ∙ ap (λ n. page_count s + n) (length-pages bytes xs)
     ∙ sym (sum_by-cons page_count s xs)
 
@@ -49,17 +47,14 @@ sum-in_order f [] = refl
 sum-in_order f (s ∷ xs) =
     sum-put f s (in_order xs) ∙ ap (λ n. f s + n) (sum-in_order f xs) ∙ sym (sum_by-cons f s xs)
 
-past : (t : Bool) (fault : ElfFault) (rest : Result Image ElfFault) (image : Image) → cond t (Err fault) rest ≡ Ok image → rest ≡ Ok image
-past true fault rest image e = absurd cc
-past false fault rest image e = e
-
-ok-same : (a b : Image) (r : Result Image ElfFault) → r ≡ Ok a → r ≡ Ok b → a ≡ b
-ok-same a b r e h = cc
+ok_past_fault : (t : Bool) (fault : ElfFault) (rest : Result Image ElfFault) (image : Image) → cond t (Err fault) rest ≡ Ok image → rest ≡ Ok image
+ok_past_fault true fault rest image e = absurd cc
+ok_past_fault false fault rest image e = e
 
 few_loaded : (bytes : List ℕ) (entry : ℕ) (loaded : List Segment) (image : Image) (t : Bool) → nat_lt 16384 (sum_by page_count loaded) ≡ t → cond t (Err TooManyPages) (cond (clash loaded) (Err SegmentsClash) (Ok (image_of bytes entry loaded))) ≡ Ok image → length image.pages ≤ 16384
 few_loaded bytes entry loaded image true e h = absurd cc
 few_loaded bytes entry loaded image false e h =
-    let is : image_of bytes entry loaded ≡ image = ok-same _ _ (Ok (image_of bytes entry loaded)) refl (past (clash loaded) SegmentsClash _ image h) in
+    let is : image_of bytes entry loaded ≡ image = ok_unique _ _ (Ok (image_of bytes entry loaded)) refl (ok_past_fault (clash loaded) SegmentsClash _ image h) in
     let sum : length (flat_map (pages_of bytes) (in_order loaded)) ≡ sum_by page_count loaded = length-pages bytes (in_order loaded) ∙ sum-in_order page_count loaded in
     let count : length image.pages ≡ length (flat_map (pages_of bytes) (in_order loaded)) = sym (ap (λ i. length i.pages) is) in
     let most : sum_by page_count loaded ≤ 16384 = ltb-false 16384 (sum_by page_count loaded) e in
@@ -94,17 +89,17 @@ from_ident bytes =
 
 to_segments : (bytes : List ℕ) (image : Image) → load bytes ≡ Ok image → from_segments bytes ≡ Ok image
 to_segments bytes image h =
-    let ident = past (nat_lt (length bytes) 64) (Short 64 (length bytes)) (from_ident bytes) image h in
-    let machine = past (not (has_ident bytes) || (not (nat_eq (le_at bytes 56 2) 0) && not (nat_eq (le_at bytes 54 2) 56))) NotElf (from_machine bytes) image ident in
-    let type = past (not (nat_eq (le_at bytes 18 2) 183)) NotAarch64 (from_type bytes) image machine in
-    let table = past (not (nat_eq (le_at bytes 16 2) 2)) NotStatic (from_table bytes) image type in
-    past (not (nat_eq (le_at bytes 56 2) 0) && nat_lt (length bytes) (le_at bytes 32 8 + 56 * le_at bytes 56 2)) (Short (le_at bytes 32 8 + 56 * le_at bytes 56 2) (length bytes)) (from_segments bytes) image table
+    let ident = ok_past_fault (nat_lt (length bytes) 64) (Short 64 (length bytes)) (from_ident bytes) image h in
+    let machine = ok_past_fault (not (has_ident bytes) || (not (nat_eq (le_at bytes 56 2) 0) && not (nat_eq (le_at bytes 54 2) 56))) NotElf (from_machine bytes) image ident in
+    let type = ok_past_fault (not (nat_eq (le_at bytes 18 2) 183)) NotAarch64 (from_type bytes) image machine in
+    let table = ok_past_fault (not (nat_eq (le_at bytes 16 2) 2)) NotStatic (from_table bytes) image type in
+    ok_past_fault (not (nat_eq (le_at bytes 56 2) 0) && nat_lt (length bytes) (le_at bytes 32 8 + 56 * le_at bytes 56 2)) (Short (le_at bytes 32 8 + 56 * le_at bytes 56 2) (length bytes)) (from_segments bytes) image table
 
 -- an image that was loaded has few pages
 pub few_pages : (bytes : List ℕ) (image : Image) → load bytes ≡ Ok image → length image.pages ≤ 16384
 few_pages bytes image h =
     few_segments bytes (le_at bytes 24 8) (headers bytes) image (first_bad (length bytes) 0 (headers bytes))
-    (past (any_segment is_dynamic (headers bytes)) NotStatic _ image (to_segments bytes image h))
+    (ok_past_fault (any_segment is_dynamic (headers bytes)) NotStatic _ image (to_segments bytes image h))
 
 -- ---- programs that are refused
 

@@ -70,9 +70,9 @@ stops_there x y (Some h) wanted found next refusal result is e answer =
     (refused_first x y x y (wanted h) (next h) refusal (λ r. r) (subst (IsFileAnswer x y (wanted h)) is answer))
 
 -- what is answered without a look at the files
-pub answered : {T : Type 0} (x : ℕ) (held : Option HeldFiles) (wanted : HeldFiles → Result T Refusal) (result : Result T Refusal) → ((h : HeldFiles) → wanted h ≡ result) → IfSome held (λ h. IsFileAnswer x x (wanted h) result)
-answered x None wanted result is = tt
-answered x (Some h) wanted result is = inl (sym (is h))
+pub read_is_answered : {T : Type 0} (x : ℕ) (held : Option HeldFiles) (wanted : HeldFiles → Result T Refusal) (result : Result T Refusal) → ((h : HeldFiles) → wanted h ≡ result) → IfSome held (λ h. IsFileAnswer x x (wanted h) result)
+read_is_answered x None wanted result is = tt
+read_is_answered x (Some h) wanted result is = inl (sym (is h))
 
 -- ---- refusals
 

@@ -1,4 +1,5 @@
 pub mod Answer
 pub mod Reads
+pub mod Requests
 pub mod Works
 pub mod Outputs

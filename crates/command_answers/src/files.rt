@@ -1,9 +1,10 @@
 //! The files that a command reads.
 
-ghost use Rattle.std.specs.Prelude.{◌≡◌, ◌≢◌, ◌≤◌, Err, IfSome, IsSome, IsTrue, option_map, string_bytes};
+ghost use Rattle.std.specs.Prelude.{◌≡◌, ◌≢◌, ◌≤◌, [], ◌∷◌, Err, IfSome, IsSome, IsTrue, option_map, string_bytes};
 ghost use Rattle.io_edges.specs.Files.{Rose, content};
 ghost use Rattle.command_answers.specs.Answer.{IsFileAnswer};
 ghost use Rattle.command_line.specs.View.{task_view};
+ghost use Rattle.command_answers.specs.Requests.{Asks, IsOk, Read, map_wants, task_wants};
 ghost use Rattle.command_answers.specs.Reads.{file_of, map_of, task_files, bytes_in, files_in, IsOfRead, IsMapHeld, IsTaskHeld};
 
 use command_line::command::Task;
@@ -22,6 +23,7 @@ pub fn read_file<F: Files>(alloc: Global, name: &str, files: &mut F) -> Result<V
     ensures reads { IsTrue (F.steady files.old)
         → IfSome (F.held files.old) (λ held. IsSome (content held name.now) → result ≢ Err Refusal.File) }
     ensures of_read { IsOfRead result }
+    ensures asked { Asks IsOk (F.requests files.old) (F.requests files.new) (Read name.now ∷ []) result }
 {
     let mut bytes = Vec::new(alloc);
     files.read(alloc, name, &mut bytes)?;
@@ -45,6 +47,7 @@ fn read_map_file<F: Files>(
         → IfSome (F.held files.old) (λ held. IsMapHeld held (option_map string_bytes name.now)
         → result ≢ Err Refusal.File) }
     ensures of_read { IsOfRead result }
+    ensures asked { Asks IsOk (F.requests files.old) (F.requests files.new) (map_wants (option_map string_bytes name.now)) result }
 {
     match name {
         Some(name) => read_file(alloc, name.as_str(), files),
@@ -71,6 +74,7 @@ pub fn read_task<F: Files>(alloc: Global, task: &Task, files: &mut F) -> Result<
     ensures reads { IsTrue (F.steady files.old)
         → IfSome (F.held files.old) (λ held. IsTaskHeld held (task_view task.now) → result ≢ Err Refusal.File) }
     ensures of_read { IsOfRead result }
+    ensures asked { Asks IsOk (F.requests files.old) (F.requests files.new) (task_wants (task_view task.now)) result }
 {
     let file = read_file(alloc, task.file.as_str(), files)?;
     let map = read_map_file(alloc, &task.map, files)?;

@@ -7,7 +7,7 @@ use Rattle.std.proofs.lemmas.Option.{none-some}
 use Rattle.std.proofs.lemmas.List.{append-nil, append_assoc}
 use mathlib.Core.Bool.{or-true}
 use Rattle.number_text.specs.Numbers.{given, number_of}
-use Rattle.command_line.specs.Line.{Words, Options, Extent, Line, is_end, is_plain, is_filled, positional, positional_from, value_named, value_in, value_following, value_at, once, extent_of, period_of, with_vl, with_steps, with_map, with_dump, with_suppress, option_at, options_of, no_options, run_with, run_of, eval_with, eval_of, debug_with, debug_of, pipe_with, pipe_of, CompileLine, AsmLine, compile_of, asm_of, two_files, words_and_file, two_of}
+use Rattle.command_line.specs.Line.{Words, Options, Extent, Line, is_end, is_plain, is_filled, positional, positional_from, value_named, value_in, value_following, value_at, once, extent_of, period_of, with_vl, with_steps, with_map, with_dump, with_suppress, option_at, options_of, no_options, run_with, run_of, eval_with, eval_of, debug_with, debug_of, pipe_with, pipe_of, CompileLine, AsmLine, ObjectLine, compile_of, asm_of, object_of, two_files, words_and_file, kernel_and_object, two_of}
 use Rattle.command_line.specs.Numbers.{parted}
 use Rattle.command_line.specs.Given.{Given, name_of, joined_of, name_before, allows, without, next, gives, given_from, given_of, nothing, with_value, with_word, spelt_value, options_in, options_and_words}
 use Rattle.command_line.specs.declared.place.Allowed.{Allowed}
@@ -16,9 +16,10 @@ use Rattle.command_line.specs.declared.place.OptionName.TheVariants.{Vl, Steps, 
 use Rattle.command_line.specs.declared.place.Place.{Place}
 use Rattle.command_line.specs.declared.place.Place.TheVariants as place
 use Rattle.clap.specs.Walk.{nothing_held}
+use Rattle.number_text.proofs.Bytes.{bytes_eq-told}
 use Rattle.command_line.proofs.PositionalWords.{text_given, positional_words, or_none}
 use Rattle.command_line.proofs.Opens.{next_alone, next_joined, gives-end, gives-plain, gives-alone, gives-joined}
-use Rattle.command_line.proofs.Sorts.{Sorted, ends, plain, alone, joined, other, sorted, word_of, name_is, joined_is, same_bytes, unwrapped}
+use Rattle.command_line.proofs.Sorts.{Sorted, ends, plain, alone, joined, other, sorted, word_of, name_is, joined_is, unwrapped}
 
 -- ---- options
 
@@ -211,7 +212,7 @@ not_named : (n : OptionName) (word : List ℕ) → name_of word ≡ None → byt
 not_named n word e = go (bytes_eq word (word_of n)) refl
   where
     go : (b : Bool) → bytes_eq word (word_of n) ≡ b → b ≡ false
-    go true t = absurd (none-some n (sym e ∙ ap name_of (same_bytes word (word_of n) t) ∙ name_is_own n))
+    go true t = absurd (none-some n (sym e ∙ ap name_of (bytes_eq-told word (word_of n) t) ∙ name_is_own n))
     go false t = refl
 
 not_joined : (n : OptionName) (word : List ℕ) → joined_of word ≡ None → value_in (word_of n) word ≡ None
@@ -225,7 +226,7 @@ not_joined n word e = by_parts (parted 61 word) refl e
     by_filled p w false f g = refl
 
     by_name : (p : List ℕ × List ℕ) → (b : Bool) → bytes_eq p.0 (word_of n) ≡ b → name_before p ≡ None → (if b && is_filled p.1 then Some p.1 else None) ≡ None
-    by_name p true t g = by_filled p (same_bytes p.0 (word_of n) t) (is_filled p.1) refl g
+    by_name p true t g = by_filled p (bytes_eq-told p.0 (word_of n) t) (is_filled p.1) refl g
     by_name p false t g = refl
 
     by_parts : (o : Option (List ℕ × List ℕ)) → parted 61 word ≡ o → option_and_then name_before o ≡ None → option_and_then (value_named (word_of n)) o ≡ None
@@ -248,7 +249,7 @@ nothing_at o = refl
 -- `--`, and a word that begins with no minus, name none
 end_names : (word : List ℕ) → is_end word ≡ true → (name_of word ≡ None) × (joined_of word ≡ None)
 unfolding joined_of parted
-end_names word t = rw (same_bytes word (codes "--") t) (refl, refl)
+end_names word t = rw (bytes_eq-told word (codes "--") t) (refl, refl)
 
 not_plain : (n : OptionName) (rest : List ℕ) → is_plain (word_of n ++ rest) ≡ false
 not_plain Vl rest = refl
@@ -283,15 +284,15 @@ choose_literal f false false P H e = refl
 abbrev adding : Words → Given → Words
 adding found g = found ++ g.words
 
-one_more : (found : Words) (word : List ℕ) (o : Option Given) → option_map (adding (found ++ word ∷ [])) o ≡ option_map (adding found) (option_map (with_word word) o)
-one_more found word None = refl
-one_more found word (Some g) = ap (λ (x : Words). Some x) (append_assoc found (word ∷ []) g.words)
+adding_one_word : (found : Words) (word : List ℕ) (o : Option Given) → option_map (adding (found ++ word ∷ [])) o ≡ option_map (adding found) (option_map (with_word word) o)
+adding_one_word found word None = refl
+adding_one_word found word (Some g) = ap (λ (x : Words). Some x) (append_assoc found (word ∷ []) g.words)
 
 literal_is : (words found : Words) → positional_from true found words ≡ option_map (adding found) (given_from place.Literal words)
 unfolding positional_from given_from next gives
 literal_is [] found = ap (λ (x : Words). Some x) (sym (append-nil found))
 literal_is (word ∷ words) found = choose_literal (adding found) (is_end word) (is_filled word) (positional_from true (found ++ word ∷ []) words)
-    (λ q. option_map (gives place.Literal word) (given_from q words)) (literal_is words (found ++ word ∷ []) ∙ one_more found word (given_from place.Literal words))
+    (λ q. option_map (gives place.Literal word) (given_from q words)) (literal_is words (found ++ word ∷ []) ∙ adding_one_word found word (given_from place.Literal words))
 
 map_same : (f : Given → Given) (o : Option Given) → ((g : Given) → f g ≡ g) → option_map f o ≡ o
 map_same f None h = refl
@@ -318,7 +319,7 @@ positional_is (word ∷ words) found = by_end (is_end word) refl (is_plain word)
         → (if b then positional_from true found words else if c then positional_from false (found ++ word ∷ []) words else None)
         ≡ option_map (adding found) (option_and_then (λ q. option_map (gives place.Positional word) (given_from q words)) (if b then Some place.Literal else if c then Some place.Positional else None))
     by_end true t c ih = literal_is words found ∙ sym (ap (option_map (adding found)) (map_same (gives place.Positional word) (given_from place.Literal words) (λ g. positional_end word g t)))
-    by_end false t true ih = ih ∙ one_more found word (given_from place.Positional words)
+    by_end false t true ih = ih ∙ adding_one_word found word (given_from place.Positional words)
         ∙ sym (ap (option_map (adding found)) (map_as (gives place.Positional word) (with_word word) (given_from place.Positional words) (λ g. positional_word word g t)))
     by_end false t false ih = refl
 
@@ -749,3 +750,7 @@ compile_is words = two_lines CompileLine two_files (positional words) (λ a b. r
 pub asm_is : (words : Words) → asm_of words ≡ option_map (λ (p : List ℕ × List ℕ). AsmLine p.0 p.1) (option_and_then two_of (positional words))
 unfolding asm_of
 asm_is words = two_lines AsmLine words_and_file (positional words) (λ a b. refl) refl (λ a. refl) (λ a b c rest. refl)
+
+pub object_is : (words : Words) → object_of words ≡ option_map (λ (p : List ℕ × List ℕ). ObjectLine p.0 p.1) (option_and_then two_of (positional words))
+unfolding object_of
+object_is words = two_lines ObjectLine kernel_and_object (positional words) (λ a b. refl) refl (λ a. refl) (λ a b c rest. refl)

@@ -83,8 +83,8 @@ module _ (name : Text) (a : Allowed) (words : Words) (g : Given) (few : length w
   start : Open a a nothing_held
   start = record { pending = refl; free = λ n e. (e, refl); no_words = refl; passes = refl }
 
-  ends : Ends a name [] (walk_from nothing_held) words g
-  ends = (opened a name words).0 a nothing_held g start few is
+  walk_ends : Ends a name [] (walk_from nothing_held) words g
+  walk_ends = (opened a name words).0 a nothing_held g start few is
 
   rows_are : matches_of (command_taking name a) words ≡ (settled (rules a) (walk (rules a) [] nothing_held words).held).rows
   rows_are =
@@ -92,10 +92,10 @@ module _ (name : Text) (a : Allowed) (words : Words) (g : Given) (few : length w
       ∙ kept (rules a) (settled (rules a) (walk (rules a) [] nothing_held words).held).rows (no_defaults a)
 
   first_is : (n : OptionName) → first_of (option_text n) (matches_of (command_taking name a) words) ≡ text_given n g
-  first_is n = ap (first_of (option_text n)) rows_are ∙ ap (option_and_then (λ (r : Row). slice_get r.values 0)) (ends.options n) ∙ first_found n (text_given n g)
+  first_is n = ap (first_of (option_text n)) rows_are ∙ ap (option_and_then (λ (r : Row). slice_get r.values 0)) (walk_ends.options n) ∙ first_found n (text_given n g)
 
   all_is : unwrap_or (all_of (codes "words") (matches_of (command_taking name a) words)) [] ≡ g.words
-  all_is = ap (λ rows. unwrap_or (all_of (codes "words") rows) []) rows_are ∙ ap (λ o. unwrap_or (option_map (λ (r : Row). r.values) o) []) ends.words_are ∙ all_found g.words
+  all_is = ap (λ rows. unwrap_or (all_of (codes "words") rows) []) rows_are ∙ ap (λ o. unwrap_or (option_map (λ (r : Row). r.values) o) []) walk_ends.words_are ∙ all_found g.words
 
   -- the matches have what the words give
   pub given_found : (m : ArgMatches) → rows_of (found_of m) ≡ matches_of (command_taking name a) words → given_view m ≡ g
@@ -114,4 +114,4 @@ module _ (name : Text) (a : Allowed) (words : Words) (g : Given) (few : length w
       ∙ leaf_takes (app name a) nothing_held words refl level)
     where
       level : level_passes (app name a).top [] nothing_held words false ≡ true
-      level = and_from _ _ ends.passes (and_from _ _ ends.settles (and_from _ _ (defaults_pass a) (valid name a (finished (rules a) (walk (rules a) [] nothing_held words).held))))
+      level = and_from _ _ walk_ends.passes (and_from _ _ walk_ends.settles (and_from _ _ (defaults_pass a) (valid name a (finished (rules a) (walk (rules a) [] nothing_held words).held))))

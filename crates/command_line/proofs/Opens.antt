@@ -11,6 +11,7 @@ use Rattle.clap.specs.Lexer.{usize_max}
 use Rattle.clap.specs.Words.{Row, Text}
 use Rattle.clap.specs.Walk.{Held, Walk, used_by_id, settled, reacted, walked, walk_from, positional, is_pending}
 use Rattle.clap.specs.Takes.{turn_passes, settle_passes, use_passes, values_pass, walk_passes}
+use Rattle.number_text.proofs.Bytes.{bytes_eq-told}
 use Rattle.command_line.specs.Line.{Words, is_end, is_plain}
 use Rattle.command_line.specs.Given.{Given, name_of, joined_of, allows, without, value_after, options_after, next, gives, given_from, nothing, with_value, with_word, with_joined}
 use Rattle.command_line.specs.declared.place.Allowed.{Allowed}
@@ -19,7 +20,7 @@ use Rattle.command_line.specs.declared.place.OptionName.TheVariants.{Vl, Steps, 
 use Rattle.command_line.specs.declared.place.Place.{Place}
 use Rattle.command_line.specs.declared.place.Place.TheVariants as place
 use Rattle.command_line.proofs.Commands.{option_text, option_built, words_built, rules, shape, words_by_id}
-use Rattle.command_line.proofs.Sorts.{Sorted, ends, plain, alone, joined, other, sorted, name_is, joined_is, same_bytes, unwrapped}
+use Rattle.command_line.proofs.Sorts.{Sorted, ends, plain, alone, joined, other, sorted, name_is, joined_is, unwrapped}
 use Rattle.command_line.proofs.Walks.{row, found_in, option_used, words_used, id_is, waiting_for, alone_step, joined_step, value_step, in_words, trailing_from, end_first, literal_first, plain_first, alone_turns, use_passes-option, joined_turns, value_turns, end_first_turns, literal_first_turns, plain_first_turns}
 use Rattle.command_line.proofs.PositionalWords.{text_given, option_found, words_found, Follows, follows, or_none, or_assoc, Pushes, no_value, literal_words, positional_words, literal_next}
 
@@ -254,7 +255,7 @@ module _ (a : Allowed) (name : Text) where
 
       by_sort : Sorted word → Follows (place.Options left) word words g → Ends a name (settled (rules a) h).rows (walk_from h) (word ∷ words) g
       by_sort (ends t) f =
-          let is = same_bytes word (codes "--") t in
+          let is = bytes_eq-told word (codes "--") t in
           let q = unwrapped place.Literal f.after place.Literal (sym f.goes ∙ next_end left word t) in
           passing (trailing_from a h) f.rest (ap (walked (rules a) [] (walk_from h)) is ∙ end_first a h) (ap (turn_passes (shape name a) [] (walk_from h)) is ∙ end_first_turns a name h)
           (sym (gives-end left word f.rest t) ∙ f.all) (trailing_words left h words f.rest o less (ap (λ x. given_from x words) (sym q) ∙ f.more))
@@ -307,10 +308,10 @@ module _ (a : Allowed) (name : Text) where
   unfolding given_from
   no_words n left g e = none-some g e
 
-  no_more : (left : Allowed) (g : Given) → given_from (place.Options left) [] ≡ Some g → nothing ≡ g
+  no_more_is_given : (left : Allowed) (g : Given) → given_from (place.Options left) [] ≡ Some g → nothing ≡ g
   unfolding given_from
-  no_more left g e = unwrapped g nothing g e
+  no_more_is_given left g e = unwrapped g nothing g e
 
   pub opened : (words : Words) → Opened words
-  opened [] = (λ left h g o few e. ends_nothing a left name h (walk_from h) g o refl (no_more left g e), λ n left h g o al few e. absurd (no_words n left g e))
+  opened [] = (λ left h g o few e. ends_nothing a left name h (walk_from h) g o refl (no_more_is_given left g e), λ n left h g o al few e. absurd (no_words n left g e))
   opened (word ∷ words) = let ih = opened words in (options_open word words ih, value_open word words ih)

@@ -9,6 +9,7 @@ use Rattle.std.proofs.lemmas.Bool.{and_from, not-true}
 use Rattle.clap.specs.Words.{Row, Text}
 use Rattle.clap.specs.Walk.{Held, Walk, Waiting, walked, positional}
 use Rattle.clap.specs.Takes.{turn_passes, walk_passes}
+use Rattle.number_text.proofs.Bytes.{bytes_eq-told}
 use Rattle.command_line.specs.Line.{Words, is_end, is_plain, is_filled}
 use Rattle.command_line.specs.Given.{Given, next, gives, given_from, nothing, with_word}
 use Rattle.command_line.specs.declared.place.Allowed.{Allowed}
@@ -17,7 +18,7 @@ use Rattle.command_line.specs.declared.place.OptionName.TheVariants.{Vl, Steps, 
 use Rattle.command_line.specs.declared.place.Place.{Place}
 use Rattle.command_line.specs.declared.place.Place.TheVariants as place
 use Rattle.command_line.proofs.Commands.{option_text, rules, shape}
-use Rattle.command_line.proofs.Sorts.{same_bytes, unwrapped}
+use Rattle.command_line.proofs.Sorts.{unwrapped}
 use Rattle.command_line.proofs.Walks.{row, in_words, literal_step, plain_step, end_step, literal_turns, plain_turns, end_turns}
 
 -- ---- what the words give
@@ -150,7 +151,7 @@ module _ (a : Allowed) (name : Text) where
       by_plain t false p f = absurd (none-some q f)
 
       by_end : (b : Bool) → is_end word ≡ b → (if b then Some place.Literal else if is_plain word then Some place.Positional else None) ≡ Some q → Positional word q
-      by_end true t f = ended (same_bytes word (codes "--") t) t (unwrapped q q place.Literal (sym f))
+      by_end true t f = ended (bytes_eq-told word (codes "--") t) t (unwrapped q q place.Literal (sym f))
       by_end false t f = by_plain t (is_plain word) refl f
 
   gives-end : (word : Text) (r : Given) → is_end word ≡ true → gives place.Positional word r ≡ r

@@ -6,7 +6,7 @@ use Rattle.std.proofs.lemmas.List.Elements.{All-cons, All-nil, All-append}
 use Rattle.guest_types.specs.Length.{IsLength}
 use Rattle.number_text.specs.Numbers.{given, following, is_digit, is_hex_digit, value_of, small_value, are_digits, decimal_of, hexadecimal_of, number_of}
 use Rattle.command_line.specs.Numbers.{negative, argument_of}
-use Rattle.command_line.specs.Line.{Words, Options, Task, Line, CheckLine, EvalLine, ListLine, RunLine, DebugLine, SweepLine, PipeLine, or_default, is_length, arguments_from, arguments_of, task_of, run_with, run_of, positional, options_of, two_files, compile_of, file_of, eval_with, eval_of, debug_with, debug_of, pipe_with, pipe_of, number_and_file, words_and_file, asm_of, sweep_of, line_of}
+use Rattle.command_line.specs.Line.{Words, Options, Task, Line, CheckLine, EvalLine, ListLine, RunLine, DebugLine, SweepLine, PipeLine, or_default, is_length, arguments_from, arguments_of, task_of, run_with, run_of, positional, options_of, two_files, compile_of, file_of, eval_with, eval_of, debug_with, debug_of, pipe_with, pipe_of, number_and_file, words_and_file, kernel_and_object, asm_of, object_of, sweep_of, line_of}
 
 abbrev IsSmall : ℕ → Type 0
 IsSmall n = n < 2 ^ 64
@@ -23,8 +23,8 @@ Runs line = Unit {0}
 
 -- ---- numbers
 
-small : (base : ℕ) (digits : List ℕ) → IfSome (small_value base digits) IsSmall
-small base digits = by (nat_lt (value_of base digits) (2 ^ 64)) refl
+small_value_is_small : (base : ℕ) (digits : List ℕ) → IfSome (small_value base digits) IsSmall
+small_value_is_small base digits = by (nat_lt (value_of base digits) (2 ^ 64)) refl
   where
     by : (b : Bool) → nat_lt (value_of base digits) (2 ^ 64) ≡ b → IfSome (if b then Some (value_of base digits) else None) IsSmall
     by true e = grind (arith, nat_tests, e)
@@ -36,11 +36,11 @@ if_some false o h = tt
 
 small_decimal : (digits : List ℕ) → IfSome (decimal_of digits) IsSmall
 unfolding decimal_of
-small_decimal digits = if_some (are_digits is_digit digits) (small_value 10 digits) (small 10 digits)
+small_decimal digits = if_some (are_digits is_digit digits) (small_value 10 digits) (small_value_is_small 10 digits)
 
 small_hexadecimal : (digits : List ℕ) → IfSome (hexadecimal_of digits) IsSmall
 unfolding hexadecimal_of
-small_hexadecimal digits = if_some (are_digits is_hex_digit digits) (small_value 16 digits) (small 16 digits)
+small_hexadecimal digits = if_some (are_digits is_hex_digit digits) (small_value 16 digits) (small_value_is_small 16 digits)
 
 given_small : (o : Option (List ℕ)) (f : List ℕ → Option ℕ) (other : Option ℕ) → ((digits : List ℕ) → IfSome (f digits) IsSmall) → IfSome other IsSmall → IfSome (given o f other) IsSmall
 given_small (Some digits) f other h k = h digits
@@ -84,9 +84,9 @@ record AreFew (args : List ℕ) : Type 0 where
   few : length args ≤ 8
   words : All (λ arg. arg < 2 ^ 64) args
 
-few_words : (words : Words) → IfSome (arguments_of words) AreFew
+arguments_are_few : (words : Words) → IfSome (arguments_of words) AreFew
 unfolding arguments_of
-few_words words = by (nat_le (length words) 8) refl (arguments_from [] words) (from_words words [] (All-nil (λ arg. arg < 2 ^ 64)))
+arguments_are_few words = by (nat_le (length words) 8) refl (arguments_from [] words) (from_words words [] (All-nil (λ arg. arg < 2 ^ 64)))
   where
     by : (b : Bool) → nat_le (length words) 8 ≡ b → (o : Option (List ℕ)) → IfSome o (AreArguments (0 + length words)) → IfSome (if b then o else None) AreFew
     by true e None h = tt
@@ -96,7 +96,7 @@ few_words words = by (nat_le (length words) 8) refl (arguments_from [] words) (f
 few_task : (o : Options) (words : Words) → IfSome (task_of o words) (λ task. AreFew task.args)
 unfolding task_of
 few_task o [] = tt
-few_task o (file ∷ words) = by (arguments_of words) (few_words words)
+few_task o (file ∷ words) = by (arguments_of words) (arguments_are_few words)
   where
     by : (args : Option (List ℕ)) → IfSome args AreFew → IfSome (option_map (λ args. record { steps = or_default o.steps 100000000; map = o.map; dump = o.dump; file = file; args = args }) args) (λ (task : Task). AreFew task.args)
     by None h = tt
@@ -183,6 +183,14 @@ asm_runs : (words : Words) → IfSome (asm_of words) Runs
 unfolding asm_of
 asm_runs words = after_option (positional words) words_and_file asm_files
 
+object_files : (words : Words) → IfSome (kernel_and_object words) Runs
+object_files (from ∷ to ∷ []) = tt
+object_files other = tt
+
+object_runs : (words : Words) → IfSome (object_of words) Runs
+unfolding object_of
+object_runs words = after_option (positional words) kernel_and_object object_files
+
 choose : (b : Bool) (o p : Option Line) → IfSome o Runs → IfSome p Runs → IfSome (if b then o else p) Runs
 choose true o p h k = h
 choose false o p h k = k
@@ -199,7 +207,8 @@ line_runs (name ∷ words) =
     (choose (bytes_eq name (codes "debug")) _ _ (debug_runs words)
     (choose (bytes_eq name (codes "sweep")) _ _ (sweep_runs words)
     (choose (bytes_eq name (codes "asm")) _ _ (asm_runs words)
-    (choose (bytes_eq name (codes "pipe")) (pipe_of words) None (pipe_runs words) tt))))))))
+    (choose (bytes_eq name (codes "object")) _ _ (object_runs words)
+    (choose (bytes_eq name (codes "pipe")) (pipe_of words) None (pipe_runs words) tt)))))))))
 
 pub can_run : (words : Words) (vl : ℕ) (suppress : Option ℕ) (task : Task) → line_of words ≡ Some (RunLine vl suppress task) → CanRun vl task.args
 can_run words vl suppress task e = subst (λ o. IfSome o Runs) e (line_runs words)

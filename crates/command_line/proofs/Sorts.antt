@@ -1,11 +1,11 @@
 -- The words before `--`, by what they are.
 use Rattle.std.proofs.Common.{refl, sym, ap, inl, inr, ◌∙◌, ◌≡◌, ℕ, List, ◌∷◌, ◌++◌, Bool, true, false, codes, Option, Some, None, if◌then◌else◌}
 use Rattle.std.specs.Prelude.{option_map, option_and_then, bytes_eq, unwrap_or, ◌⊎◌, ◌==◌}
-use Rattle.std.proofs.lemmas.Slice.Eq.{bytes_eq-Decides}
 use Rattle.std.proofs.lemmas.Bool.{eqb-true, ltb-true}
 use Rattle.std.proofs.lemmas.Option.{none-some}
 use Rattle.std.proofs.lemmas.List.Sums.{split_at_first, passes_at_first}
 use Rattle.std.specs.List.{before_first, after_first}
+use Rattle.number_text.proofs.Bytes.{bytes_eq-told}
 use Rattle.command_line.specs.Line.{is_end, is_plain, is_filled}
 use Rattle.command_line.specs.Numbers.{parted}
 use Rattle.command_line.specs.Given.{name_of, joined_of, name_before}
@@ -45,9 +45,6 @@ sorted word = by_end (is_end word) refl
     by_end true e = ends e
     by_end false e = by_plain e (is_plain word) refl
 
-pub same_bytes : (xs ys : List ℕ) → bytes_eq xs ys ≡ true → xs ≡ ys
-same_bytes xs ys e = (bytes_eq-Decides xs ys).0 e
-
 pub unwrapped : {A : Type 0} (d x y : A) → Some x ≡ Some y → x ≡ y
 unwrapped d x y e = ap (λ o. unwrap_or o d) e
 
@@ -59,23 +56,23 @@ pub name_is : (word : List ℕ) (n : OptionName) → name_of word ≡ Some n →
 name_is word n e = by_vl (pick (bytes_eq word (codes "--vl")) Vl n _ e)
   where
     by_suppress : ((bytes_eq word (codes "--suppress") ≡ true) × (Suppress ≡ n)) ⊎ (None ≡ Some n) → word ≡ word_of n
-    by_suppress (inl h) = same_bytes _ _ h.0 ∙ ap word_of h.1
+    by_suppress (inl h) = bytes_eq-told _ _ h.0 ∙ ap word_of h.1
     by_suppress (inr h) = absurd (none-some n h)
 
     by_dump : ((bytes_eq word (codes "--dump") ≡ true) × (Dump ≡ n)) ⊎ ((if bytes_eq word (codes "--suppress") then Some Suppress else None) ≡ Some n) → word ≡ word_of n
-    by_dump (inl h) = same_bytes _ _ h.0 ∙ ap word_of h.1
+    by_dump (inl h) = bytes_eq-told _ _ h.0 ∙ ap word_of h.1
     by_dump (inr h) = by_suppress (pick (bytes_eq word (codes "--suppress")) Suppress n None h)
 
     by_map : ((bytes_eq word (codes "--map") ≡ true) × (Map ≡ n)) ⊎ ((if bytes_eq word (codes "--dump") then Some Dump else if bytes_eq word (codes "--suppress") then Some Suppress else None) ≡ Some n) → word ≡ word_of n
-    by_map (inl h) = same_bytes _ _ h.0 ∙ ap word_of h.1
+    by_map (inl h) = bytes_eq-told _ _ h.0 ∙ ap word_of h.1
     by_map (inr h) = by_dump (pick (bytes_eq word (codes "--dump")) Dump n _ h)
 
     by_steps : ((bytes_eq word (codes "--steps") ≡ true) × (Steps ≡ n)) ⊎ ((if bytes_eq word (codes "--map") then Some Map else if bytes_eq word (codes "--dump") then Some Dump else if bytes_eq word (codes "--suppress") then Some Suppress else None) ≡ Some n) → word ≡ word_of n
-    by_steps (inl h) = same_bytes _ _ h.0 ∙ ap word_of h.1
+    by_steps (inl h) = bytes_eq-told _ _ h.0 ∙ ap word_of h.1
     by_steps (inr h) = by_map (pick (bytes_eq word (codes "--map")) Map n _ h)
 
     by_vl : ((bytes_eq word (codes "--vl") ≡ true) × (Vl ≡ n)) ⊎ ((if bytes_eq word (codes "--steps") then Some Steps else if bytes_eq word (codes "--map") then Some Map else if bytes_eq word (codes "--dump") then Some Dump else if bytes_eq word (codes "--suppress") then Some Suppress else None) ≡ Some n) → word ≡ word_of n
-    by_vl (inl h) = same_bytes _ _ h.0 ∙ ap word_of h.1
+    by_vl (inl h) = bytes_eq-told _ _ h.0 ∙ ap word_of h.1
     by_vl (inr h) = by_steps (pick (bytes_eq word (codes "--steps")) Steps n _ h)
 
 some_if : {A : Type 0} (b : Bool) (x y : A) → (if b then Some x else None) ≡ Some y → (b ≡ true) × (x ≡ y)

@@ -7,14 +7,14 @@ use Rattle.number_text.specs.Numbers.{number_of}
 use Rattle.command_line.specs.View.{all_left}
 use Rattle.command_line.specs.Line.{Words, Options, RunLine, DebugLine, EvalLine, PipeLine, or_default, is_length, arguments_of, task_of, run_with, debug_with, eval_with, pipe_with, SweepLine, number_and_file}
 
-chosen : {X : Type 0} (b : Bool) (x : Option X) → b ≡ true → (if b then x else None) ≡ x
-chosen b x e = ap (λ (c : Bool). if c then x else None) e
+option_chosen : {X : Type 0} (b : Bool) (x : Option X) → b ≡ true → (if b then x else None) ≡ x
+option_chosen b x e = ap (λ (c : Bool). if c then x else None) e
 
 unchosen : {X : Type 0} (b : Bool) (x : Option X) → b ≡ false → (if b then x else None) ≡ None
 unchosen b x e = ap (λ (c : Bool). if c then x else None) e
 
-passed : {X : Type 0} (b : Bool) (x : Option X) → b ≡ false → (if b then None else x) ≡ x
-passed b x e = ap (λ (c : Bool). if c then None else x) e
+none_unless_false : {X : Type 0} (b : Bool) (x : Option X) → b ≡ false → (if b then None else x) ≡ x
+none_unless_false b x e = ap (λ (c : Bool). if c then None else x) e
 
 stopped : {X : Type 0} (b : Bool) (x : Option X) → b ≡ true → (if b then None else x) ≡ None
 stopped b x e = ap (λ (c : Bool). if c then None else x) e
@@ -64,7 +64,7 @@ run_unsized o words s = unchosen _ _ s
 
 pub run_sized : (o : Options) (words : Words) → is_length (or_default o.vl 128) ≡ true → run_with o words ≡ option_map (RunLine (or_default o.vl 128) o.suppress) (task_of o words)
 unfolding run_with
-run_sized o words s = chosen _ _ s
+run_sized o words s = option_chosen _ _ s
 
 pub debug_steps : (o : Options) (words : Words) → is_some o.steps ≡ true → debug_with o words ≡ None
 unfolding debug_with
@@ -72,20 +72,20 @@ debug_steps o words a = stopped _ _ a
 
 pub debug_dump : (o : Options) (words : Words) → is_some o.steps ≡ false → is_some o.dump ≡ true → debug_with o words ≡ None
 unfolding debug_with
-debug_dump o words a b = passed _ _ a ∙ stopped _ _ b
+debug_dump o words a b = none_unless_false _ _ a ∙ stopped _ _ b
 
 pub debug_suppress : (o : Options) (words : Words) → is_some o.steps ≡ false → is_some o.dump ≡ false → is_some o.suppress ≡ true → debug_with o words ≡ None
 unfolding debug_with
-debug_suppress o words a b c = passed _ _ a ∙ passed _ _ b ∙ stopped _ _ c
+debug_suppress o words a b c = none_unless_false _ _ a ∙ none_unless_false _ _ b ∙ stopped _ _ c
 
 pub debug_unsized : (o : Options) (words : Words) → is_some o.steps ≡ false → is_some o.dump ≡ false → is_some o.suppress ≡ false → is_length (or_default o.vl 128) ≡ false → debug_with o words ≡ None
 unfolding debug_with
-debug_unsized o words a b c s = passed _ _ a ∙ passed _ _ b ∙ passed _ _ c ∙ unchosen _ _ s
+debug_unsized o words a b c s = none_unless_false _ _ a ∙ none_unless_false _ _ b ∙ none_unless_false _ _ c ∙ unchosen _ _ s
 
 pub debug_sized : (o : Options) (words : Words) → is_some o.steps ≡ false → is_some o.dump ≡ false → is_some o.suppress ≡ false → is_length (or_default o.vl 128) ≡ true
     → debug_with o words ≡ option_map (DebugLine (or_default o.vl 128)) (task_of o words)
 unfolding debug_with
-debug_sized o words a b c s = passed _ _ a ∙ passed _ _ b ∙ passed _ _ c ∙ chosen _ _ s
+debug_sized o words a b c s = none_unless_false _ _ a ∙ none_unless_false _ _ b ∙ none_unless_false _ _ c ∙ option_chosen _ _ s
 
 pub pipe_suppress : (o : Options) (words : Words) → is_some o.suppress ≡ true → pipe_with o words ≡ None
 unfolding pipe_with
@@ -96,23 +96,23 @@ many_words [] many = absurd (omega arith)
 many_words (a ∷ []) many = absurd (omega arith)
 many_words (a ∷ b ∷ more) many = lt-ltb 1 (length (all_left (a ∷ b ∷ more))) (omega arith)
 
-pub few_words : (words : List (Bor (List ℕ))) → length words ≤ 1 → nat_lt 1 (length (all_left words)) ≡ false
-few_words [] few = refl
-few_words (a ∷ []) few = refl
-few_words (a ∷ b ∷ more) few = absurd (omega arith)
+pub at_most_one_word_left : (words : List (Bor (List ℕ))) → length words ≤ 1 → nat_lt 1 (length (all_left words)) ≡ false
+at_most_one_word_left [] few = refl
+at_most_one_word_left (a ∷ []) few = refl
+at_most_one_word_left (a ∷ b ∷ more) few = absurd (omega arith)
 
 pub pipe_words : (o : Options) (words : Words) → is_some o.suppress ≡ false → nat_lt 1 (length words) ≡ true → pipe_with o words ≡ None
 unfolding pipe_with
-pipe_words o words a b = passed _ _ a ∙ stopped _ _ b
+pipe_words o words a b = none_unless_false _ _ a ∙ stopped _ _ b
 
 pub pipe_unsized : (o : Options) (words : Words) → is_some o.suppress ≡ false → nat_lt 1 (length words) ≡ false → is_length (or_default o.vl 128) ≡ false → pipe_with o words ≡ None
 unfolding pipe_with
-pipe_unsized o words a b s = passed _ _ a ∙ passed _ _ b ∙ unchosen _ _ s
+pipe_unsized o words a b s = none_unless_false _ _ a ∙ none_unless_false _ _ b ∙ unchosen _ _ s
 
 pub pipe_sized : (o : Options) (words : Words) → is_some o.suppress ≡ false → nat_lt 1 (length words) ≡ false → is_length (or_default o.vl 128) ≡ true
     → pipe_with o words ≡ option_map (PipeLine (or_default o.vl 128)) (task_of o words)
 unfolding pipe_with
-pipe_sized o words a b s = passed _ _ a ∙ passed _ _ b ∙ chosen _ _ s
+pipe_sized o words a b s = none_unless_false _ _ a ∙ none_unless_false _ _ b ∙ option_chosen _ _ s
 
 pub eval_vl : (o : Options) (words : Words) → is_some o.vl ≡ true → eval_with o words ≡ None
 unfolding eval_with
@@ -120,11 +120,11 @@ eval_vl o words a = stopped _ _ a
 
 pub eval_suppress : (o : Options) (words : Words) → is_some o.vl ≡ false → is_some o.suppress ≡ true → eval_with o words ≡ None
 unfolding eval_with
-eval_suppress o words a b = passed _ _ a ∙ stopped _ _ b
+eval_suppress o words a b = none_unless_false _ _ a ∙ stopped _ _ b
 
 pub eval_task : (o : Options) (words : Words) → is_some o.vl ≡ false → is_some o.suppress ≡ false → eval_with o words ≡ option_map EvalLine (task_of o words)
 unfolding eval_with
-eval_task o words a b = passed _ _ a ∙ passed _ _ b
+eval_task o words a b = none_unless_false _ _ a ∙ none_unless_false _ _ b
 
 -- ---- the words of `sweep`
 

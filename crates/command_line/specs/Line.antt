@@ -33,6 +33,7 @@ pub data Line : Type 0 where
   DebugLine : (vl : ℕ) → Task → Line
   SweepLine : (number : ℕ) → (to : List ℕ) → Line
   AsmLine : (from to : List ℕ) → Line
+  ObjectLine : (from to : List ℕ) → Line
   PipeLine : (vl : ℕ) → Task → Line
 
 -- ---- positional words
@@ -252,6 +253,14 @@ words_and_file _ = None
 unfoldable pub asm_of : Words → Option Line
 asm_of words = option_and_then words_and_file (positional words)
 
+abbrev pub kernel_and_object : Words → Option Line
+kernel_and_object (from ∷ to ∷ []) = Some (ObjectLine from to)
+kernel_and_object _ = None
+
+-- `object IN OUT`
+unfoldable pub object_of : Words → Option Line
+object_of words = option_and_then kernel_and_object (positional words)
+
 -- `pipe` with these options and positional words: 128 bits where no option tells, no stop list, and no arguments
 unfoldable pub pipe_with : Options → Words → Option Line
 pipe_with o words =
@@ -276,4 +285,5 @@ line_of (name ∷ words) =
     if bytes_eq name (codes "debug") then debug_of words else
     if bytes_eq name (codes "sweep") then sweep_of words else
     if bytes_eq name (codes "asm") then asm_of words else
+    if bytes_eq name (codes "object") then object_of words else
     if bytes_eq name (codes "pipe") then pipe_of words else None

@@ -3,12 +3,12 @@ use Rattle.std.specs.Prelude.{ℕ, List, map, option_map, String, string_bytes, 
 use Rattle.std.specs.Borrow.{Bor}
 use Rattle.number_text.specs.View.{bytes_left}
 use Rattle.command_line.specs.declared.command.Command.{Command}
-use Rattle.command_line.specs.declared.command.Command.TheVariants.{Compile, Check, Eval, List as Listing, Run, Debug, Sweep, Asm, Pipe}
+use Rattle.command_line.specs.declared.command.Command.TheVariants.{Compile, Check, Eval, List as Listing, Run, Debug, Sweep, Asm, Object, Pipe}
 use Rattle.command_line.specs.declared.command.Extent.{Extent as ExtentData}
 use Rattle.command_line.specs.declared.command.Task.{Task as TaskData}
 use Rattle.command_line.specs.declared.options.Settings.{Settings}
 use Rattle.command_line.specs.declared.place.OptionName.{OptionName}
-use Rattle.command_line.specs.Line.{Words, Line, Task, Extent, CompileLine, CheckLine, EvalLine, ListLine, RunLine, DebugLine, SweepLine, AsmLine, PipeLine, Options}
+use Rattle.command_line.specs.Line.{Words, Line, Task, Extent, CompileLine, CheckLine, EvalLine, ListLine, RunLine, DebugLine, SweepLine, AsmLine, ObjectLine, PipeLine, Options}
 
 abbrev pub texts : {A : Type 0} → List (String A) → Words
 texts words = map string_bytes words
@@ -59,4 +59,5 @@ command_view (Run vl suppress task) = RunLine vl suppress (task_view task)
 command_view (Debug vl task) = DebugLine vl (task_view task)
 command_view (Sweep number to) = SweepLine number (string_bytes to)
 command_view (Asm from to) = AsmLine (string_bytes from) (string_bytes to)
+command_view (Object from to) = ObjectLine (string_bytes from) (string_bytes to)
 command_view (Pipe vl task) = PipeLine vl (task_view task)

@@ -44,6 +44,11 @@ pub enum Command {
         from: String,
         to: String,
     },
+    /// Makes an object of the kernel in the file `from`, in the file `to`.
+    Object {
+        from: String,
+        to: String,
+    },
     /// Runs the lines of a script at a vector length, each over the pages of one map as those before left them. The file of the
     /// task is the script, and it has no arguments; the steps are those of each line.
     Pipe {

@@ -1,7 +1,7 @@
 //! Reading the words of a command.
 
 ghost use Rattle.std.specs.Prelude.{◌≡◌, ◌≤◌, IfOk, IfSome, option_map, option_and_then, is_some, length, [], string_bytes};
-ghost use Rattle.command_line.specs.Line.{is_length, positional, arguments_from, arguments_of, task_of, run_with, run_of, debug_with, debug_of, compile_of, two_of, sweep_of, asm_of, pipe_with, pipe_of, file_of, eval_with, eval_of, line_of, CheckLine, ListLine};
+ghost use Rattle.command_line.specs.Line.{is_length, positional, arguments_from, arguments_of, task_of, run_with, run_of, debug_with, debug_of, compile_of, two_of, sweep_of, asm_of, object_of, pipe_with, pipe_of, file_of, eval_with, eval_of, line_of, CheckLine, ListLine};
 ghost use Rattle.command_line.specs.View.{texts, all_left, all_in, options_view, settings_and_words, both_bytes, task_view, command_view};
 ghost use Rattle.command_line.specs.Given.{given_of, options_and_words};
 ghost use Rattle.number_text.specs.View.{items_in, bytes_left};
@@ -319,6 +319,17 @@ fn asm(alloc: Global, words: &[String]) -> Result<Option<Command>, AllocError>
     }
 }
 
+// The command of the words after `object`.
+#[tactic(auto, using(crate::proofs::Lines::object_is))]
+fn object(alloc: Global, words: &[String]) -> Result<Option<Command>, AllocError>
+    ensures { IfOk result (λ o. option_map command_view o ≡ object_of (texts words.now)) }
+{
+    match two_words(alloc, "object", words)? {
+        Some((from, to)) => Ok(Some(Command::Object { from, to })),
+        None => Ok(None),
+    }
+}
+
 // The one positional word, where there are no others.
 #[tactic(auto, unfolding(crate::specs::Line::file_of))]
 fn file(alloc: Global, name: &'static str, words: &[String]) -> Result<Option<String>, AllocError>
@@ -388,7 +399,7 @@ fn eval(alloc: Global, words: &[String]) -> Result<Option<Command>, AllocError>
 /// The first word names the command, options stand next and positional words last:
 /// `compile IN OUT`, `check IN`, `eval [--map M] [--steps N] [--dump A:L] IN [ARG]..`, `list FILE`,
 /// `run [--vl N] [--steps N] [--map M] [--dump A:L] [--suppress N] FILE [ARG]..`,
-/// `debug [--vl N] [--map M] FILE [ARG]..`, `sweep NUMBER OUT`, `asm IN OUT` and
+/// `debug [--vl N] [--map M] FILE [ARG]..`, `sweep NUMBER OUT`, `asm IN OUT`, `object IN OUT` and
 /// `pipe [--vl N] [--steps N] [--map M] [--dump A:L] SCRIPT`.
 #[tactic(auto, unfolding(crate::specs::Line::line_of))]
 pub fn read_line(alloc: Global, words: &[String]) -> Result<Option<Command>, AllocError>
@@ -406,6 +417,7 @@ pub fn read_line(alloc: Global, words: &[String]) -> Result<Option<Command>, All
         "debug" => debug(alloc, rest),
         "sweep" => sweep(alloc, rest),
         "asm" => asm(alloc, rest),
+        "object" => object(alloc, rest),
         "pipe" => pipe(alloc, rest),
         _ => Ok(None),
     }

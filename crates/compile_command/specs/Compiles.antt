@@ -1,5 +1,5 @@
 -- What `compile` comes to, and what it leaves.
-use Rattle.std.specs.Prelude.{◌≡◌, ℕ, ◌+◌, ◌*◌, ◌≤◌, List, [], length, Option, Some, None, IfSome, Ok, Err}
+use Rattle.std.specs.Prelude.{◌≡◌, ℕ, ◌+◌, ◌*◌, ◌≤◌, List, [], length, Option, Some, None, IfSome, Ok, Err, All}
 use Rattle.io_edges.specs.Files.{content}
 use Rattle.machine_model.specs.Written.{file_of as file_of_words}
 use Rattle.kernel_tree.specs.Plain.{Program}
@@ -11,6 +11,7 @@ use Rattle.promises.specs.declared.fault.CompileFault.{CompileFault}
 use Rattle.promises.specs.declared.fault.CompileFault.TheVariants as compiling
 use Rattle.promises.specs.Faithful.{FreeFaithful, FreeEnds, CloseFaithful}
 use Rattle.promises.specs.Refusals.{too_many, need_in}
+use Rattle.promises.specs.Reserved.{LeavesReserved}
 use Rattle.refusals.specs.declared.refusal.Refusal.{Refusal}
 use Rattle.refusals.specs.declared.refusal.Refusal.TheVariants.{Usage, TooManyLive, Elf, Map, Asm, Pipe, Memory as NoMemory, Output}
 use Rattle.refusals.specs.declared.refusal.Done.TheVariants as done
@@ -41,11 +42,13 @@ abbrev pub of_compile : CompileFault → Refusal
 of_compile (compiling.TooManyLive class need) = TooManyLive class need
 of_compile compiling.Memory = NoMemory
 
--- The file has one segment, from 0x400000 on, of its headers and of at most so many words.
+-- The file has one segment, from 0x400000 on, of its headers and of at most so many words, each of which leaves X18, X29, X30 and SP
+-- alone.
 pub record HasWords (most : ℕ) (file : List ℕ) : Type 0 where
   pub words : List ℕ
   pub few : length words ≤ most
   pub file_is : file ≡ file_of_words words
+  pub reserved : All LeavesReserved words
 
 -- The text is that of a sound kernel, and the file is faithful to it, whatever stop list a machine has: within the bound that counts
 -- chunks and the free elements that are suppressed, within the close one, and within the one that counts iterations alone.

@@ -1,6 +1,7 @@
 //! The command `compile IN OUT`.
 
-ghost use Rattle.std.specs.Prelude.{◌≡◌, ◌≢◌, ◌≤◌, ◌+◌, ◌*◌, Some, Err, IfSome, IsSome, IfOk, IfErr, OnOk, IsTrue, []};
+ghost use Rattle.command_answers.specs.Requests.{Asks, IsOk, Read, Write};
+ghost use Rattle.std.specs.Prelude.{◌∷◌, ◌≡◌, ◌≢◌, ◌≤◌, ◌+◌, ◌*◌, Some, Err, IfSome, IsSome, IfOk, IfErr, OnOk, IsTrue, []};
 ghost use Rattle.io_edges.specs.Files.{Rose, content};
 ghost use Rattle.kernel_tree.specs.Plain.{program_of};
 ghost use Rattle.kernel_tree.specs.Checked.{kernel_of};
@@ -85,6 +86,7 @@ pub fn compile<F: Files>(
         (λ held. WhereExpected (ExpectsCompile held from.now)
         (λ work. Unwritten work (F.held files.old) (F.held files.new))) }
     ensures of_compile { IsOfCompile result }
+    ensures asked { Asks IsOk (F.requests files.old) (F.requests files.new) (Read from.now ∷ Write to.now ∷ []) result }
 {
     let text = read_file(alloc, from, files)?;
     let file = compile_text(alloc, &text)?;

@@ -171,15 +171,43 @@ static KERNELS: [(&str, &[u32]); 5] = [
         ],
     ),
     // ptrue p1.b; movz x26, #0; dup z0.b,
-    // w26; whilelo p0.b, x9, x3; b.eq end; chunk: ld1b {z1.b}, p0/z, [x0, x9]; cmpne p2.b, p0/z, z1.b, z0.b; ld1b
-    // {z1.b}, p2/z, [x2, x9]; st1b {z1.b}, p2, [x1, x9]; incp x9, p0.b; whilelo p0.b, x9, x3; b.ne chunk; end: b
-    // scalar; scalar:
+    // w26; whilelo p0.b, x9, x3; b.eq end; cntb x8; subs x8, x3, x8, lsl #2; b.lo chunk; turn: four times what stands
+    // from chunk to incp; cmp x9, x8; b.ls turn; whilelo p0.b, x9, x3; b.eq end; chunk: ld1b {z1.b}, p0/z, [x0, x9];
+    // cmpne p2.b, p0/z, z1.b, z0.b; ld1b {z1.b}, p2/z, [x2, x9]; st1b {z1.b}, p2, [x1, x9]; incp x9, p0.b; whilelo p0.b,
+    // x9, x3; b.ne chunk; end: b scalar; scalar:
     (
         "kernel copy(a: [u8], b: [u8], c: [u8], n: u64) { for i in 0..n { if a[i] != 0 { b[i] = c[i]; } } }",
         &[
             0x2518_e3e1,
             0xd280_001a,
             0x0520_3b40,
+            0x2523_1d20,
+            0x5400_0460,
+            0x0420_e3e8,
+            0xeb08_0868,
+            0x5400_0323,
+            0xa409_4001,
+            0x2400_a032,
+            0xa409_4841,
+            0xe409_4821,
+            0x252c_8809,
+            0xa409_4001,
+            0x2400_a032,
+            0xa409_4841,
+            0xe409_4821,
+            0x252c_8809,
+            0xa409_4001,
+            0x2400_a032,
+            0xa409_4841,
+            0xe409_4821,
+            0x252c_8809,
+            0xa409_4001,
+            0x2400_a032,
+            0xa409_4841,
+            0xe409_4821,
+            0x252c_8809,
+            0xeb08_013f,
+            0x54ff_fd69,
             0x2523_1d20,
             0x5400_0100,
             0xa409_4001,
@@ -193,15 +221,39 @@ static KERNELS: [(&str, &[u32]); 5] = [
         ],
     ),
     // ptrue p1.b; movz x26, #0; dup z0.d,
-    // x26; whilelo p0.d, x9, x1; b.eq end; chunk: add x26, x9, #1; ld1sw {z1.d}, p0/z, [x0, x26, lsl #2]; add
-    // z0.d, p0/m, z0.d, z1.d; incp x9, p0.d; whilelo p0.d, x9, x1; b.ne chunk; end: uaddv d31, p1, z0.d; umov
-    // x27, v31.d[0]; add x10, x10, x27; b scalar; scalar:
+    // x26; whilelo p0.d, x9, x1; b.eq end; cntd x8; subs x8, x1, x8, lsl #2; b.lo chunk; turn: four times what stands
+    // from chunk to incp; cmp x9, x8; b.ls turn; whilelo p0.d, x9, x1; b.eq end; chunk: add x26, x9, #1; ld1sw {z1.d},
+    // p0/z, [x0, x26, lsl #2]; add z0.d, p0/m, z0.d, z1.d; incp x9, p0.d; whilelo p0.d, x9, x1; b.ne chunk; end: uaddv
+    // d31, p1, z0.d; umov x27, v31.d[0]; add x10, x10, x27; b scalar; scalar:
     (
         "kernel sum(a: [i32], n: u64) -> i64 { var s: i64 = 0; for i in 0..n { s += a[i + 1] as i64; } return s; }",
         &[
             0x2518_e3e1,
             0xd280_001a,
             0x05e0_3b40,
+            0x25e1_1d20,
+            0x5400_03c0,
+            0x04e0_e3e8,
+            0xeb08_0828,
+            0x5400_02a3,
+            0x9100_053a,
+            0xa49a_4001,
+            0x04c0_0020,
+            0x25ec_8809,
+            0x9100_053a,
+            0xa49a_4001,
+            0x04c0_0020,
+            0x25ec_8809,
+            0x9100_053a,
+            0xa49a_4001,
+            0x04c0_0020,
+            0x25ec_8809,
+            0x9100_053a,
+            0xa49a_4001,
+            0x04c0_0020,
+            0x25ec_8809,
+            0xeb08_013f,
+            0x54ff_fde9,
             0x25e1_1d20,
             0x5400_00e0,
             0x9100_053a,

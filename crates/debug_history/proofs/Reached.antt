@@ -18,14 +18,14 @@ last_count kept size steps v all some is =
     ∙ ap (λ k. get_or (counts_of kept) (k - 1) 0) (all ∙ sym (length-map kept (λ (v : Past). v.steps)))
 
 -- a search goes on past one that is reached, and ends at one that is not
-pub goes_on : (target n steps : ℕ) (kept : List Past) (v : Past) → n < length kept → (get_or kept n v).steps ≡ steps → steps ≤ target → n + prefix_len (is_reached target) (drop n kept) ≡ prefix_len (is_reached target) kept → n + 1 + prefix_len (is_reached target) (drop (n + 1) kept) ≡ prefix_len (is_reached target) kept
-goes_on target n steps kept v inside count few so_far =
+pub reached_count_of_cons : (target n steps : ℕ) (kept : List Past) (v : Past) → n < length kept → (get_or kept n v).steps ≡ steps → steps ≤ target → n + prefix_len (is_reached target) (drop n kept) ≡ prefix_len (is_reached target) kept → n + 1 + prefix_len (is_reached target) (drop (n + 1) kept) ≡ prefix_len (is_reached target) kept
+reached_count_of_cons target n steps kept v inside count few so_far =
     let yes : is_reached target (get_or kept n v) ≡ true = ap (λ k. nat_le k target) count ∙ le-leb steps target few in
     let more = prefix_len-drop_yes (is_reached target) kept n v inside yes in
     omega (arith, more, so_far)
 
-pub ends_at : (target n steps : ℕ) (kept : List Past) (v : Past) → n < length kept → (get_or kept n v).steps ≡ steps → target < steps → n + prefix_len (is_reached target) (drop n kept) ≡ prefix_len (is_reached target) kept → n ≡ prefix_len (is_reached target) kept
-ends_at target n steps kept v inside count past so_far =
+pub reached_count_ends : (target n steps : ℕ) (kept : List Past) (v : Past) → n < length kept → (get_or kept n v).steps ≡ steps → target < steps → n + prefix_len (is_reached target) (drop n kept) ≡ prefix_len (is_reached target) kept → n ≡ prefix_len (is_reached target) kept
+reached_count_ends target n steps kept v inside count past so_far =
     let not : is_reached target (get_or kept n v) ≡ false = ap (λ k. nat_le k target) count ∙ lt-leb steps target past in
     let none = prefix_len-drop_no (is_reached target) kept n v inside not in
     omega (arith, none, so_far)

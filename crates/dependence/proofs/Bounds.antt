@@ -98,5 +98,5 @@ slow k args vl m h = more_rounds k (div_ceil m (at_once k args vl) + 2) (m + 2) 
 pub free : (k : Program) (args : List ℕ) (vl m q : ℕ) → bound k args vl m ≤ free_bound k args vl m q
 free k args vl m q = more_rounds k (div_ceil m (at_once k args vl) + 2) (div_ceil m (at_once k args vl) + 2 + 4 * q) (omega arith)
 
-pub none : (k : Program) (args : List ℕ) (vl m : ℕ) → free_bound k args vl m 0 ≡ bound k args vl m
-none k args vl m = ap (steps_for k) (let e : div_ceil m (at_once k args vl) + 2 + 4 * 0 ≡ div_ceil m (at_once k args vl) + 2 = omega arith in e)
+pub free_bound_of_none : (k : Program) (args : List ℕ) (vl m : ℕ) → free_bound k args vl m 0 ≡ bound k args vl m
+free_bound_of_none k args vl m = ap (steps_for k) (let e : div_ceil m (at_once k args vl) + 2 + 4 * 0 ≡ div_ceil m (at_once k args vl) + 2 = omega arith in e)

@@ -10,7 +10,7 @@ use Rattle.loop_form.specs.declared.stream.Stream.{Stream}
 use Rattle.loop_form.specs.declared.reach.Reach.{Reach}
 use Rattle.loop_form.specs.Reaches.{reaches_of}
 use Rattle.loop_form.specs.Streams.{place_of, streams_of, is_of}
-use Rattle.loop_form.specs.Lanes.{width_of}
+use Rattle.loop_form.specs.Lanes.{type_width}
 use Rattle.dependence.specs.declared.used.Extent.{Extent}
 use Rattle.dependence.specs.declared.used.Extent.TheVariants.{Streams, Computed, Both}
 use Rattle.dependence.specs.declared.used.Used.{Used}
@@ -60,7 +60,7 @@ with_reach n w (Some r) (u ∷ us) = record { place = u.place; width = u.width; 
 
 abbrev pub used_at : List Stream → List Reach → ℕ → Shape → List Used
 used_at ss rs n (shape.Scalar t) = []
-used_at ss rs n (shape.Array t) = with_reach n (width_of t) (greatest_reach (filter (is_reach_of n) rs)) (used_by n (width_of t) (filter (is_of n) ss))
+used_at ss rs n (shape.Array t) = with_reach n (type_width t) (greatest_reach (filter (is_reach_of n) rs)) (used_by n (type_width t) (filter (is_of n) ss))
 
 unfoldable pub used_from : List Stream → List Reach → ℕ → List Parameter → List Used
 used_from ss rs n [] = []

@@ -45,9 +45,9 @@ split a (suc b) (suc j) n e =
     ∙ append_assoc (hex_digits a (n / 16 ^ suc b)) (hex_digits b (n / 16)) (hex_digit (n % 16) ∷ [])
 
 -- the two digits of a number's lowest byte
-two : (n : ℕ) → slice_index lower_digits (n % 256 / 16) ∷ slice_index lower_digits (n % 256 % 16) ∷ [] ≡ hex_digits 2 n
+two_hex_digits : (n : ℕ) → slice_index lower_digits (n % 256 / 16) ∷ slice_index lower_digits (n % 256 % 16) ∷ [] ≡ hex_digits 2 n
 unfolding hex_digits
-two n =
+two_hex_digits n =
     let high : n % 256 / 16 ≡ n / 16 % 16 = omega arith in
     let low : n % 256 % 16 ≡ n % 16 = omega arith in
     ap (λ l. l ∷ slice_index lower_digits (n % 256 % 16) ∷ []) (in_table (n % 256 / 16) (omega arith) ∙ ap hex_digit high)
@@ -57,7 +57,7 @@ pub byte : (b : ℕ) → b < 256 → encode_lower (b ∷ []) ≡ hex_digits 2 b
 unfolding encode_with
 byte b h =
     let e : b % 256 ≡ b = omega arith in
-    rw e at (two b)
+    rw e at (two_hex_digits b)
 
 place : (k n : ℕ) → byte_at k n ≡ n / 256 ^ k % 256
 place zero n = ap (λ m. m % 256) (sym (div-one n))
@@ -72,7 +72,7 @@ bytes (suc k) j n e =
     let power : 16 ^ (2 * k) ≡ 256 ^ k =
     let twice : 2 * k ≡ k + k = omega arith in
     ap (λ i. 16 ^ i) twice ∙ pow-add 16 k k ∙ sym (mul-pow 16 16 k) in
-    let high = two (n / 256 ^ k) in
+    let high = two_hex_digits (n / 256 ^ k) in
     ap (λ b. slice_index lower_digits (b / 16) ∷ slice_index lower_digits (b % 16) ∷ encode_lower (bytes_high_first k n)) (place k n)
     ∙ ap (λ l. (slice_index lower_digits (n / 256 ^ k % 256 / 16) ∷ slice_index lower_digits (n / 256 ^ k % 256 % 16) ∷ []) ++ l) (bytes k (2 * k) n refl)
     ∙ ap (λ l. l ++ hex_digits (2 * k) n) high

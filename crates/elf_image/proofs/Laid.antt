@@ -79,8 +79,8 @@ page_bytes_are bytes s n from end a b c low high =
     (λ k l h. byte_past bytes s k (omega arith))
 
 -- a page with zeros and file bytes in it
-pub filled : (f : ℕ → ℕ) (page first second : List ℕ) (start from end : ℕ) → page ≡ [] → first ≡ page ++ replicate (from - start - length page) 0 → second ≡ first ++ map f (range_with_len from (end - from)) → second ≡ replicate (from - start) 0 ++ map f (range_with_len from (end - from))
-filled f page first second start from end none a b =
+pub page_filled_between : (f : ℕ → ℕ) (page first second : List ℕ) (start from end : ℕ) → page ≡ [] → first ≡ page ++ replicate (from - start - length page) 0 → second ≡ first ++ map f (range_with_len from (end - from)) → second ≡ replicate (from - start) 0 ++ map f (range_with_len from (end - from))
+page_filled_between f page first second start from end none a b =
     let empty : length page ≡ 0 = ap length none in
     let count : from - start - length page ≡ from - start = omega arith in
     b ∙ ap (λ r. r ++ map f (range_with_len from (end - from)))

@@ -21,9 +21,9 @@ record Loads (bytes : List ℕ) (image : Image) : Type 0 where
   pub apart : clash (segments_of bytes) ≡ false
   pub fit : AllLoadable (length bytes) (segments_of bytes)
 
-passed : (b : Bool) (fault : ElfFault) (r : Result Image ElfFault) (image : Image) → cond b (Err fault) r ≡ Ok image → (b ≡ false) × (r ≡ Ok image)
-passed true fault r image e = absurd cc
-passed false fault r image e = (refl, e)
+ok_of_no_fault : (b : Bool) (fault : ElfFault) (r : Result Image ElfFault) (image : Image) → cond b (Err fault) r ≡ Ok image → (b ≡ false) × (r ≡ Ok image)
+ok_of_no_fault true fault r image e = absurd cc
+ok_of_no_fault false fault r image e = (refl, e)
 
 not_bad : (o : Option ℕ) (r : Result Image ElfFault) (image : Image) → elim o as (λ o. Result Image ElfFault) [ Some index ↦ Err (BadSegment index) | None ↦ r ] ≡ Ok image → (o ≡ None) × (r ≡ Ok image)
 not_bad (Some index) r image e = absurd cc
@@ -38,15 +38,15 @@ loads bytes image e =
     let phoff = le_at bytes 32 8 in
     let phnum = le_at bytes 56 2 in
     let segments = segments_from bytes phoff phnum in
-    let long = (passed (nat_lt size 64) (Short 64 size) _ image e).1 in
-    let elf = (passed (not (has_ident bytes) || (not (nat_eq phnum 0) && not (nat_eq (le_at bytes 54 2) 56))) NotElf _ image long).1 in
-    let arm = (passed (not (nat_eq (le_at bytes 18 2) 183)) NotAarch64 _ image elf).1 in
-    let fixed = (passed (not (nat_eq (le_at bytes 16 2) 2)) NotStatic _ image arm).1 in
-    let whole = (passed (not (nat_eq phnum 0) && nat_lt size (phoff + 56 * phnum)) (Short (phoff + 56 * phnum) size) _ image fixed).1 in
-    let plain = (passed (any_segment is_dynamic segments) NotStatic _ image whole).1 in
+    let long = (ok_of_no_fault (nat_lt size 64) (Short 64 size) _ image e).1 in
+    let elf = (ok_of_no_fault (not (has_ident bytes) || (not (nat_eq phnum 0) && not (nat_eq (le_at bytes 54 2) 56))) NotElf _ image long).1 in
+    let arm = (ok_of_no_fault (not (nat_eq (le_at bytes 18 2) 183)) NotAarch64 _ image elf).1 in
+    let fixed = (ok_of_no_fault (not (nat_eq (le_at bytes 16 2) 2)) NotStatic _ image arm).1 in
+    let whole = (ok_of_no_fault (not (nat_eq phnum 0) && nat_lt size (phoff + 56 * phnum)) (Short (phoff + 56 * phnum) size) _ image fixed).1 in
+    let plain = (ok_of_no_fault (any_segment is_dynamic segments) NotStatic _ image whole).1 in
     let good = not_bad (first_bad size 0 segments) _ image plain in
-    let few = (passed (nat_lt 16384 (sum_by page_count (segments_of bytes))) TooManyPages _ image good.1).1 in
-    let apart = passed (clash (segments_of bytes)) SegmentsClash _ image few in
+    let few = (ok_of_no_fault (nat_lt 16384 (sum_by page_count (segments_of bytes))) TooManyPages _ image good.1).1 in
+    let apart = ok_of_no_fault (clash (segments_of bytes)) SegmentsClash _ image few in
     let is : image_of bytes (le_at bytes 24 8) (segments_of bytes) ≡ image = same_image _ _ image refl apart.1 in
     record { pages = ap (λ i. i.pages) (sym is); apart = apart.0; fit = loadable_from_none size 0 segments good.0 }
 
@@ -55,8 +55,8 @@ loads bytes image e =
 first : (s : Segment) (xs : List Segment) → Contains (s ∷ xs) s
 first s xs = (0, omega arith, refl)
 
-later : (o s : Segment) (xs : List Segment) → Contains xs s → Contains (o ∷ xs) s
-later o s xs h = (suc h.0, omega (arith, h.1), h.2)
+contains_of_cons : (o s : Segment) (xs : List Segment) → Contains xs s → Contains (o ∷ xs) s
+contains_of_cons o s xs h = (suc h.0, omega (arith, h.1), h.2)
 
 cases : (o s : Segment) (xs : List Segment) → Contains (o ∷ xs) s → (o ≡ s) ⊎ Contains xs s
 cases o s xs h = go h.0 h.1 h.2
@@ -71,17 +71,17 @@ put_first s (o ∷ os) = branch (nat_lt (first_page s) (first_page o)) (put_firs
   where
     branch : (t : Bool) → Contains (put_in_order s os) s → Contains (cond t (s ∷ o ∷ os) (o ∷ put_in_order s os)) s
     branch true h = first s (o ∷ os)
-    branch false h = later o s (put_in_order s os) h
+    branch false h = contains_of_cons o s (put_in_order s os) h
 
 put_later : (p s : Segment) (xs : List Segment) → Contains xs s → Contains (put_in_order p xs) s
 put_later p s [] h = absurd (omega (arith, h.1))
 put_later p s (o ∷ os) h = branch (nat_lt (first_page p) (first_page o)) (put_later p s os)
   where
     branch : (t : Bool) → (Contains os s → Contains (put_in_order p os) s) → Contains (cond t (p ∷ o ∷ os) (o ∷ put_in_order p os)) s
-    branch true more = later p s (o ∷ os) h
+    branch true more = contains_of_cons p s (o ∷ os) h
     branch false more =
         ⊎_elim (λ (e : o ≡ s). subst (λ x. Contains (o ∷ put_in_order p os) x) e (first o (put_in_order p os)))
-        (λ (r : Contains os s). later o s (put_in_order p os) (more r)) (cases o s os h)
+        (λ (r : Contains os s). contains_of_cons o s (put_in_order p os) (more r)) (cases o s os h)
 
 contains-in_order : (s : Segment) (xs : List Segment) → Contains xs s → Contains (in_order xs) s
 contains-in_order s [] h = h
@@ -94,11 +94,11 @@ contains-in_order s (o ∷ os) h =
 abbrev IsOutside : Segment → ℕ → Type 0
 IsOutside s n = first_page s ≤ n → n < first_page s + page_count s → ⊥
 
-past : (bytes : List ℕ) (s : Segment) (count m n : ℕ) (more : Memory) → (m ≤ n → n < m + count → ⊥) → page_at (pages_from bytes s m count ++ more) n ≡ page_at more n
-past bytes s zero m n more out = refl
-past bytes s (suc count) m n more out =
+page_past_segment : (bytes : List ℕ) (s : Segment) (count m n : ℕ) (more : Memory) → (m ≤ n → n < m + count → ⊥) → page_at (pages_from bytes s m count ++ more) n ≡ page_at more n
+page_past_segment bytes s zero m n more out = refl
+page_past_segment bytes s (suc count) m n more out =
     cond-false _ _ _ (ne_eqb m n (λ e. out (omega (arith, e)) (omega (arith, e))))
-    ∙ past bytes s count (m + 1) n more (λ low high. out (omega (arith, low)) (omega (arith, high)))
+    ∙ page_past_segment bytes s count (m + 1) n more (λ low high. out (omega (arith, low)) (omega (arith, high)))
 
 -- segments without a common page
 apart_from : (o s : Segment) (n : ℕ) → have_common_page o s ≡ false → first_page s ≤ n → n < first_page s + page_count s → IsOutside o n
@@ -108,11 +108,11 @@ apart_from o s n none low high from until =
     let both = and_from _ _ a b in
     absurd cc
 
-none_of : (p : Segment → Bool) (s : Segment) (xs : List Segment) → any_segment p xs ≡ false → Contains xs s → p s ≡ false
-none_of p s [] e h = absurd (omega (arith, h.1))
-none_of p s (o ∷ os) e h =
+no_segment_passes : (p : Segment → Bool) (s : Segment) (xs : List Segment) → any_segment p xs ≡ false → Contains xs s → p s ≡ false
+no_segment_passes p s [] e h = absurd (omega (arith, h.1))
+no_segment_passes p s (o ∷ os) e h =
     let parts = or_parts (p o) (any_segment p os) e in
-    ⊎_elim (λ (same : o ≡ s). subst (λ x. p x ≡ false) same parts.0) (λ (r : Contains os s). none_of p s os parts.1 r) (cases o s os h)
+    ⊎_elim (λ (same : o ≡ s). subst (λ x. p x ≡ false) same parts.0) (λ (r : Contains os s). no_segment_passes p s os parts.1 r) (cases o s os h)
 
 page_there : (bytes : List ℕ) (s : Segment) (n : ℕ) (xs : List Segment) → clash xs ≡ false → Contains xs s → first_page s ≤ n → n < first_page s + page_count s → page_at (flat_map (pages_of bytes) xs) n ≡ Some (page_of bytes s n)
 unfolding pages_of
@@ -123,7 +123,7 @@ page_there bytes s n (o ∷ os) c h low high =
     ⊎_elim
     (λ (e : o ≡ s). ap (λ x. page_at (pages_of bytes x ++ rest) n) e ∙ page_at_from bytes s (page_count s) (first_page s) n rest low high)
     (λ (r : Contains os s).
-    past bytes o (page_count o) (first_page o) n rest (apart_from o s n (none_of (have_common_page o) s os parts.0 r) low high)
+    page_past_segment bytes o (page_count o) (first_page o) n rest (apart_from o s n (no_segment_passes (have_common_page o) s os parts.0 r) low high)
     ∙ page_there bytes s n os parts.1 r low high)
     (cases o s os h)
 
@@ -131,7 +131,7 @@ lacks_page : (bytes : List ℕ) (n : ℕ) (xs : List Segment) → All (λ s. IsO
 unfolding pages_of
 lacks_page bytes n [] out = refl
 lacks_page bytes n (o ∷ os) out =
-    past bytes o (page_count o) (first_page o) n (flat_map (pages_of bytes) os) (All-head (λ s. IsOutside s n) o os out)
+    page_past_segment bytes o (page_count o) (first_page o) n (flat_map (pages_of bytes) os) (All-head (λ s. IsOutside s n) o os out)
     ∙ lacks_page bytes n os (All-tail (λ s. IsOutside s n) o os out)
 
 -- ---- the law

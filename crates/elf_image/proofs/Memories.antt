@@ -1,5 +1,5 @@
 -- The pages of segments that do not meet are a memory.
-use Rattle.std.proofs.Common.{◌≡◌, ℕ, zero, suc, ◌+◌, ◌-◌, ◌*◌, ◌^◌, ◌<◌, ◌≤◌, Bool, true, false, cond, List, [], ◌∷◌, ◌++◌, get_or, All, flat_map, ap, ◌∙◌, sym, subst, arith}
+use Rattle.std.proofs.Common.{◌≡◌, ℕ, zero, suc, ◌+◌, ◌-◌, ◌*◌, ◌^◌, ◌<◌, ◌≤◌, Bool, true, false, cond, List, [], ◌∷◌, ◌++◌, get_or, All, flat_map, ap, ◌∙◌, sym, subst, arith, length, refl}
 use Rattle.std.specs.Prelude.{◌%◌, ◌&&◌, nat_eq, nat_le, nat_lt, slice_index, if◌then◌else◌, Ok}
 use Rattle.std.specs.List.{range_with_len}
 use Rattle.std.specs.List.Sorted.{IsStrictlyIncreasing}
@@ -94,3 +94,7 @@ image_is bytes entry loaded code_from code_end pages apart end from is =
     ∙ ap (λ e. Ok (image (if nat_eq e 0 then 0 else entry) e (flat_map (pages_of bytes) (in_order loaded)))) (sym end)
     ∙ ap (λ f. Ok (image f code_end (flat_map (pages_of bytes) (in_order loaded)))) (sym from)
     ∙ ap (λ p. Ok (image code_from code_end p)) (sym is)
+
+pub length-pages_from : (bytes : List ℕ) (s : Segment) (n count : ℕ) → length (pages_from bytes s n count) ≡ count
+length-pages_from bytes s n zero = refl
+length-pages_from bytes s n (suc count) = ap suc (length-pages_from bytes s (n + 1) count)

@@ -23,6 +23,3 @@ pub const HEADER_SIZE: u16 = 64;
 
 /// The size of a program header, in bytes.
 pub const PROGRAM_HEADER_SIZE: u16 = 56;
-
-/// The size of a page, in bytes.
-pub const PAGE: u64 = 4096;

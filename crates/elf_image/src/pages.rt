@@ -5,9 +5,8 @@ ghost use Rattle.std.specs.List.{range_with_len};
 ghost use Rattle.machine_model.specs.Load.{segment_byte, page_bytes, pages_of};
 ghost use Rattle.elf_image.specs.Loadable.{IsLoadable, AllLoadable};
 
-use crate::constants::PAGE;
 use crate::program_header::ProgramHeader;
-use guest_types::memory::{PageBytes, PageNo, PageSpec};
+use guest_types::memory::{PAGE_BYTES, PageBytes, PageNo, PageSpec};
 use std::alloc::{AllocError, Global};
 
 // Appends zeros until a page has this many bytes.
@@ -50,13 +49,15 @@ fn bytes_of_page(
     requires within { number < 2 ^ 36 }
     ensures { IfOk result (λ page. page.items ≡ page_bytes bytes.now segment.now number) }
 {
-    let start = PAGE * number;
-    let from = segment.vaddr().clamp(start, start + PAGE);
-    let end = segment.file_end(bytes.len()).clamp(from, start + PAGE);
-    let mut page = Vec::with_capacity(alloc, PAGE as usize)?;
+    let start = PAGE_BYTES * number;
+    let from = segment.vaddr().clamp(start, start + PAGE_BYTES);
+    let end = segment
+        .file_end(bytes.len())
+        .clamp(from, start + PAGE_BYTES);
+    let mut page = Vec::with_capacity(alloc, PAGE_BYTES as usize)?;
     put_zeros(&mut page, (from - start) as usize)?;
     put_file_bytes(&mut page, bytes, segment, from, end)?;
-    put_zeros(&mut page, PAGE as usize)?;
+    put_zeros(&mut page, PAGE_BYTES as usize)?;
     Ok(page)
 }
 

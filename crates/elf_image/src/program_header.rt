@@ -4,9 +4,9 @@ ghost use Rattle.std.specs.Prelude.{◌≡◌, ◌+◌, ◌-◌, ◌^◌, ◌<�
 ghost use Rattle.machine_model.specs.Load.{Segment, segment_at, has_flag, is_loaded, is_dynamic, is_bad, first_page, page_count, perm_of, holds_entry};
 ghost use Rattle.elf_image.specs.Loadable.{IsLoadable};
 
-use crate::constants::{PAGE, PT_DYNAMIC, PT_INTERP, PT_LOAD};
+use crate::constants::{PT_DYNAMIC, PT_INTERP, PT_LOAD};
 use crate::fields::{read_u32, read_u64};
-use guest_types::memory::Perm;
+use guest_types::memory::{PAGE_BYTES, Perm};
 use std::marker::Model;
 
 // The bits of p_flags.
@@ -92,7 +92,7 @@ impl ProgramHeader {
     pub fn first_page(&self) -> u64
         ensures { result ≡ first_page self.now }
     {
-        self.vaddr / PAGE
+        self.vaddr / PAGE_BYTES
     }
 
     // The number of pages that hold bytes of the segment.
@@ -101,7 +101,7 @@ impl ProgramHeader {
         ensures bound { result < 2 ^ 54 }
     {
         let end = u128::from(self.vaddr) + u128::from(self.memsz);
-        end.saturating_sub(1) / u128::from(PAGE) + 1 - u128::from(self.first_page())
+        end.saturating_sub(1) / u128::from(PAGE_BYTES) + 1 - u128::from(self.first_page())
     }
 
     // The number after that of the last page that holds bytes of the segment.
@@ -110,7 +110,7 @@ impl ProgramHeader {
         ensures end { result ≡ first_page self.now + page_count self.now }
         ensures bound { result ≤ 2 ^ 36 }
     {
-        (self.vaddr + self.memsz - 1) / PAGE + 1
+        (self.vaddr + self.memsz - 1) / PAGE_BYTES + 1
     }
 
     // The address of the segment's first byte.

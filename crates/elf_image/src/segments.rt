@@ -1,17 +1,16 @@
 //! The segments of a file that are loaded.
 
 ghost use Rattle.std.specs.Prelude.{◌≡◌, ◌+◌, ◌*◌, ◌^◌, ◌<◌, ◌≤◌, length, filter, sum_by, nat_lt, IfOk, IfErr};
+ghost use Rattle.guest_types.specs.declared.memory.TheConstants.{MOST_PAGES};
 ghost use Rattle.machine_model.specs.Load.{load_segments, segments_from, any_segment, is_dynamic, is_loaded, first_bad, page_count};
 ghost use Rattle.elf_image.specs.Loaded.{Refuses};
 ghost use Rattle.elf_image.specs.Loadable.{AllLoadable, placed};
 
 use crate::header::FileHeader;
 use crate::program_header::ProgramHeader;
+use guest_types::memory::MOST_PAGES;
 use machine_model::elf_fault::ElfFault;
 use std::alloc::{AllocError, Global};
-
-// The most pages that the segments of a file may have, counted together.
-const MOST_PAGES: u128 = 16384;
 
 // So many program headers, from an offset on.
 #[tactic(auto, using(crate::proofs::Tables::segments_from_more))]
@@ -75,13 +74,13 @@ fn first_bad(segments: &[ProgramHeader], size: usize) -> Option<u32>
 
 // The segments have more pages, counted together, than a file may have.
 fn has_too_many_pages(segments: &[ProgramHeader]) -> bool
-    ensures { result ≡ nat_lt 16384 (sum_by page_count segments.now) }
+    ensures { result ≡ nat_lt MOST_PAGES (sum_by page_count segments.now) }
 {
     let mut total = 0u128;
     for segment in segments {
         total += segment.page_count();
     }
-    MOST_PAGES < total
+    (MOST_PAGES as u128) < total
 }
 
 // The segments that have bytes in memory.

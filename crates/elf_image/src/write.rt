@@ -8,6 +8,7 @@ use crate::constants::{
     EM_AARCH64, ET_EXEC, EV_CURRENT, HEADER_SIZE, PROGRAM_HEADER_SIZE, PT_LOAD,
 };
 use crate::fields::{put_u16, put_u32, put_u64};
+use guest_types::memory::PAGE_BYTES;
 use std::alloc::{AllocError, Global};
 
 // e_ident: the magic number, the class of 64 bits, little-endian data, the version, and padding.
@@ -78,7 +79,7 @@ fn put_program_header(file: &mut Vec<u8>, size: u64) -> Result<(), AllocError>
     put_u64(file, BASE)?;
     put_u64(file, size)?;
     put_u64(file, size)?;
-    put_u64(file, 4096)
+    put_u64(file, PAGE_BYTES)
 }
 
 /// The file of these words, the first of which stands at 0x400078 in memory.

@@ -51,21 +51,21 @@ pub record Goes (unary : List TextToken → Outcome) (level : ℕ) (words : List
   pub enough : length rest < suc room
   pub same : more (chain_at unary (level - 1)) level (suc room) left rest ≡ chain_at unary level words
 
-pub begins : (unary : List TextToken → Outcome) (level : ℕ) (words : List TextToken) (left : Term) (rest : List TextToken) → 0 < level → chain_at unary (level - 1) words ≡ Ok (left, rest) → Goes unary level words left rest
-begins unary level words left rest h e = record {
+pub chain_begins_below : (unary : List TextToken → Outcome) (level : ℕ) (words : List TextToken) (left : Term) (rest : List TextToken) → 0 < level → chain_at unary (level - 1) words ≡ Ok (left, rest) → Goes unary level words left rest
+chain_begins_below unary level words left rest h e = record {
   room = length rest;
   enough = omega arith;
   same = sym (chain-above unary level words h ∙ ap (λ r. r >>= (λ x. more (chain_at unary (level - 1)) level (suc (length x.1)) x.0 x.1)) e);
 }
 
 module _ (unary : List TextToken → Outcome) (level : ℕ) (words : List TextToken) (left : Term) (rest : List TextToken) (goes : Goes unary level words left rest) where
-  pub step : (o : Operator) (after : List TextToken) → Some (o, after) ≡ operator_at level rest → chain_at unary level words ≡ by_operator (chain_at unary (level - 1)) (more (chain_at unary (level - 1)) level goes.room) left o after
+  pub chain_goes_by_operator : (o : Operator) (after : List TextToken) → Some (o, after) ≡ operator_at level rest → chain_at unary level words ≡ by_operator (chain_at unary (level - 1)) (more (chain_at unary (level - 1)) level goes.room) left o after
   unfolding more
-  step o after e = sym goes.same ∙ ap (λ x. given x (λ o. by_operator (chain_at unary (level - 1)) (more (chain_at unary (level - 1)) level goes.room) left o.0 o.1) (Ok (left, rest))) (sym e)
+  chain_goes_by_operator o after e = sym goes.same ∙ ap (λ x. given x (λ o. by_operator (chain_at unary (level - 1)) (more (chain_at unary (level - 1)) level goes.room) left o.0 o.1) (Ok (left, rest))) (sym e)
 
-  pub ends : None ≡ operator_at level rest → chain_at unary level words ≡ Ok (left, rest)
+  pub chain_without_operator : None ≡ operator_at level rest → chain_at unary level words ≡ Ok (left, rest)
   unfolding more
-  ends e = sym goes.same ∙ ap (λ x. given x (λ o. by_operator (chain_at unary (level - 1)) (more (chain_at unary (level - 1)) level goes.room) left o.0 o.1) (Ok (left, rest))) (sym e)
+  chain_without_operator e = sym goes.same ∙ ap (λ x. given x (λ o. by_operator (chain_at unary (level - 1)) (more (chain_at unary (level - 1)) level goes.room) left o.0 o.1) (Ok (left, rest))) (sym e)
 
   -- after an operator and what it takes
   go_on : (new : Term) (next : List TextToken) → chain_at unary level words ≡ more (chain_at unary (level - 1)) level goes.room new next → length next < length rest → Goes unary level words new next
@@ -75,45 +75,45 @@ module _ (unary : List TextToken → Outcome) (level : ℕ) (words : List TextTo
       record { room = n - 1; enough = omega (arith, goes.enough); same = rw (← positive) (sym whole) }
 
   pub goes_joined : (j : Joint) (after : List TextToken) (right : Term) (next : List TextToken) → Some (Joined j, after) ≡ operator_at level rest → chain_at unary (level - 1) after ≡ Ok (right, next) → length next < length rest → Goes unary level words (joined j left right) next
-  goes_joined j after right next e r lt = go_on (joined j left right) next (step (Joined j) after e ∙ ap (λ x. x >>= (λ r. more (chain_at unary (level - 1)) level goes.room (joined j left r.0) r.1)) r) lt
+  goes_joined j after right next e r lt = go_on (joined j left right) next (chain_goes_by_operator (Joined j) after e ∙ ap (λ x. x >>= (λ r. more (chain_at unary (level - 1)) level goes.room (joined j left r.0) r.1)) r) lt
 
   pub goes_shifted : (to_left : Bool) (after : List TextToken) (n : ℕ) (next : List TextToken) → Some (Shifted to_left, after) ≡ operator_at level rest → count_at after ≡ Ok (n, next) → length next < length rest → Goes unary level words (Shift to_left left (pos n)) next
-  goes_shifted to_left after n next e r lt = go_on (Shift to_left left (pos n)) next (step (Shifted to_left) after e ∙ ap (λ x. x >>= (λ n. more (chain_at unary (level - 1)) level goes.room (Shift to_left left (pos n.0)) n.1)) r) lt
+  goes_shifted to_left after n next e r lt = go_on (Shift to_left left (pos n)) next (chain_goes_by_operator (Shifted to_left) after e ∙ ap (λ x. x >>= (λ n. more (chain_at unary (level - 1)) level goes.room (Shift to_left left (pos n.0)) n.1)) r) lt
 
   pub goes_as : (after : List TextToken) (t : Ty) (next : List TextToken) → Some (As, after) ≡ operator_at level rest → type_at after ≡ Ok (t, next) → length next < length rest → Goes unary level words (Conversion left t) next
-  goes_as after t next e r lt = go_on (Conversion left t) next (step As after e ∙ ap (λ x. x >>= (λ t. more (chain_at unary (level - 1)) level goes.room (Conversion left t.0) t.1)) r) lt
+  goes_as after t next e r lt = go_on (Conversion left t) next (chain_goes_by_operator As after e ∙ ap (λ x. x >>= (λ t. more (chain_at unary (level - 1)) level goes.room (Conversion left t.0) t.1)) r) lt
 
   pub ends_compared : (op : CompareOp) (after : List TextToken) (right : Term) (next : List TextToken) → Some (Compared op, after) ≡ operator_at level rest → chain_at unary (level - 1) after ≡ Ok (right, next) → chain_at unary level words ≡ Ok (Comparison op left right, next)
-  ends_compared op after right next e r = step (Compared op) after e ∙ ap (λ x. x >>= (λ r. Ok (Comparison op left r.0, r.1))) r
+  ends_compared op after right next e r = chain_goes_by_operator (Compared op) after e ∙ ap (λ x. x >>= (λ r. Ok (Comparison op left r.0, r.1))) r
 
   -- by what is read after an operator
   pub takes_joined : (j : Joint) (after : List TextToken) (new : Term) (next : List TextToken) → Some (Joined j, after) ≡ operator_at level rest → joined_by (chain_at unary (level - 1)) j left after ≡ Ok (new, next) → length next < length rest → Goes unary level words new next
   unfolding joined_by
-  takes_joined j after new next e r lt = go_on new next (step (Joined j) after e ∙ ok_made (chain_at unary (level - 1) after) (λ r. (joined j left r.0, r.1)) (more (chain_at unary (level - 1)) level goes.room) new next r) lt
+  takes_joined j after new next e r lt = go_on new next (chain_goes_by_operator (Joined j) after e ∙ ok_made (chain_at unary (level - 1) after) (λ r. (joined j left r.0, r.1)) (more (chain_at unary (level - 1)) level goes.room) new next r) lt
 
   pub takes_shifted : (to_left : Bool) (after : List TextToken) (new : Term) (next : List TextToken) → Some (Shifted to_left, after) ≡ operator_at level rest → shifted_by to_left left after ≡ Ok (new, next) → length next < length rest → Goes unary level words new next
   unfolding shifted_by
-  takes_shifted to_left after new next e r lt = go_on new next (step (Shifted to_left) after e ∙ ok_made (count_at after) (λ n. (Shift to_left left (pos n.0), n.1)) (more (chain_at unary (level - 1)) level goes.room) new next r) lt
+  takes_shifted to_left after new next e r lt = go_on new next (chain_goes_by_operator (Shifted to_left) after e ∙ ok_made (count_at after) (λ n. (Shift to_left left (pos n.0), n.1)) (more (chain_at unary (level - 1)) level goes.room) new next r) lt
 
   pub takes_as : (after : List TextToken) (new : Term) (next : List TextToken) → Some (As, after) ≡ operator_at level rest → converted_by left after ≡ Ok (new, next) → length next < length rest → Goes unary level words new next
   unfolding converted_by
-  takes_as after new next e r lt = go_on new next (step As after e ∙ ok_made (type_at after) (λ t. (Conversion left t.0, t.1)) (more (chain_at unary (level - 1)) level goes.room) new next r) lt
+  takes_as after new next e r lt = go_on new next (chain_goes_by_operator As after e ∙ ok_made (type_at after) (λ t. (Conversion left t.0, t.1)) (more (chain_at unary (level - 1)) level goes.room) new next r) lt
 
   pub compared_is : (op : CompareOp) (after : List TextToken) → Some (Compared op, after) ≡ operator_at level rest → chain_at unary level words ≡ compared_by (chain_at unary (level - 1)) op left after
   unfolding compared_by
-  compared_is op after e = step (Compared op) after e
+  compared_is op after e = chain_goes_by_operator (Compared op) after e
 
   pub refuses_joined : (j : Joint) (after : List TextToken) (f : Stop) → Some (Joined j, after) ≡ operator_at level rest → Fails f (joined_by (chain_at unary (level - 1)) j left after) → Fails f (chain_at unary level words)
   unfolding joined_by
-  refuses_joined j after f e h = subst (Fails f) (sym (step (Joined j) after e)) (fails_made f (chain_at unary (level - 1) after) (λ r. (joined j left r.0, r.1)) (more (chain_at unary (level - 1)) level goes.room) h)
+  refuses_joined j after f e h = subst (Fails f) (sym (chain_goes_by_operator (Joined j) after e)) (fails_made f (chain_at unary (level - 1) after) (λ r. (joined j left r.0, r.1)) (more (chain_at unary (level - 1)) level goes.room) h)
 
   pub refuses_shifted : (to_left : Bool) (after : List TextToken) (f : Stop) → Some (Shifted to_left, after) ≡ operator_at level rest → Fails f (shifted_by to_left left after) → Fails f (chain_at unary level words)
   unfolding shifted_by
-  refuses_shifted to_left after f e h = subst (Fails f) (sym (step (Shifted to_left) after e)) (fails_made f (count_at after) (λ n. (Shift to_left left (pos n.0), n.1)) (more (chain_at unary (level - 1)) level goes.room) h)
+  refuses_shifted to_left after f e h = subst (Fails f) (sym (chain_goes_by_operator (Shifted to_left) after e)) (fails_made f (count_at after) (λ n. (Shift to_left left (pos n.0), n.1)) (more (chain_at unary (level - 1)) level goes.room) h)
 
   pub refuses_as : (after : List TextToken) (f : Stop) → Some (As, after) ≡ operator_at level rest → Fails f (converted_by left after) → Fails f (chain_at unary level words)
   unfolding converted_by
-  refuses_as after f e h = subst (Fails f) (sym (step As after e)) (fails_made f (type_at after) (λ t. (Conversion left t.0, t.1)) (more (chain_at unary (level - 1)) level goes.room) h)
+  refuses_as after f e h = subst (Fails f) (sym (chain_goes_by_operator As after e)) (fails_made f (type_at after) (λ t. (Conversion left t.0, t.1)) (more (chain_at unary (level - 1)) level goes.room) h)
 
   -- by what any operator makes
   pub takes : (o : Operator) (after : List TextToken) (new : Term) (next : List TextToken) → Some (o, after) ≡ operator_at level rest → extended_by (chain_at unary (level - 1)) o left after ≡ Ok (new, next) → is_comparison o ≡ false → length next < length rest → Goes unary level words new next
@@ -122,11 +122,11 @@ module _ (unary : List TextToken → Outcome) (level : ℕ) (words : List TextTo
   takes (Shifted to_left) after new next e r c lt = takes_shifted to_left after new next e r lt
   takes As after new next e r c lt = takes_as after new next e r lt
 
-  pub ends_at : (o : Operator) (after : List TextToken) (new : Term) (next : List TextToken) → Some (o, after) ≡ operator_at level rest → extended_by (chain_at unary (level - 1)) o left after ≡ Ok (new, next) → is_comparison o ≡ true → chain_at unary level words ≡ Ok (new, next)
-  ends_at (Joined j) after new next e r c = absurd cc
-  ends_at (Compared op) after new next e r c = compared_is op after e ∙ r
-  ends_at (Shifted to_left) after new next e r c = absurd cc
-  ends_at As after new next e r c = absurd cc
+  pub chain_ends_at_fault : (o : Operator) (after : List TextToken) (new : Term) (next : List TextToken) → Some (o, after) ≡ operator_at level rest → extended_by (chain_at unary (level - 1)) o left after ≡ Ok (new, next) → is_comparison o ≡ true → chain_at unary level words ≡ Ok (new, next)
+  chain_ends_at_fault (Joined j) after new next e r c = absurd cc
+  chain_ends_at_fault (Compared op) after new next e r c = compared_is op after e ∙ r
+  chain_ends_at_fault (Shifted to_left) after new next e r c = absurd cc
+  chain_ends_at_fault As after new next e r c = absurd cc
 
   pub refuses : (o : Operator) (after : List TextToken) (f : Stop) → Some (o, after) ≡ operator_at level rest → Fails f (extended_by (chain_at unary (level - 1)) o left after) → Fails f (chain_at unary level words)
   refuses (Joined j) after f e h = refuses_joined j after f e h

@@ -1,5 +1,6 @@
 -- A row of signs, as far as a loop has read it.
 use Rattle.std.proofs.Common.{◌≡◌, ℕ, zero, suc, ◌-◌, ◌<◌, List, [], ◌∷◌, ◌++◌, length, Option, Some, None, Ok, Err, refl, sym, ap, ◌∙◌, arith}
+use Rattle.std.proofs.lemmas.Option.{none-some, same_Some}
 use Rattle.kernel_tree.specs.declared.mark.Mark.{Mark}
 use Rattle.kernel_tree.specs.declared.mark.Sign.{Sign}
 use Rattle.kernel_tree.specs.declared.mark.Sign.TheVariants as sign
@@ -12,7 +13,7 @@ use Rattle.expression_syntax.specs.declared.stop.Stop.{Stop}
 use Rattle.expression_syntax.specs.Reading.{◌>>=◌, Fails, Outcome, mark_at, sign_of, sign_front, signed_by, opened_by, chain_at, unary_at}
 use Rattle.expression_syntax.specs.Signs.{all_signed}
 use Rattle.expression_syntax.proofs.Chain.{fails_on}
-use Rattle.expression_syntax.proofs.Sound.{given_is, some_is, mark-is}
+use Rattle.expression_syntax.proofs.Sound.{given_is, mark-is}
 
 pub all_signed-push : (ss : List Sign) (s : Sign) (e : Term) → all_signed (ss ++ s ∷ []) e ≡ all_signed ss (signed s e)
 all_signed-push [] s e = refl
@@ -36,16 +37,13 @@ no_number : (s : Sign) (m : Mark) (rest : List TextToken) → number_following s
 no_number sign.Minus m rest = refl
 no_number other m rest = refl
 
-not_none : {A : Type 0} (x : A) → None ≡ Some x → ⊥
-not_none x e = cc
-
 sign_of-is : (o : Option Opening) (rest : List TextToken) (y : Sign × List TextToken) → sign_of o rest ≡ Some y → (o ≡ Some (opening.Signed y.0)) × (rest ≡ y.1)
 sign_of-is None rest y e = absurd cc
 sign_of-is (Some opening.Group) rest y e = absurd cc
 sign_of-is (Some (opening.Pair op)) rest y e = absurd cc
 sign_of-is (Some opening.Absolute) rest y e = absurd cc
 sign_of-is (Some opening.Choice) rest y e = absurd cc
-sign_of-is (Some (opening.Signed s)) rest y e = let p = some_is (s, rest) y e in (ap (λ (z : Sign × List TextToken). Some (opening.Signed z.0)) p, ap (λ (z : Sign × List TextToken). z.1) p)
+sign_of-is (Some (opening.Signed s)) rest y e = let p = same_Some (s, rest) y e in (ap (λ (z : Sign × List TextToken). Some (opening.Signed z.0)) p, ap (λ (z : Sign × List TextToken). z.1) p)
 
 record Front (words : List TextToken) (y : Sign × List TextToken) : Type 0 where
   m : Mark
@@ -55,7 +53,7 @@ record Front (words : List TextToken) (y : Sign × List TextToken) : Type 0 wher
 sign-is : (words : List TextToken) (y : Sign × List TextToken) → sign_front words ≡ Some y → Front words y
 unfolding sign_front
 sign-is words y e =
-    let g = given_is (mark_at words) (λ x. sign_of (opening_of_mark x.0) x.1) None (Some y) (not_none y) e in
+    let g = given_is (mark_at words) (λ x. sign_of (opening_of_mark x.0) x.1) None (Some y) (none-some y) e in
     let h = sign_of-is (opening_of_mark g.0.0) g.0.1 y g.2 in
     record { m = g.0.0; front = mark-is words g.0 g.1 ∙ ap (λ (z : List TextToken). IsMark g.0.0 ∷ z) h.1; opens = h.0 }
 

@@ -2,6 +2,7 @@
 use Rattle.std.proofs.Common.{◌≡◌, ℕ, zero, suc, ◌<◌, Bool, true, false, cond, List, [], ◌∷◌, length, Option, Some, None, Result, Ok, Err, refl, sym, ap, subst, ◌∙◌, arith, eqb}
 use Rattle.std.proofs.lemmas.Bool.{eqb-true}
 use Rattle.std.specs.Prelude.{pos, neg_ℤ}
+use Rattle.std.proofs.lemmas.Option.{none-some, same_Some}
 use Rattle.kernel_tree.specs.declared.ops.Ty.{Ty}
 use Rattle.kernel_tree.specs.declared.ops.UnaryOp.TheVariants as unary
 use Rattle.kernel_tree.specs.declared.ops.BinaryOp.{BinaryOp}
@@ -21,7 +22,6 @@ use Rattle.kernel_tree.specs.Plain.{Term, Literal, Variable, Element, Unary, Ope
 use Rattle.kernel_tree.specs.Grammar.{Spells, number, name, element, group, pair, absolute, choice, negative, prefix, up, conversion, shift, operation, comparison, operator_of, level_of, level_of_dual, joined, opening_of_mark, signed, number_at, number_following}
 use Rattle.kernel_tree.proofs.Marks.{same-true}
 use Rattle.expression_syntax.specs.Reading.{◌>>=◌, given, needed, Outcome, mark_at, name_front, type_front, update_front, following, past, name_at, type_at, count_at, operator_at, by_operator, more, chain_at, term_before, name_by, pair_by, absolute_by, choice_by, signed_by, opened_by, unary_by, unary_at}
-pub use Rattle.kernel_tree.proofs.OneTerm.{some_is}
 
 pub bind_ok : {A B : Type 0} (r : Result A ℕ) (f : A → Result B ℕ) (y : B) → (r >>= f) ≡ Ok y → (x : A) × (r ≡ Ok x) × (f x ≡ Ok y)
 bind_ok (Ok x) f y e = (x, refl, e)
@@ -44,9 +44,6 @@ cond_is false a b y n e = absurd (n e)
 pub ok_is : {A : Type 0} (x y : A) → ◌≡◌ {A = Result A ℕ} (Ok x) (Ok y) → x ≡ y
 ok_is x y e = cc
 
-not_none : {A : Type 0} (x : A) → None ≡ Some x → ⊥
-not_none x e = cc
-
 pub not_err : {A : Type 0} (n : ℕ) (x : A) → ◌≡◌ {A = Result A ℕ} (Err n) (Ok x) → ⊥
 not_err n x e = cc
 
@@ -59,37 +56,37 @@ needed_is (Some x) n y e = ap Some (ok_is x y e)
 -- a mark that was found stands at the front
 pub mark-is : (words : List TextToken) (x : Mark × List TextToken) → mark_at words ≡ Some x → words ≡ IsMark x.0 ∷ x.1
 mark-is [] x e = absurd cc
-mark-is (IsMark n ∷ words) x e = ap (λ (x : Mark × List TextToken). IsMark x.0 ∷ x.1) (some_is (n, words) x e)
+mark-is (IsMark n ∷ words) x e = ap (λ (x : Mark × List TextToken). IsMark x.0 ∷ x.1) (same_Some (n, words) x e)
 mark-is other x e = absurd cc
 
 name_front-is : (words : List TextToken) (x : List ℕ × List TextToken) → name_front words ≡ Some x → words ≡ IsName x.0 ∷ x.1
 name_front-is [] x e = absurd cc
-name_front-is (IsName y ∷ words) x e = ap (λ (x : List ℕ × List TextToken). IsName x.0 ∷ x.1) (some_is (y, words) x e)
+name_front-is (IsName y ∷ words) x e = ap (λ (x : List ℕ × List TextToken). IsName x.0 ∷ x.1) (same_Some (y, words) x e)
 name_front-is other x e = absurd cc
 
 type_front-is : (words : List TextToken) (x : Ty × List TextToken) → type_front words ≡ Some x → words ≡ IsType x.0 ∷ x.1
 type_front-is [] x e = absurd cc
-type_front-is (IsType t ∷ words) x e = ap (λ (x : Ty × List TextToken). IsType x.0 ∷ x.1) (some_is (t, words) x e)
+type_front-is (IsType t ∷ words) x e = ap (λ (x : Ty × List TextToken). IsType x.0 ∷ x.1) (same_Some (t, words) x e)
 type_front-is other x e = absurd cc
 
 pub update-is : (words : List TextToken) (x : UpdateOp × List TextToken) → update_front words ≡ Some x → words ≡ IsUpdate x.0 ∷ x.1
 update-is [] x e = absurd cc
-update-is (IsUpdate op ∷ words) x e = ap (λ (x : UpdateOp × List TextToken). IsUpdate x.0 ∷ x.1) (some_is (op, words) x e)
+update-is (IsUpdate op ∷ words) x e = ap (λ (x : UpdateOp × List TextToken). IsUpdate x.0 ∷ x.1) (same_Some (op, words) x e)
 update-is other x e = absurd cc
 
 pub number-is : (words : List TextToken) (x : ℕ × List TextToken) → number_at words ≡ Some x → words ≡ IsNumber x.0 ∷ x.1
 number-is [] x e = absurd cc
-number-is (IsNumber n ∷ words) x e = ap (λ (x : ℕ × List TextToken). IsNumber x.0 ∷ x.1) (some_is (n, words) x e)
+number-is (IsNumber n ∷ words) x e = ap (λ (x : ℕ × List TextToken). IsNumber x.0 ∷ x.1) (same_Some (n, words) x e)
 number-is other x e = absurd cc
 
 pub following-is : (m : Mark) (words rest : List TextToken) → following m words ≡ Some rest → words ≡ IsMark m ∷ rest
 unfolding following
 following-is m words rest e =
-    let g = given_is (mark_at words) (λ x. cond (same x.0 m) (Some x.1) None) None (Some rest) (not_none rest) e in
-    let h = cond_is (same g.0.0 m) (Some g.0.1) None (Some rest) (not_none rest) g.2 in
+    let g = given_is (mark_at words) (λ x. cond (same x.0 m) (Some x.1) None) None (Some rest) (none-some rest) e in
+    let h = cond_is (same g.0.0 m) (Some g.0.1) None (Some rest) (none-some rest) g.2 in
     let w : words ≡ IsMark g.0.0 ∷ g.0.1 = mark-is words g.0 g.1 in
     let m-is : g.0.0 ≡ m = same-true g.0.0 m h.0 in
-    let r-is : g.0.1 ≡ rest = some_is g.0.1 rest h.1 in
+    let r-is : g.0.1 ≡ rest = same_Some g.0.1 rest h.1 in
     cc
 
 pub after-is : (m : Mark) (words rest : List TextToken) → past m words ≡ Ok rest → words ≡ IsMark m ∷ rest
@@ -113,9 +110,9 @@ unfolding operator_at
 operator-is level [] o rest e = absurd cc
 operator-is level (w ∷ tail) o rest e =
     let y : Operator × List TextToken = (o, rest) in
-    let h = given_is (operator_of w) (λ o. cond (eqb (level_of o) level) (Some (o, tail)) None) None (Some y) (not_none y) e in
-    let k = cond_is (eqb (level_of h.0) level) (Some (h.0, tail)) None (Some y) (not_none y) h.2 in
-    let p = some_is (h.0, tail) (o, rest) k.1 in
+    let h = given_is (operator_of w) (λ o. cond (eqb (level_of o) level) (Some (o, tail)) None) None (Some y) (none-some y) e in
+    let k = cond_is (eqb (level_of h.0) level) (Some (h.0, tail)) None (Some y) (none-some y) h.2 in
+    let p = same_Some (h.0, tail) (o, rest) k.1 in
     let o-is : h.0 ≡ o = ap (λ (x : Operator × List TextToken). x.0) p in
     (w, ap (λ (x : Operator × List TextToken). w ∷ x.1) p, h.1 ∙ ap Some o-is, ap level_of (sym o-is) ∙ eqb-true (level_of h.0) level k.0)
 
@@ -217,8 +214,8 @@ module _ (read inner : List TextToken → Outcome) (whole : Sound 10 read) (soun
       let w : IsName x ∷ words ≡ IsName x ∷ IsMark mark.OpenBracket ∷ from = ap (λ (z : List TextToken). IsName x ∷ z) (following-is mark.OpenBracket words from p) in
       from_spells 0 (IsName x ∷ IsMark mark.OpenBracket ∷ from) (IsName x ∷ words) e rest w (first_spells 0 _ (Element x b.0.0, b.0.1) (e, rest) (ok_is (Element x b.0.0, b.0.1) (e, rest) b.2) (element (before_spells read whole mark.CloseBracket from b.0 b.1)))
 
-  called : (m : Mark) (words from : List TextToken) → past mark.OpenParen words ≡ Ok from → IsMark m ∷ words ≡ IsMark m ∷ IsMark mark.OpenParen ∷ from
-  called m words from p = ap (λ (z : List TextToken). IsMark m ∷ z) (after-is mark.OpenParen words from p)
+  past_open_paren : (m : Mark) (words from : List TextToken) → past mark.OpenParen words ≡ Ok from → IsMark m ∷ words ≡ IsMark m ∷ IsMark mark.OpenParen ∷ from
+  past_open_paren m words from p = ap (λ (z : List TextToken). IsMark m ∷ z) (after-is mark.OpenParen words from p)
 
   pair_spells : (m : Mark) (op : BinaryOp) → opening_of_mark m ≡ Some (opening.Pair op) → (words : List TextToken) (e : Term) (rest : List TextToken) → pair_by read op words ≡ Ok (e, rest) → Spells 0 (IsMark m ∷ words) e rest
   unfolding pair_by
@@ -226,14 +223,14 @@ module _ (read inner : List TextToken → Outcome) (whole : Sound 10 read) (soun
       let f = bind_ok (past mark.OpenParen words) (λ from. term_before read mark.Comma from >>= (λ a. term_before read mark.CloseParen a.1 >>= (λ b. Ok (Operation op a.0 b.0, b.1)))) (e, rest) q in
       let a = bind_ok (term_before read mark.Comma f.0) (λ a. term_before read mark.CloseParen a.1 >>= (λ b. Ok (Operation op a.0 b.0, b.1))) (e, rest) f.2 in
       let b = bind_ok (term_before read mark.CloseParen a.0.1) (λ b. Ok (Operation op a.0.0 b.0, b.1)) (e, rest) a.2 in
-      from_spells 0 _ (IsMark m ∷ words) e rest (called m words f.0 f.1) (first_spells 0 _ (Operation op a.0.0 b.0.0, b.0.1) (e, rest) (ok_is (Operation op a.0.0 b.0.0, b.0.1) (e, rest) b.2) (pair o (before_spells read whole mark.Comma f.0 a.0 a.1) (before_spells read whole mark.CloseParen a.0.1 b.0 b.1)))
+      from_spells 0 _ (IsMark m ∷ words) e rest (past_open_paren m words f.0 f.1) (first_spells 0 _ (Operation op a.0.0 b.0.0, b.0.1) (e, rest) (ok_is (Operation op a.0.0 b.0.0, b.0.1) (e, rest) b.2) (pair o (before_spells read whole mark.Comma f.0 a.0 a.1) (before_spells read whole mark.CloseParen a.0.1 b.0 b.1)))
 
   absolute_spells : (words : List TextToken) (e : Term) (rest : List TextToken) → absolute_by read words ≡ Ok (e, rest) → Spells 0 (IsMark mark.Abs ∷ words) e rest
   unfolding absolute_by
   absolute_spells words e rest q =
       let f = bind_ok (past mark.OpenParen words) (λ from. term_before read mark.CloseParen from >>= (λ a. Ok (Unary unary.Abs a.0, a.1))) (e, rest) q in
       let a = bind_ok (term_before read mark.CloseParen f.0) (λ a. Ok (Unary unary.Abs a.0, a.1)) (e, rest) f.2 in
-      from_spells 0 _ (IsMark mark.Abs ∷ words) e rest (called mark.Abs words f.0 f.1) (first_spells 0 _ (Unary unary.Abs a.0.0, a.0.1) (e, rest) (ok_is (Unary unary.Abs a.0.0, a.0.1) (e, rest) a.2) (absolute (before_spells read whole mark.CloseParen f.0 a.0 a.1)))
+      from_spells 0 _ (IsMark mark.Abs ∷ words) e rest (past_open_paren mark.Abs words f.0 f.1) (first_spells 0 _ (Unary unary.Abs a.0.0, a.0.1) (e, rest) (ok_is (Unary unary.Abs a.0.0, a.0.1) (e, rest) a.2) (absolute (before_spells read whole mark.CloseParen f.0 a.0 a.1)))
 
   choice_spells : (words : List TextToken) (e : Term) (rest : List TextToken) → choice_by read words ≡ Ok (e, rest) → Spells 0 (IsMark mark.Select ∷ words) e rest
   unfolding choice_by
@@ -242,7 +239,7 @@ module _ (read inner : List TextToken → Outcome) (whole : Sound 10 read) (soun
       let c = bind_ok (term_before read mark.Comma f.0) (λ c. term_before read mark.Comma c.1 >>= (λ a. term_before read mark.CloseParen a.1 >>= (λ b. Ok (Choice c.0 a.0 b.0, b.1)))) (e, rest) f.2 in
       let a = bind_ok (term_before read mark.Comma c.0.1) (λ a. term_before read mark.CloseParen a.1 >>= (λ b. Ok (Choice c.0.0 a.0 b.0, b.1))) (e, rest) c.2 in
       let b = bind_ok (term_before read mark.CloseParen a.0.1) (λ b. Ok (Choice c.0.0 a.0.0 b.0, b.1)) (e, rest) a.2 in
-      from_spells 0 _ (IsMark mark.Select ∷ words) e rest (called mark.Select words f.0 f.1) (first_spells 0 _ (Choice c.0.0 a.0.0 b.0.0, b.0.1) (e, rest) (ok_is (Choice c.0.0 a.0.0 b.0.0, b.0.1) (e, rest) b.2) (choice (before_spells read whole mark.Comma f.0 c.0 c.1) (before_spells read whole mark.Comma c.0.1 a.0 a.1) (before_spells read whole mark.CloseParen a.0.1 b.0 b.1)))
+      from_spells 0 _ (IsMark mark.Select ∷ words) e rest (past_open_paren mark.Select words f.0 f.1) (first_spells 0 _ (Choice c.0.0 a.0.0 b.0.0, b.0.1) (e, rest) (ok_is (Choice c.0.0 a.0.0 b.0.0, b.0.1) (e, rest) b.2) (choice (before_spells read whole mark.Comma f.0 c.0 c.1) (before_spells read whole mark.Comma c.0.1 a.0 a.1) (before_spells read whole mark.CloseParen a.0.1 b.0 b.1)))
 
   sign_spells : (s : Sign) (m : Mark) → opening_of_mark m ≡ Some (opening.Signed s) → (words : List TextToken) (e : Term) (rest : List TextToken) → number_following s words ≡ None → ◌>>=◌ {A = Term × List TextToken} {B = Term × List TextToken} (inner words) (λ e. Ok (signed s e.0, e.1)) ≡ Ok (e, rest) → Spells 0 (IsMark m ∷ words) e rest
   sign_spells s m o words e rest n q =

@@ -117,30 +117,30 @@ before_stops read sound stops m words n q =
     (λ rest s g. absurd (ok_not_err (e.0, rest) n g)))
 
 module _ (read inner : List TextToken → Outcome) (whole : Sound 10 read) (stops : Stops 10 read) (sound : Sound 0 inner) (halts : Stops 0 inner) where
-  before : (m : Mark) (words : List TextToken) (n : ℕ) → term_before read m words ≡ Err n → Stuck (Fronts 10) words n
-  before m words n q = before_stops read whole stops m words n q
+  stuck_term_before : (m : Mark) (words : List TextToken) (n : ℕ) → term_before read m words ≡ Err n → Stuck (Fronts 10) words n
+  stuck_term_before m words n q = before_stops read whole stops m words n q
 
   name_stops : (x : List ℕ) (words : List TextToken) (n : ℕ) (o : Option (List TextToken)) → following mark.OpenBracket words ≡ o → given {B = Outcome} o (λ from. term_before read mark.CloseBracket from >>= (λ i. Ok (Element x i.0, i.1))) (Ok (Variable x, words)) ≡ Err n → Stuck (Fronts 0) (IsName x ∷ words) n
   name_stops x words n None p q = absurd (ok_not_err (Variable x, words) n q)
   name_stops x words n (Some from) p q =
       stuck_from (Fronts 0) _ _ n (ap (λ (z : List TextToken). IsName x ∷ z) (following-is mark.OpenBracket words from p))
       (stuck_bind (term_before read mark.CloseBracket from) (λ i. Ok (Element x i.0, i.1)) n q
-      (λ f. let s = before mark.CloseBracket from n f in record { bad = s.bad; front = in_element s.front; place = s.place })
+      (λ f. let s = stuck_term_before mark.CloseBracket from n f in record { bad = s.bad; front = in_element s.front; place = s.place })
       (λ i r f. absurd (ok_not_err (Element x i.0, i.1) n f)))
 
   -- after a mark, an open parenthesis
-  called : (m : Mark) (words from : List TextToken) (n : ℕ) → past mark.OpenParen words ≡ Ok from → Stuck (Fronts 0) (IsMark m ∷ IsMark mark.OpenParen ∷ from) n → Stuck (Fronts 0) (IsMark m ∷ words) n
-  called m words from n p h = stuck_from (Fronts 0) _ _ n (ap (λ (z : List TextToken). IsMark m ∷ z) (after-is mark.OpenParen words from p)) h
+  stuck_past_open_paren : (m : Mark) (words from : List TextToken) (n : ℕ) → past mark.OpenParen words ≡ Ok from → Stuck (Fronts 0) (IsMark m ∷ IsMark mark.OpenParen ∷ from) n → Stuck (Fronts 0) (IsMark m ∷ words) n
+  stuck_past_open_paren m words from n p h = stuck_from (Fronts 0) _ _ n (ap (λ (z : List TextToken). IsMark m ∷ z) (after-is mark.OpenParen words from p)) h
 
   pair_stops : (m : Mark) (op : BinaryOp) → opening_of_mark m ≡ Some (opening.Pair op) → (words : List TextToken) (n : ℕ) → pair_by read op words ≡ Err n → Stuck (Fronts 0) (IsMark m ∷ words) n
   unfolding pair_by
   pair_stops m op o words n q =
       stuck_bind (past mark.OpenParen words) (λ from. term_before read mark.Comma from >>= (λ a. term_before read mark.CloseParen a.1 >>= (λ b. Ok (Operation op a.0 b.0, b.1)))) n q
       (λ f. record { bad = words; front = at_pair o; place = after-stops mark.OpenParen words n f })
-      (λ from p f. called m words from n p (stuck_bind (term_before read mark.Comma from) (λ a. term_before read mark.CloseParen a.1 >>= (λ b. Ok (Operation op a.0 b.0, b.1))) n f
-      (λ g. let s = before mark.Comma from n g in record { bad = s.bad; front = first_pair o s.front; place = s.place })
+      (λ from p f. stuck_past_open_paren m words from n p (stuck_bind (term_before read mark.Comma from) (λ a. term_before read mark.CloseParen a.1 >>= (λ b. Ok (Operation op a.0 b.0, b.1))) n f
+      (λ g. let s = stuck_term_before mark.Comma from n g in record { bad = s.bad; front = first_pair o s.front; place = s.place })
       (λ a r g. stuck_bind (term_before read mark.CloseParen a.1) (λ b. Ok (Operation op a.0 b.0, b.1)) n g
-      (λ h. let s = before mark.CloseParen a.1 n h in record { bad = s.bad; front = second_pair o (before_spells read whole mark.Comma from a r) s.front; place = s.place })
+      (λ h. let s = stuck_term_before mark.CloseParen a.1 n h in record { bad = s.bad; front = second_pair o (before_spells read whole mark.Comma from a r) s.front; place = s.place })
       (λ b t h. absurd (ok_not_err (Operation op a.0 b.0, b.1) n h)))))
 
   absolute_stops : (words : List TextToken) (n : ℕ) → absolute_by read words ≡ Err n → Stuck (Fronts 0) (IsMark mark.Abs ∷ words) n
@@ -148,8 +148,8 @@ module _ (read inner : List TextToken → Outcome) (whole : Sound 10 read) (stop
   absolute_stops words n q =
       stuck_bind (past mark.OpenParen words) (λ from. term_before read mark.CloseParen from >>= (λ a. Ok (Unary unary.Abs a.0, a.1))) n q
       (λ f. record { bad = words; front = at_absolute; place = after-stops mark.OpenParen words n f })
-      (λ from p f. called mark.Abs words from n p (stuck_bind (term_before read mark.CloseParen from) (λ a. Ok (Unary unary.Abs a.0, a.1)) n f
-      (λ g. let s = before mark.CloseParen from n g in record { bad = s.bad; front = in_absolute s.front; place = s.place })
+      (λ from p f. stuck_past_open_paren mark.Abs words from n p (stuck_bind (term_before read mark.CloseParen from) (λ a. Ok (Unary unary.Abs a.0, a.1)) n f
+      (λ g. let s = stuck_term_before mark.CloseParen from n g in record { bad = s.bad; front = in_absolute s.front; place = s.place })
       (λ a r g. absurd (ok_not_err (Unary unary.Abs a.0, a.1) n g))))
 
   choice_stops : (words : List TextToken) (n : ℕ) → choice_by read words ≡ Err n → Stuck (Fronts 0) (IsMark mark.Select ∷ words) n
@@ -157,12 +157,12 @@ module _ (read inner : List TextToken → Outcome) (whole : Sound 10 read) (stop
   choice_stops words n q =
       stuck_bind (past mark.OpenParen words) (λ from. term_before read mark.Comma from >>= (λ c. term_before read mark.Comma c.1 >>= (λ a. term_before read mark.CloseParen a.1 >>= (λ b. Ok (Choice c.0 a.0 b.0, b.1))))) n q
       (λ f. record { bad = words; front = at_choice; place = after-stops mark.OpenParen words n f })
-      (λ from p f. called mark.Select words from n p (stuck_bind (term_before read mark.Comma from) (λ c. term_before read mark.Comma c.1 >>= (λ a. term_before read mark.CloseParen a.1 >>= (λ b. Ok (Choice c.0 a.0 b.0, b.1)))) n f
-      (λ g. let s = before mark.Comma from n g in record { bad = s.bad; front = first_choice s.front; place = s.place })
+      (λ from p f. stuck_past_open_paren mark.Select words from n p (stuck_bind (term_before read mark.Comma from) (λ c. term_before read mark.Comma c.1 >>= (λ a. term_before read mark.CloseParen a.1 >>= (λ b. Ok (Choice c.0 a.0 b.0, b.1)))) n f
+      (λ g. let s = stuck_term_before mark.Comma from n g in record { bad = s.bad; front = first_choice s.front; place = s.place })
       (λ c r g. let one = before_spells read whole mark.Comma from c r in stuck_bind (term_before read mark.Comma c.1) (λ a. term_before read mark.CloseParen a.1 >>= (λ b. Ok (Choice c.0 a.0 b.0, b.1))) n g
-      (λ h. let s = before mark.Comma c.1 n h in record { bad = s.bad; front = second_choice one s.front; place = s.place })
+      (λ h. let s = stuck_term_before mark.Comma c.1 n h in record { bad = s.bad; front = second_choice one s.front; place = s.place })
       (λ a t h. stuck_bind (term_before read mark.CloseParen a.1) (λ b. Ok (Choice c.0 a.0 b.0, b.1)) n h
-      (λ i. let s = before mark.CloseParen a.1 n i in record { bad = s.bad; front = third_choice one (before_spells read whole mark.Comma c.1 a t) s.front; place = s.place })
+      (λ i. let s = stuck_term_before mark.CloseParen a.1 n i in record { bad = s.bad; front = third_choice one (before_spells read whole mark.Comma c.1 a t) s.front; place = s.place })
       (λ b u i. absurd (ok_not_err (Choice c.0 a.0 b.0, b.1) n i))))))
 
   sign_stops : (s : Sign) (m : Mark) → opening_of_mark m ≡ Some (opening.Signed s) → (words : List TextToken) (n : ℕ) → ◌>>=◌ {A = Term × List TextToken} {B = Term × List TextToken} (inner words) (λ e. Ok (signed s e.0, e.1)) ≡ Err n → Stuck (Fronts 0) (IsMark m ∷ words) n
@@ -180,7 +180,7 @@ module _ (read inner : List TextToken → Outcome) (whole : Sound 10 read) (stop
 
   opened_stops : (m : Mark) (words : List TextToken) (n : ℕ) → opened_by read inner (opening_of_mark m) words ≡ Err n → Stuck (Fronts 0) (IsMark m ∷ words) n
   unfolding signed_by
-  opened_stops mark.OpenParen words n q = let s = before mark.CloseParen words n q in record { bad = s.bad; front = in_group s.front; place = s.place }
+  opened_stops mark.OpenParen words n q = let s = stuck_term_before mark.CloseParen words n q in record { bad = s.bad; front = in_group s.front; place = s.place }
   opened_stops mark.Min words n q = pair_stops mark.Min binary.Min refl words n q
   opened_stops mark.Max words n q = pair_stops mark.Max binary.Max refl words n q
   opened_stops mark.Abs words n q = absolute_stops words n q

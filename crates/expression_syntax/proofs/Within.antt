@@ -112,34 +112,34 @@ chain_goes unary goes (suc level) words n h =
     (λ x l. more_passes (chain_at unary level) (chain_goes unary goes level) (suc level) n (suc (length x.1)) x.0 x.1 l)
 
 module _ (read inner : List TextToken → Outcome) (goes : Going read) (runs : Going inner) where
-  before : (m : Mark) (words : List TextToken) (n : ℕ) → length words ≤ n → Passes (term_before read m words) n
-  before m words n h = term_passes read m words n (goes words n h)
+  passes_term_before : (m : Mark) (words : List TextToken) (n : ℕ) → length words ≤ n → Passes (term_before read m words) n
+  passes_term_before m words n h = term_passes read m words n (goes words n h)
 
   pub name_goes : (x : List ℕ) → Going (name_by read x)
   unfolding name_by
   name_goes x words n h = passes_given mark.OpenBracket words (λ from. term_before read mark.CloseBracket from >>= (λ i. Ok (Element x i.0, i.1))) (Ok (Variable x, words)) n h
-      (λ from l. passes_bind (term_before read mark.CloseBracket from) (λ i. Ok (Element x i.0, i.1)) n (before mark.CloseBracket from n l) (λ i k. k)) h
+      (λ from l. passes_bind (term_before read mark.CloseBracket from) (λ i. Ok (Element x i.0, i.1)) n (passes_term_before mark.CloseBracket from n l) (λ i k. k)) h
 
   pub pair_goes : (op : BinaryOp) → Going (pair_by read op)
   unfolding pair_by
   pair_goes op words n h =
       passes_one (past mark.OpenParen words) (λ from. term_before read mark.Comma from >>= (λ a. term_before read mark.CloseParen a.1 >>= (λ b. Ok (Operation op a.0 b.0, b.1)))) n (after_passes mark.OpenParen words n h)
-      (λ from l. passes_bind (term_before read mark.Comma from) (λ a. term_before read mark.CloseParen a.1 >>= (λ b. Ok (Operation op a.0 b.0, b.1))) n (before mark.Comma from n l)
-      (λ a k. passes_bind (term_before read mark.CloseParen a.1) (λ b. Ok (Operation op a.0 b.0, b.1)) n (before mark.CloseParen a.1 n k) (λ b i. i)))
+      (λ from l. passes_bind (term_before read mark.Comma from) (λ a. term_before read mark.CloseParen a.1 >>= (λ b. Ok (Operation op a.0 b.0, b.1))) n (passes_term_before mark.Comma from n l)
+      (λ a k. passes_bind (term_before read mark.CloseParen a.1) (λ b. Ok (Operation op a.0 b.0, b.1)) n (passes_term_before mark.CloseParen a.1 n k) (λ b i. i)))
 
   pub absolute_goes : Going (absolute_by read)
   unfolding absolute_by
   absolute_goes words n h =
       passes_one (past mark.OpenParen words) (λ from. term_before read mark.CloseParen from >>= (λ a. Ok (Unary unary.Abs a.0, a.1))) n (after_passes mark.OpenParen words n h)
-      (λ from l. passes_bind (term_before read mark.CloseParen from) (λ a. Ok (Unary unary.Abs a.0, a.1)) n (before mark.CloseParen from n l) (λ a k. k))
+      (λ from l. passes_bind (term_before read mark.CloseParen from) (λ a. Ok (Unary unary.Abs a.0, a.1)) n (passes_term_before mark.CloseParen from n l) (λ a k. k))
 
   pub choice_goes : Going (choice_by read)
   unfolding choice_by
   choice_goes words n h =
       passes_one (past mark.OpenParen words) (λ from. term_before read mark.Comma from >>= (λ c. term_before read mark.Comma c.1 >>= (λ a. term_before read mark.CloseParen a.1 >>= (λ b. Ok (Choice c.0 a.0 b.0, b.1))))) n (after_passes mark.OpenParen words n h)
-      (λ from l. passes_bind (term_before read mark.Comma from) (λ c. term_before read mark.Comma c.1 >>= (λ a. term_before read mark.CloseParen a.1 >>= (λ b. Ok (Choice c.0 a.0 b.0, b.1)))) n (before mark.Comma from n l)
-      (λ c k. passes_bind (term_before read mark.Comma c.1) (λ a. term_before read mark.CloseParen a.1 >>= (λ b. Ok (Choice c.0 a.0 b.0, b.1))) n (before mark.Comma c.1 n k)
-      (λ a i. passes_bind (term_before read mark.CloseParen a.1) (λ b. Ok (Choice c.0 a.0 b.0, b.1)) n (before mark.CloseParen a.1 n i) (λ b j. j))))
+      (λ from l. passes_bind (term_before read mark.Comma from) (λ c. term_before read mark.Comma c.1 >>= (λ a. term_before read mark.CloseParen a.1 >>= (λ b. Ok (Choice c.0 a.0 b.0, b.1)))) n (passes_term_before mark.Comma from n l)
+      (λ c k. passes_bind (term_before read mark.Comma c.1) (λ a. term_before read mark.CloseParen a.1 >>= (λ b. Ok (Choice c.0 a.0 b.0, b.1))) n (passes_term_before mark.Comma c.1 n k)
+      (λ a i. passes_bind (term_before read mark.CloseParen a.1) (λ b. Ok (Choice c.0 a.0 b.0, b.1)) n (passes_term_before mark.CloseParen a.1 n i) (λ b j. j))))
 
   number_shorter : (s : Sign) (words : List TextToken) (x : ℕ × List TextToken) (n : ℕ) → length words ≤ n → number_following s words ≡ Some x → length x.1 ≤ n
   number_shorter sign.Minus words x n h e = omega (arith, ap length (number-is words x e), h)
@@ -156,7 +156,7 @@ module _ (read inner : List TextToken → Outcome) (goes : Going read) (runs : G
 
   pub opened_goes : (o : Option Opening) (words : List TextToken) (n : ℕ) → suc (length words) ≤ n → Passes (opened_by read inner o words) n
   opened_goes None words n h = h
-  opened_goes (Some opening.Group) words n h = before mark.CloseParen words n (omega (arith, h))
+  opened_goes (Some opening.Group) words n h = passes_term_before mark.CloseParen words n (omega (arith, h))
   opened_goes (Some (opening.Pair op)) words n h = pair_goes op words n (omega (arith, h))
   opened_goes (Some opening.Absolute) words n h = absolute_goes words n (omega (arith, h))
   opened_goes (Some opening.Choice) words n h = choice_goes words n (omega (arith, h))

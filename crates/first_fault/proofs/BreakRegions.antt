@@ -137,11 +137,11 @@ skip_all [] h = h
 skip_all (b ∷ bs) h = sub_skip b (skip_all bs h)
 
 -- entries and those after them
-cut : (k : Program) (xs ys : List Entry) (ms : List Bool) → entry_marks k (xs ++ ys) ++ ms ≡ entry_marks k xs ++ (entry_marks k ys ++ ms)
-cut k xs ys ms = ap (λ bs. bs ++ ms) (entry_marks-append k xs ys) ∙ append_assoc (entry_marks k xs) (entry_marks k ys) ms
+entry_marks_append : (k : Program) (xs ys : List Entry) (ms : List Bool) → entry_marks k (xs ++ ys) ++ ms ≡ entry_marks k xs ++ (entry_marks k ys ++ ms)
+entry_marks_append k xs ys ms = ap (λ bs. bs ++ ms) (entry_marks-append k xs ys) ∙ append_assoc (entry_marks k xs) (entry_marks k ys) ms
 
-joined : (k : Program) (xs ys : List Entry) {bs : List Bool} (ms : List Bool) → Sub bs (entry_marks k xs ++ (entry_marks k ys ++ ms)) → Sub bs (entry_marks k (xs ++ ys) ++ ms)
-joined k xs ys {bs = bs} ms h = subst (Sub bs) (sym (cut k xs ys ms)) h
+entry_marks_append_sub : (k : Program) (xs ys : List Entry) {bs : List Bool} (ms : List Bool) → Sub bs (entry_marks k xs ++ (entry_marks k ys ++ ms)) → Sub bs (entry_marks k (xs ++ ys) ++ ms)
+entry_marks_append_sub k xs ys {bs = bs} ms h = subst (Sub bs) (sym (entry_marks_append k xs ys ms)) h
 
 module _ (k : Program) where
   load_sub : (scope : Scope) (mask : Option ℕ) (q : ℕ) (env : List Bound) (a : List ℕ) (o : Option ℤ) (gathered rest : List Item) (inner : List Entry) (ms : List Bool) → Sub (marks rest) ms → Sub (marks gathered) (entry_marks k inner ++ (false ∷ ms)) → Sub (marks (load_item scope mask q env a o gathered rest)) (entry_marks k (inner_entries o inner) ++ (put_mark (is_none o) false [] ++ ms))
@@ -163,47 +163,47 @@ module _ (k : Program) where
         let last : Entry = entry k item' (IsRead a i) u in
         let gathered : List Item = term_items scope (index_type scope i) mask from env i (gather_item scope mask from p env a i ∷ rest) in
         subst (λ (o : Option ℤ). Sub (marks (load_item scope mask p env a o gathered rest)) (entry_marks k (inner_entries (stream_offset (loop_index k) i) inner ++ last ∷ []) ++ ms)) (sym (ap (λ (j : Option (List ℕ)). stream_offset j i) q))
-        (joined k (inner_entries (stream_offset (loop_index k) i) inner) (last ∷ []) _
+        (entry_marks_append_sub k (inner_entries (stream_offset (loop_index k) i) inner) (last ∷ []) _
         (load_sub scope mask p env a (stream_offset (loop_index k) i) gathered rest inner ms h ((term_sub i).as_value scope (index_type scope i) mask from g item' env (gather_item scope mask from p env a i ∷ rest) (false ∷ ms) q (sub_keep false h))));
     as_cond = λ scope mask from g u env rest ms q h. skip_all (entry_marks k (term_entries k g u (Element a i))) h;
   }
   term_sub (Unary op e) = record {
-    as_value = λ scope want mask from g u env rest ms q h. joined k (term_entries k g _ e) _ _ ((term_sub e).as_value scope want mask from g _ env _ ms q h);
+    as_value = λ scope want mask from g u env rest ms q h. entry_marks_append_sub k (term_entries k g _ e) _ _ ((term_sub e).as_value scope want mask from g _ env _ ms q h);
     as_cond = λ scope mask from g u env rest ms q h. skip_all (entry_marks k (term_entries k g u (Unary op e))) h;
   }
   term_sub (Operation op x y) = record {
-    as_value = λ scope want mask from g u env rest ms q h. joined k (term_entries k g _ x) _ _ ((term_sub x).as_value scope want mask from g _ env _ _ q (joined k (term_entries k _ _ y) _ _ ((term_sub y).as_value scope want mask _ _ _ env _ ms q h)));
+    as_value = λ scope want mask from g u env rest ms q h. entry_marks_append_sub k (term_entries k g _ x) _ _ ((term_sub x).as_value scope want mask from g _ env _ _ q (entry_marks_append_sub k (term_entries k _ _ y) _ _ ((term_sub y).as_value scope want mask _ _ _ env _ ms q h)));
     as_cond = λ scope mask from g u env rest ms q h. skip_all (entry_marks k (term_entries k g u (Operation op x y))) h;
   }
   term_sub (Shift toward e n) = record {
-    as_value = λ scope want mask from g u env rest ms q h. joined k (term_entries k g _ e) _ _ ((term_sub e).as_value scope want mask from g _ env _ ms q h);
+    as_value = λ scope want mask from g u env rest ms q h. entry_marks_append_sub k (term_entries k g _ e) _ _ ((term_sub e).as_value scope want mask from g _ env _ ms q h);
     as_cond = λ scope mask from g u env rest ms q h. skip_all (entry_marks k (term_entries k g u (Shift toward e n))) h;
   }
   term_sub (Conversion e t) = record {
-    as_value = λ scope want mask from g u env rest ms q h. joined k (term_entries k g _ e) _ _ ((term_sub e).as_value scope (own scope e) mask from g _ env _ ms q h);
+    as_value = λ scope want mask from g u env rest ms q h. entry_marks_append_sub k (term_entries k g _ e) _ _ ((term_sub e).as_value scope (own scope e) mask from g _ env _ ms q h);
     as_cond = λ scope mask from g u env rest ms q h. skip_all (entry_marks k (term_entries k g u (Conversion e t))) h;
   }
   term_sub (Choice c x y) = record {
     as_value = λ scope want mask from g u env rest ms q h.
-        joined k (term_entries k g _ x) _ _
-        ((term_sub x).as_value scope want mask from g _ env _ _ q (joined k (term_entries k _ _ y) _ _ ((term_sub y).as_value scope want mask _ _ _ env _ _ q (joined k (term_entries k _ _ c) _ _ ((term_sub c).as_cond scope mask _ _ _ env _ ms q h)))));
+        entry_marks_append_sub k (term_entries k g _ x) _ _
+        ((term_sub x).as_value scope want mask from g _ env _ _ q (entry_marks_append_sub k (term_entries k _ _ y) _ _ ((term_sub y).as_value scope want mask _ _ _ env _ _ q (entry_marks_append_sub k (term_entries k _ _ c) _ _ ((term_sub c).as_cond scope mask _ _ _ env _ ms q h)))));
     as_cond = λ scope mask from g u env rest ms q h. skip_all (entry_marks k (term_entries k g u (Choice c x y))) h;
   }
   term_sub (Comparison op x y) = record {
     as_value = λ scope want mask from g u env rest ms q h. skip_all (entry_marks k (term_entries k g u (Comparison op x y))) h;
-    as_cond = λ scope mask from g u env rest ms q h. joined k (term_entries k g _ x) _ _ ((term_sub x).as_value scope (side_type scope x y) mask from g _ env _ _ q (joined k (term_entries k _ _ y) _ _ ((term_sub y).as_value scope (side_type scope x y) mask _ _ _ env _ ms q h)));
+    as_cond = λ scope mask from g u env rest ms q h. entry_marks_append_sub k (term_entries k g _ x) _ _ ((term_sub x).as_value scope (side_type scope x y) mask from g _ env _ _ q (entry_marks_append_sub k (term_entries k _ _ y) _ _ ((term_sub y).as_value scope (side_type scope x y) mask _ _ _ env _ ms q h)));
   }
   term_sub (Both x y) = record {
     as_value = λ scope want mask from g u env rest ms q h. skip_all (entry_marks k (term_entries k g u (Both x y))) h;
-    as_cond = λ scope mask from g u env rest ms q h. joined k (term_entries k g _ x) _ _ ((term_sub x).as_cond scope mask from g _ env _ _ q (joined k (term_entries k _ _ y) _ _ ((term_sub y).as_cond scope (Some (truth_home scope.index from x)) _ _ _ env _ ms q h)));
+    as_cond = λ scope mask from g u env rest ms q h. entry_marks_append_sub k (term_entries k g _ x) _ _ ((term_sub x).as_cond scope mask from g _ env _ _ q (entry_marks_append_sub k (term_entries k _ _ y) _ _ ((term_sub y).as_cond scope (Some (truth_home scope.index from x)) _ _ _ env _ ms q h)));
   }
   term_sub (Either x y) = record {
     as_value = λ scope want mask from g u env rest ms q h. skip_all (entry_marks k (term_entries k g u (Either x y))) h;
-    as_cond = λ scope mask from g u env rest ms q h. joined k (term_entries k g _ x) _ _ ((term_sub x).as_cond scope mask from g _ env _ _ q (joined k (term_entries k _ _ y) _ _ ((term_sub y).as_cond scope (Some (from + term_size scope.index x)) _ _ _ env _ ms q h)));
+    as_cond = λ scope mask from g u env rest ms q h. entry_marks_append_sub k (term_entries k g _ x) _ _ ((term_sub x).as_cond scope mask from g _ env _ _ q (entry_marks_append_sub k (term_entries k _ _ y) _ _ ((term_sub y).as_cond scope (Some (from + term_size scope.index x)) _ _ _ env _ ms q h)));
   }
   term_sub (Not e) = record {
     as_value = λ scope want mask from g u env rest ms q h. skip_all (entry_marks k (term_entries k g u (Not e))) h;
-    as_cond = λ scope mask from g u env rest ms q h. joined k (term_entries k g _ e) _ _ ((term_sub e).as_cond scope mask from g _ env _ ms q h);
+    as_cond = λ scope mask from g u env rest ms q h. entry_marks_append_sub k (term_entries k g _ e) _ _ ((term_sub e).as_cond scope mask from g _ env _ ms q h);
   }
 
 store_sub : (scope : Scope) (mask : Option ℕ) (q : ℕ) (env : List Bound) (a : List ℕ) (o : Option ℤ) (v : Operand) (rest : List Item) (ms : List Bool) → Sub (marks rest) ms → Sub (marks (store_item scope mask q env a o v rest)) (false ∷ ms)
@@ -225,33 +225,33 @@ leave_sub k (Either x y) scope mask from g u env rest ms q some h =
     let item' = mark + 1 + term_size (loop_index k) y in
     let last : List Entry = entry k item' (IsPlain kind.Or) u ∷ [] in
     let later : List Entry = entry k mark (IsPlain kind.Mark) item' ∷ (term_entries k (mark + 1) item' y ++ last) in
-    joined k (term_entries k g item' x) later _
+    entry_marks_append_sub k (term_entries k g item' x) later _
     (leave_sub k x scope mask from g item' env _ (entry_marks k later ++ ms) q (break_later (entry_marks k later) ms some)
-    (joined k (term_entries k (mark + 1) item' y) last _ (break_sub k y scope mask _ (mark + 1) item' env rest ms q some h)))
+    (entry_marks_append_sub k (term_entries k (mark + 1) item' y) last _ (break_sub k y scope mask _ (mark + 1) item' env rest ms q some h)))
 leave_sub k c scope mask from g u env rest ms q some h = break_sub k c scope mask from g u env rest ms q some h
 
 mutual
   action_sub : (k : Program) (s : Action) (scope : Scope) (mask : Option ℕ) (from g : ℕ) (env : List Bound) (rest : List Item) (ms : List Bool) → scope.index ≡ loop_index k → Sub (marks rest) ms → Sub (marks (action_items scope mask from env s rest)) (entry_marks k (action_entries k g s) ++ ms)
-  action_sub k (Define x t e) scope mask from g env rest ms q h = joined k (term_entries k g _ e) _ _ ((term_sub k e).as_value scope (first t (own scope e)) mask from g _ env _ ms q h)
-  action_sub k (Put a i e) scope mask from g env rest ms q h = joined k (term_entries k g _ e) _ _ ((term_sub k e).as_value scope (array_type scope a) mask from g _ env _ (false ∷ ms) q (store_sub scope mask _ env a (stream_offset scope.index i) _ rest ms h))
-  action_sub k (Update x op e) scope mask from g env rest ms q h = joined k (term_entries k g _ e) _ _ ((term_sub k e).as_value scope (accumulator_of scope x) mask from g _ env _ (false ∷ ms) q (sub_keep false h))
+  action_sub k (Define x t e) scope mask from g env rest ms q h = entry_marks_append_sub k (term_entries k g _ e) _ _ ((term_sub k e).as_value scope (first t (own scope e)) mask from g _ env _ ms q h)
+  action_sub k (Put a i e) scope mask from g env rest ms q h = entry_marks_append_sub k (term_entries k g _ e) _ _ ((term_sub k e).as_value scope (array_type scope a) mask from g _ env _ (false ∷ ms) q (store_sub scope mask _ env a (stream_offset scope.index i) _ rest ms h))
+  action_sub k (Update x op e) scope mask from g env rest ms q h = entry_marks_append_sub k (term_entries k g _ e) _ _ ((term_sub k e).as_value scope (accumulator_of scope x) mask from g _ env _ (false ∷ ms) q (sub_keep false h))
   action_sub k (Choose c b d) scope mask from g env rest ms q h =
       let first = g + term_size (loop_index k) c in
       let following = first + 1 + block_size (loop_index k) b in
       let end = following + otherwise_size (loop_index k) d in
       let last : List Entry = otherwise_entries k following end d ++ entry k end (IsPlain kind.End) end ∷ [] in
-      joined k (term_entries k g following c) _ _
+      entry_marks_append_sub k (term_entries k g following c) _ _
       ((term_sub k c).as_cond scope mask from g following env _ (entry_marks k (block_entries k (first + 1) b ++ last) ++ ms) q
-      (joined k (block_entries k (first + 1) b) last _
+      (entry_marks_append_sub k (block_entries k (first + 1) b) last _
       (block_sub k b scope (Some (truth_home scope.index from c)) _ (first + 1) env _ (entry_marks k last ++ ms) q
-      (joined k (otherwise_entries k following end d) (entry k end (IsPlain kind.End) end ∷ []) _ (otherwise_sub k d (left scope (after_block scope b)) mask _ (truth_home scope.index from c) following end env rest ms q h)))))
-  action_sub k (Leave c) scope mask from g env rest ms q h = joined k (term_entries k g _ c) _ _ (leave_sub k c scope mask from g _ env rest (true ∷ ms) q refl (sub_skip true h))
+      (entry_marks_append_sub k (otherwise_entries k following end d) (entry k end (IsPlain kind.End) end ∷ []) _ (otherwise_sub k d (left scope (after_block scope b)) mask _ (truth_home scope.index from c) following end env rest ms q h)))))
+  action_sub k (Leave c) scope mask from g env rest ms q h = entry_marks_append_sub k (term_entries k g _ c) _ _ (leave_sub k c scope mask from g _ env rest (true ∷ ms) q refl (sub_skip true h))
 
   block_sub : (k : Program) (b : Block) (scope : Scope) (mask : Option ℕ) (from g : ℕ) (env : List Bound) (rest : List Item) (ms : List Bool) → scope.index ≡ loop_index k → Sub (marks rest) ms → Sub (marks (block_items scope mask from env b rest)) (entry_marks k (block_entries k g b) ++ ms)
   block_sub k Done scope mask from g env rest ms q h = h
   block_sub k (Then s b) scope mask from g env rest ms q h =
       let after = g + action_size (loop_index k) s in
-      joined k (action_entries k g s) (block_entries k after b) _ (action_sub k s scope mask from g env _ (entry_marks k (block_entries k after b) ++ ms) q (block_sub k b (after_action scope s) mask _ after (after_env scope from env s) rest ms (index_after scope s ∙ q) h))
+      entry_marks_append_sub k (action_entries k g s) (block_entries k after b) _ (action_sub k s scope mask from g env _ (entry_marks k (block_entries k after b) ++ ms) q (block_sub k b (after_action scope s) mask _ after (after_env scope from env s) rest ms (index_after scope s ∙ q) h))
 
   otherwise_sub : (k : Program) (d : Otherwise) (scope : Scope) (mask : Option ℕ) (from c g end : ℕ) (env : List Bound) (rest : List Item) (ms : List Bool) → scope.index ≡ loop_index k → Sub (marks rest) ms → Sub (marks (otherwise_items scope mask from c env d rest)) (entry_marks k (otherwise_entries k g end d) ++ ms)
   otherwise_sub k Nothing scope mask from c g end env rest ms q h = h

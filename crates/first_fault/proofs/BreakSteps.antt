@@ -10,6 +10,7 @@ use Rattle.guest_types.specs.Elements.{active, bit, predicate}
 use Rattle.guest_types.specs.Lanes.{broken, brk_at}
 use Rattle.guest_types.proofs.AtWidths.{width_bytes-lanes, bit-predicate}
 use Rattle.guest_types.proofs.Widths.{some-bytes}
+use Rattle.guest_types.proofs.Folds.{not_broken}
 use Rattle.machine_model.specs.Machine.{State, p_at, with_p, next}
 use Rattle.machine_model.proofs.StateSteps.{truths_put}
 use Rattle.label_fix.specs.DraftRun.{DraftEntry, Laid}
@@ -24,9 +25,9 @@ use Rattle.first_fault.specs.Region.{Way, Broke, way_of, item_way}
 use Rattle.first_fault.specs.RegionCode.{Mode, break_word}
 use Rattle.first_fault.specs.Prefix.{IsTop, Inside}
 use Rattle.first_fault.specs.RegionRuns.{by_break, RegionOutcome, comes}
-use Rattle.first_fault.proofs.PrefixBits.{inside, narrow, not_broken, is_broken, First, missing, found, first_is}
+use Rattle.first_fault.proofs.PrefixBits.{lane_bits_within, narrow, is_broken, First, missing, found, first_is}
 use Rattle.first_fault.proofs.Stretches.{word_leads}
-use Rattle.first_fault.proofs.PrefixSteps.{long, low, byte_made, length_is, few_all, top_is, inside_on}
+use Rattle.first_fault.proofs.PrefixSteps.{long, lane_byte_below_256, byte_made, length_is, few_all, top_is, inside_on}
 use Rattle.first_fault.proofs.PureSteps.{same_p, only_put}
 
 module _ {l : Layout} (fit : Assigned l) {f : Setting} {a : State} {p0 : ℕ} {t0 : Lanes} (h0 : Holds l f p0 t0 a) where
@@ -70,8 +71,8 @@ module _ {l : Layout} (fit : Assigned l) {f : Setting} {a : State} {p0 : ℕ} {t
         let count = few_all fit h0 h in
         ⊎_elim
         (λ em.
-        let up : w * e + w ≤ w * m = inside w m e em in
-        let below = low fit h0 e (omega (arith, en, count)) in
+        let up : w * e + w ≤ w * m = lane_bits_within w m e em in
+        let below = lane_byte_below_256 fit h0 e (omega (arith, en, count)) in
         ap not (not_broken (p_at s 0) (p_at s r) (w * e + 1) (λ b lt. bit_false m le pass b (omega (arith, lt, below)) (omega (arith, lt, up, some-bytes f.w)))) ∙ sym (lt-ltb e m em))
         (λ ge.
         let mn : m < n = omega (arith, ge, en) in
@@ -80,8 +81,8 @@ module _ {l : Layout} (fit : Assigned l) {f : Setting} {a : State} {p0 : ℕ} {t
         ap not (is_broken (p_at s 0) (p_at s r) (w * e + 1) (w * m) (omega (arith, up)) here) ∙ sym (le-ltb e m ge))
         (cases_lt e m)
 
-    cut : (m : ℕ) → m ≤ n → ((e : ℕ) → e < m → (ls (f.i + e)).truth c ≡ false) → (m < n → (ls (f.i + m)).truth c ≡ true) → RegionOutcome mode l f d a n (p + 1) 1 ls (puts (break_word l c ∷ []) rest) s rest way
-    cut m le pass out =
+    break_cuts_mask : (m : ℕ) → m ≤ n → ((e : ℕ) → e < m → (ls (f.i + e)).truth c ≡ false) → (m < n → (ls (f.i + m)).truth c ≡ true) → RegionOutcome mode l f d a n (p + 1) 1 ls (puts (break_word l c ∷ []) rest) s rest way
+    break_cuts_mask m le pass out =
         let bits = brk_at false (p_at s 0) (p_at s r) in
         let new = predicate 1 bits (lanes s.vl B) in
         let end = next (with_p s 0 new) in
@@ -108,5 +109,5 @@ module _ {l : Layout} (fit : Assigned l) {f : Setting} {a : State} {p0 : ℕ} {t
     break_steps = by_first (first_is (λ e. (ls (f.i + e)).truth c) n 0)
       where
         by_first : {o : Option ℕ} → First (λ e. (ls (f.i + e)).truth c) n 0 o → RegionOutcome mode l f d a n (p + 1) 1 ls (puts (break_word l c ∷ []) rest) s rest way
-        by_first (missing none) = cut n (omega arith) (λ e em. none e (omega arith) (omega (arith, em))) (λ lt. absurd (omega (arith, lt)))
-        by_first (found v lo hi yes' none) = cut v (omega (arith, hi)) (λ e ev. none e (omega arith) ev) (λ lt. yes')
+        by_first (missing none) = break_cuts_mask n (omega arith) (λ e em. none e (omega arith) (omega (arith, em))) (λ lt. absurd (omega (arith, lt)))
+        by_first (found v lo hi yes' none) = break_cuts_mask v (omega (arith, hi)) (λ e ev. none e (omega arith) ev) (λ lt. yes')

@@ -42,7 +42,7 @@ use Rattle.first_fault.specs.SuppressedLanes.{Suppresses}
 use Rattle.first_fault.specs.RegionRuns.{Why, by_fault, by_stop, RegionOutcome, stops, comes}
 use Rattle.first_fault.proofs.PrefixBits.{scaled, narrow, First, missing, found, first_is}
 use Rattle.first_fault.proofs.Stretches.{Pair, pair, suppressed_here}
-use Rattle.first_fault.proofs.PrefixSteps.{prefix, low, length_is, few_all}
+use Rattle.first_fault.proofs.PrefixSteps.{prefix, lane_byte_below_256, length_is, few_all}
 use Rattle.first_fault.proofs.BreakSteps.{byte_and}
 use Rattle.first_fault.proofs.ReadLanes as reads
 use Rattle.first_fault.proofs.SingleReads.{read_inside, spot, spot_is}
@@ -61,7 +61,7 @@ first_here : (test : ℕ → Bool) (n : ℕ) → 0 < n → test 0 ≡ true → f
 first_here test zero some yes' = absurd (omega (arith, some))
 first_here test (suc n) some yes' = ap (λ b. if b then Some 0 else first_true test n (0 + 1)) yes'
 
-is_none : (o : Option ℕ) → is_some o ≡ false → o ≡ None
+pub is_none : (o : Option ℕ) → is_some o ≡ false → o ≡ None
 is_none None h = refl
 is_none (Some z) h = absurd cc
 
@@ -144,23 +144,23 @@ module _ {l : Layout} (fit : Assigned l) {f : Setting} {a : State} {p0 : ℕ} {t
     two_words : (i : VectorInstruction) (o : Option ℕ) → do_vector i u ≡ Went (loaded_state o) → cuts_in (Vector i) u ≡ is_cut faults o → TwoWords i o
     two_words i o does is = pair d (Vector i) read_faults rest u (loaded_state o) (narrowed_state o) (is_cut faults o) does is refl refl
 
-    counted : (i : VectorInstruction) (o : Option ℕ) (w : TwoWords i o) → is_cut faults o ≡ true → 0 < w.leads.cut
-    counted i o w yes' = let one : w.leads.cut ≡ 1 = w.is ∙ ap (λ b. cond b 1 0) yes' in omega (arith, one)
+    leads_cut_once : (i : VectorInstruction) (o : Option ℕ) (w : TwoWords i o) → is_cut faults o ≡ true → 0 < w.leads.cut
+    leads_cut_once i o w yes' = let one : w.leads.cut ≡ 1 = w.is ∙ ap (λ b. cond b 1 0) yes' in omega (arith, one)
 
     abbrev Result : VectorInstruction → Type 0
     Result i = RegionOutcome Early l f d a n (p + 1) 2 ls (puts (Vector i ∷ read_faults ∷ []) rest) u rest way
 
     outcome_none : (i : VectorInstruction) → do_vector i u ≡ Went (loaded_state None) → cuts_in (Vector i) u ≡ false → IsState (loaded_state None) → ((e : ℕ) → e < n → (on e && faults e) ≡ false) → Result i
     outcome_none i does is state none =
-        comes n new (narrowed_state None) (omega arith) (λ e en. reads.passes fit h0 p ls mask array x ty c wide h exact place place_is e en (none e en)) (two_words i None does is).leads (λ lt. absurd (omega (arith, lt)))
+        comes n new (narrowed_state None) (omega arith) (λ e en. reads.read_passes_lane fit h0 p ls mask array x ty c wide h exact place place_is e en (none e en)) (two_words i None does is).leads (λ lt. absurd (omega (arith, lt)))
         (after_read None n (omega arith) state (λ e en. h.ffr refl e en ∙ sym (lt-ltb e n en)))
 
     -- lane v is suppressed
     outcome_some : (i : VectorInstruction) (v : ℕ) → v < n → on v ≡ true → do_vector i u ≡ Went (loaded_state (Some v)) → cuts_in (Vector i) u ≡ not (faults v) → IsState (loaded_state (Some v)) → (faults v ≡ false → Suppresses f.w i u v) → ((e : ℕ) → e < v → (on e && faults e) ≡ false) → Result i
     outcome_some i v vn yes' does is state cuts none =
-        comes v new (narrowed_state (Some v)) (omega (arith, vn)) (λ e ev. reads.passes fit h0 p ls mask array x ty c wide h exact place place_is e (omega (arith, ev, vn)) (none e ev)) (two_words i (Some v) does is).leads (λ lt. why (faults v) refl)
+        comes v new (narrowed_state (Some v)) (omega (arith, vn)) (λ e ev. reads.read_passes_lane fit h0 p ls mask array x ty c wide h exact place place_is e (omega (arith, ev, vn)) (none e ev)) (two_words i (Some v) does is).leads (λ lt. why (faults v) refl)
         (after_read (Some v) v (omega (arith, vn)) state (λ e en.
-        bit-bits_of (kept_bit u.ffr (width_bytes form.element * v)) 32 (width_bytes f.w * e) (low fit h0 e (omega (arith, en, few_all fit h0 h)))
+        bit-bits_of (kept_bit u.ffr (width_bytes form.element * v)) 32 (width_bytes f.w * e) (lane_byte_below_256 fit h0 e (omega (arith, en, few_all fit h0 h)))
         ∙ ap (λ w. bit u.ffr (width_bytes f.w * e) && ltb (width_bytes f.w * e) (width_bytes w * v)) element_is
         ∙ ap₂ (λ a b. a && b) (h.ffr refl e en) (scaled (width_bytes f.w) e v (some-bytes f.w))))
       where
@@ -168,7 +168,7 @@ module _ {l : Layout} (fit : Assigned l) {f : Setting} {a : State} {p0 : ℕ} {t
         why true eq = by_fault refl (reads.falls fit h0 p ls mask array x ty c wide h exact place place_is v vn (ap₂ (λ a b. a && b) yes' eq))
         why false eq =
             let both = two_words i (Some v) does is in
-            by_stop refl (counted i (Some v) both (ap not eq)) (suppressed_here f.w d i (puts (read_faults ∷ []) rest) rest u (narrowed_state (Some v)) (is_cut faults (Some v)) v both (cuts eq))
+            by_stop refl (leads_cut_once i (Some v) both (ap not eq)) (suppressed_here f.w d i (puts (read_faults ∷ []) rest) rest u (narrowed_state (Some v)) (is_cut faults (Some v)) v both (cuts eq))
 
 -- ---- under a mask: a load that never faults
 
@@ -201,19 +201,19 @@ module _ {l : Layout} (fit : Assigned l) {f : Setting} {a : State} {p0 : ℕ} {t
     abbrev code : VectorInstruction
     code = non_fault_word f.w ty (z_of l p) m
 
-    does : do_vector code u ≡ Went (following (first_true off (lanes u.vl shape.element) 0))
-    does = refl
+    early_load_does : do_vector code u ≡ Went (following (first_true off (lanes u.vl shape.element) 0))
+    early_load_does = refl
 
     is_following : (o : Option ℕ) → do_vector code u ≡ Went (following o) → IsState (following o)
     is_following o e = let small : 0 < 16 = omega arith in went_keeps ldnf1 (field_of ldnf1 code.numbers) u (following o) small h.is e
 
     by : (o : Option ℕ) → first_true off (lanes u.vl shape.element) 0 ≡ o → First off (lanes u.vl shape.element) 0 o → Ends code
     by o eq (missing none) =
-        let went : do_vector code u ≡ Went (following None) = does ∙ ap (λ o. Went (following o)) eq in
+        let went : do_vector code u ≡ Went (following None) = early_load_does ∙ ap (λ o. Went (following o)) eq in
         outcome_none fit h0 p ls mask array x ty c wide makes used d rest h exact places place_is lane_on code went (ap (is_cut bad) eq) (is_following None went)
         (λ e en. no_fault (lane_on e) (bad e) (stop_at u.stops (rank lane_on e)) (none e (omega arith) (omega (arith, reads.in_count fit h0 p ls mask array x ty c wide h exact places place_is e en))))
     by o eq (found v lo hi yes' none) =
-        let went : do_vector code u ≡ Went (following (Some v)) = does ∙ ap (λ o. Went (following o)) eq in
+        let went : do_vector code u ≡ Went (following (Some v)) = early_load_does ∙ ap (λ o. Went (following o)) eq in
         let on_v = (and_parts (lane_on v) (bad v || stop_at u.stops (rank lane_on v)) yes').0 in
         outcome_some fit h0 p ls mask array x ty c wide makes used d rest h exact places place_is lane_on code v (reads.below fit h0 p ls mask array x ty c wide h exact places place_is v (omega (arith, hi)) on_v) on_v went (ap (is_cut bad) eq) (is_following (Some v) went)
         (λ reads_v. record { width = (reads.is fit h0 p ls mask array x ty c wide h exact places place_is).element; free = ap (is_cut bad) eq ∙ ap not reads_v; first = eq })

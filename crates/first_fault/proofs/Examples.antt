@@ -79,9 +79,9 @@ single = refl
 
 -- b[i + 1] of u16, b in X1, where the condition in P2 holds:
 -- and p2.b, p0/z, p2.b, p2.b; add x26, x9, #1; add x26, x1, x26, lsl #1; ldnf1h {z1.h}, p2/z, [x26]; rdffr p0.b, p0/z
-masked : region_words Early H layout (item 7 (Some 5) (ops.Load (98 ∷ []) (Outer 1) (Some ty.U16) (pos 1)) ∷ [])
+region_of_masked_load : region_words Early H layout (item 7 (Some 5) (ops.Load (98 ∷ []) (Outer 1) (Some ty.U16) (pos 1)) ∷ [])
     ≡ Vector (word p_and (2 ∷ 2 ∷ 0 ∷ 2 ∷ [])) ∷ Scalar (record { name = a64.add_imm; numbers = 26 ∷ 9 ∷ 1 ∷ 0 ∷ [] }) ∷ Scalar (record { name = a64.add; numbers = 26 ∷ 1 ∷ 1 ∷ 26 ∷ 0 ∷ [] }) ∷ Vector (word ldnf1 (1 ∷ 26 ∷ 2 ∷ 5 ∷ [])) ∷ Vector (word rdffr_z (0 ∷ 0 ∷ [])) ∷ []
-masked = refl
+region_of_masked_load = refl
 
 -- and p2.b, p0/z, p2.b, p2.b; add x26, x9, #1; ld1h {z1.h}, p2/z, [x1, x26, lsl #1]
 masked_single : region_words Single H layout (item 7 (Some 5) (ops.Load (98 ∷ []) (Outer 1) (Some ty.U16) (pos 1)) ∷ [])
@@ -110,8 +110,8 @@ goes (On l) = true
 goes Broke = false
 goes Fell = false
 
-goes_on : goes (region_way [] at_twenty 19 [] fresh) ≡ true
-goes_on = refl
+example_goes_on : goes (region_way [] at_twenty 19 [] fresh) ≡ true
+example_goes_on = refl
 
 -- ---- the split
 

@@ -6,7 +6,7 @@ mod PureSteps
 mod BreakSteps
 mod ReadLanes
 mod SingleReads
-mod EarlyReads
+pub mod EarlyReads
 mod SuppressedLanes
 mod OutcomeLists
 pub mod RegionRuns

@@ -8,7 +8,7 @@ use Rattle.guest_types.specs.Length.{width_bits}
 use Rattle.guest_types.specs.Elements.{active}
 use Rattle.guest_types.specs.LaneMemory.{lane_address}
 use Rattle.kernel_tree.specs.declared.ops.Ty.{Ty}
-use Rattle.kernel_tree.specs.Wrap.{wrap, bits_of}
+use Rattle.kernel_tree.specs.Wrap.{wrap, bits_of, log_bytes}
 use Rattle.kernel_meaning.specs.Operators.{word, unary_value, binary_value, shift_value, compare_on}
 use Rattle.kernel_meaning.specs.Eval.{choose_value}
 use Rattle.machine_model.specs.Machine.{State, x_at, p_at}
@@ -22,7 +22,7 @@ use Rattle.vector_order.specs.Operands.{nth_value, operand_value, on_mask}
 use Rattle.lane_emit.specs.Right.{PRight, within}
 use Rattle.lane_emit.specs.ItemCode.{mask_of, mask_register}
 use Rattle.chunk_emit.specs.Registers.{Layout, IsValueUsed}
-use Rattle.chunk_emit.specs.ChunkCode.{with_index, index_of, memory_size, puts}
+use Rattle.chunk_emit.specs.ChunkCode.{with_index, index_of, puts}
 use Rattle.chunk_emit.specs.Chunk.{Setting, count_of, Holds}
 use Rattle.chunk_emit.specs.Fits.{Assigned, FitsMask, IsNear, MakesValue, following_items}
 use Rattle.chunk_emit.proofs.Indexes.{scratched, lane_place}
@@ -109,7 +109,7 @@ module _ {l : Layout} (fit : Assigned l) {f : Setting} {a : State} {p0 : ℕ} {t
       following_index n p ls mask array x ty c low based near wide used makes Single fm h (λ u inside exact at_index. single_reads fit h0 p ls mask array x ty c wide makes used d rest inside exact low based (index_of c) at_index)
   read_steps Early {n = n} {p = p} {ls = ls} (Some q) array x ty c low based near wide used makes fm h =
       following_index n p ls (Some q) array x ty c low based near wide used makes Early fm h (λ u inside exact at_index.
-      let v = (x_at u x + x_at u (index_of c) * 2 ^ memory_size ty % 2 ^ 64) % 2 ^ 64 in
+      let v = (x_at u x + x_at u (index_of c) * 2 ^ log_bytes ty % 2 ^ 64) % 2 ^ 64 in
       let scratch : x_at (scratched u v) 26 ≡ v = get_or-set_same u.x 26 v 0 (omega (arith, inside.is.x_count)) in
       let base_x : x_at u x ≡ word (nth_value f.names x) = x_is fit h0 inside x (λ e. absurd (omega (arith, low, e))) ∙ based in
       outcome_following 3 refl (word_leads false refl refl)

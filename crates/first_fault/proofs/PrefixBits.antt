@@ -8,17 +8,17 @@ use Rattle.guest_types.specs.Length.{width_bytes}
 use Rattle.guest_types.specs.Elements.{bit, element_bit, active, predicate, first_true}
 use Rattle.guest_types.specs.Lanes.{broken}
 use Rattle.guest_types.proofs.Predicates.{bit-bits_of}
-use Rattle.guest_types.proofs.Folds.{broken-none, broken-more}
+use Rattle.guest_types.proofs.Folds.{broken-more}
 use Rattle.guest_types.proofs.Widths.{some-bytes}
 use Rattle.first_fault.specs.Prefix.{IsTop}
 
-pub inside : (k n e : ℕ) → e < n → k * e + k ≤ k * n
-inside k n e lt = let u : suc e ≤ n = lt in omega (arith, mul-suc k e, mul-le-mul_left k u)
+pub lane_bits_within : (k n e : ℕ) → e < n → k * e + k ≤ k * n
+lane_bits_within k n e lt = let u : suc e ≤ n = lt in omega (arith, mul-suc k e, mul-le-mul_left k u)
 
 pub scaled : (k e m : ℕ) → 0 < k → ltb (k * e) (k * m) ≡ ltb e m
 scaled k e m some =
     ⊎_elim
-    (λ lt. let up : k * e + k ≤ k * m = inside k m e lt in lt-ltb (k * e) (k * m) (omega (arith, up, some)) ∙ sym (lt-ltb e m lt))
+    (λ lt. let up : k * e + k ≤ k * m = lane_bits_within k m e lt in lt-ltb (k * e) (k * m) (omega (arith, up, some)) ∙ sym (lt-ltb e m lt))
     (λ ge. let up : k * m ≤ k * e = mul-le-mul_left k ge in le-ltb (k * e) (k * m) up ∙ sym (le-ltb e m ge))
     (cases_lt e m)
 
@@ -49,10 +49,6 @@ narrow k old new m n x some top le h bits j lt =
     (cases_eq (j % k) 0)
 
 -- ---- BRKB
-
-pub not_broken : (pg p : List ℕ) (n : ℕ) → ((b : ℕ) → b < n → (bit pg b && bit p b) ≡ false) → broken pg p n ≡ false
-not_broken pg p zero h = broken-none pg p
-not_broken pg p (suc n) h = ap (broken pg p) (sym (add-one n)) ∙ broken-more pg p n ∙ ap₂ (λ a b. a || b) (not_broken pg p n (λ b lt. h b (omega (arith, lt)))) (h n (omega arith))
 
 pub is_broken : (pg p : List ℕ) (n b : ℕ) → b < n → (bit pg b && bit p b) ≡ true → broken pg p n ≡ true
 is_broken pg p zero b lt h = absurd (omega (arith, lt))

@@ -25,7 +25,7 @@ use Rattle.chunk_emit.specs.Chunk.{Setting, chunk_of, count_of, ValueRight, Hold
 use Rattle.chunk_emit.specs.Fits.{Assigned, FitsOperand, NoneBetween}
 use Rattle.first_fault.specs.RegionCode.{Mode, Early}
 use Rattle.first_fault.specs.Prefix.{IsTop, with_count, lanes_of, Same, Inside}
-use Rattle.first_fault.proofs.PrefixBits.{inside, top_active}
+use Rattle.first_fault.proofs.PrefixBits.{lane_bits_within, top_active}
 
 pub same_then : {l : Layout} {a s v : State} → Same l a s → Same l s v → Same l a v
 same_then h k = record {
@@ -59,11 +59,11 @@ module _ {l : Layout} (fit : Assigned l) {f : Setting} {a : State} {p0 : ℕ} {t
   long = subst IsLength h0.vl h0.is.sized
 
   -- the first bit of an element
-  pub low : (e : ℕ) → e < count_of f → width_bytes f.w * e < 256
-  low e lt = lane-inside f.w e (all_lanes f.w) (omega (arith, lt, (lanes-bound f.vl f.w long).1)) (omega (arith, whole-register f.w))
+  pub lane_byte_below_256 : (e : ℕ) → e < count_of f → width_bytes f.w * e < 256
+  lane_byte_below_256 e lt = lane-inside f.w e (all_lanes f.w) (omega (arith, lt, (lanes-bound f.vl f.w long).1)) (omega (arith, whole-register f.w))
 
   pub in_bytes : (e : ℕ) → e < count_of f → width_bytes f.w * e < lanes f.vl B
-  in_bytes e lt = omega (arith, inside (width_bytes f.w) (count_of f) e lt, width_bytes-lanes f.vl f.w long, width_bytes-lanes f.vl B long, some-bytes f.w)
+  in_bytes e lt = omega (arith, lane_bits_within (width_bytes f.w) (count_of f) e lt, width_bytes-lanes f.vl f.w long, width_bytes-lanes f.vl B long, some-bytes f.w)
 
   -- a predicate made byte by byte
   pub byte_made : (h : ℕ → Bool) (j : ℕ) → j < lanes f.vl B → bit (predicate 1 h (lanes f.vl B)) j ≡ h j
@@ -77,7 +77,7 @@ module _ {l : Layout} (fit : Assigned l) {f : Setting} {a : State} {p0 : ℕ} {t
     few_all = omega (arith, h.few, h0.few)
 
     pub top_is : (e : ℕ) → e < count_of f → active f.w (p_at s 0) e ≡ ltb e n
-    top_is e lt = top_active f.w n (p_at s 0) h.top e (low e lt)
+    top_is e lt = top_active f.w n (p_at s 0) h.top e (lane_byte_below_256 e lt)
 
     pub inside_on : {k : ℕ} {new : ℕ → Lane} {v : State} → k ≤ n → PrefixStep mode l f a p ls s k new v → Inside mode l f a k (p + 1) new v
     inside_on {k = k} {new = new} {v = v} le m = record {

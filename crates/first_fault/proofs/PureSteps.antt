@@ -10,6 +10,7 @@ use Rattle.guest_types.specs.Length.{width_bits, width_bytes, lanes}
 use Rattle.guest_types.specs.Memory.{Memory}
 use Rattle.guest_types.specs.Elements.{active, bit, predicate}
 use Rattle.guest_types.specs.Lanes.{logic_at}
+use Rattle.guest_types.proofs.Predicates.{and_twice}
 use Rattle.kernel_tree.specs.declared.ops.Ty.{Ty}
 use Rattle.kernel_tree.specs.Wrap.{residue}
 use Rattle.machine_model.specs.InstructionTable.{Listed}
@@ -39,11 +40,6 @@ use Rattle.first_fault.specs.RegionRuns.{RegionOutcome, comes}
 use Rattle.first_fault.proofs.Stretches.{rest_at, word_leads, follow, words_lead}
 use Rattle.first_fault.proofs.PlainCode.{op_plain}
 use Rattle.first_fault.proofs.PrefixSteps.{same_then, prefix, in_bytes, byte_made, length_is, few_all, top_is, inside_on, ready}
-
-and_twice : (a b : Bool) → (a && (b && b)) ≡ (a && b)
-and_twice true true = refl
-and_twice true false = refl
-and_twice false b = refl
 
 -- only a vector register changes
 pub same_z : {l : Layout} (fit : Assigned l) {p : ℕ} {s v : State} → IsValueUsed l p → OnlyZ (z_of l p) s v → Same l s v

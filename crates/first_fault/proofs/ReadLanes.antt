@@ -12,9 +12,9 @@ use Rattle.guest_types.proofs.Stores.{number_at-below}
 use Rattle.guest_types.proofs.AtWidths.{at-register}
 use Rattle.kernel_tree.specs.declared.ops.Ty.{Ty}
 use Rattle.kernel_tree.specs.declared.ops.Ty.TheVariants as ty
-use Rattle.kernel_tree.specs.Wrap.{bits_of}
+use Rattle.kernel_tree.specs.Wrap.{bits_of, byte_count, log_bytes}
 use Rattle.kernel_meaning.specs.Operators.{word}
-use Rattle.kernel_meaning.specs.Eval.{address, byte_count, read_value}
+use Rattle.kernel_meaning.specs.Eval.{address, read_value}
 use Rattle.kernel_meaning.proofs.Residues.{word-add}
 use Rattle.machine_model.specs.InstructionTable.{Listed}
 use Rattle.machine_model.specs.Machine.{State, x_at, p_at}
@@ -30,7 +30,7 @@ use Rattle.lane_emit.specs.Right.{IsOf, PRight, within}
 use Rattle.lane_emit.specs.ItemCode.{mask_of, mask_register}
 use Rattle.lane_emit.proofs.Residues.{held}
 use Rattle.chunk_emit.specs.Registers.{Layout}
-use Rattle.chunk_emit.specs.ChunkCode.{with_index, index_of, dtype_of, memory_size, puts}
+use Rattle.chunk_emit.specs.ChunkCode.{with_index, index_of, dtype_of, puts}
 use Rattle.chunk_emit.specs.Chunk.{Setting, count_of, Holds}
 use Rattle.chunk_emit.specs.Fits.{Assigned, IsNear}
 use Rattle.chunk_emit.proofs.Indexes.{scratched}
@@ -124,7 +124,7 @@ module _ {l : Layout} (fit : Assigned l) {f : Setting} {a : State} {p0 : ℕ} {t
       }
 
 -- the address of the first lane in one register
-pub from_address : (t : Ty) (b r e : ℕ) → lane_address ((b + r * 2 ^ memory_size t % 2 ^ 64) % 2 ^ 64) 0 (byte_count t) e ≡ lane_address b r (byte_count t) e
+pub from_address : (t : Ty) (b r e : ℕ) → lane_address ((b + r * 2 ^ log_bytes t % 2 ^ 64) % 2 ^ 64) 0 (byte_count t) e ≡ lane_address b r (byte_count t) e
 from_address ty.I8 b r e = omega arith
 from_address other b r e = omega arith
 
@@ -174,17 +174,17 @@ module _ {l : Layout} (fit : Assigned l) {f : Setting} {a : State} {p0 : ℕ} {t
     abbrev pub count : ℕ
     count = lanes u.vl form.element
 
-    pub count_is : count ≡ count_of f
-    count_is = ap₂ lanes (length_is fit h0 h) is.element
+    pub read_count : count ≡ count_of f
+    read_count = ap₂ lanes (length_is fit h0 h) is.element
 
     pub in_count : (e : ℕ) → e < n → e < count
-    in_count e lt = omega (arith, lt, few_all fit h0 h, count_is)
+    in_count e lt = omega (arith, lt, few_all fit h0 h, read_count)
 
     pub on_in : (e : ℕ) → e < n → on e ≡ on_mask mask (ls (f.i + e))
     on_in e lt = ap (λ w. active w (p_at u m) e) is.element ∙ exact e (omega (arith, lt, few_all fit h0 h)) ∙ ap (λ b. b && on_mask mask (ls (f.i + e))) (lt-ltb e n lt)
 
     pub on_out : (e : ℕ) → n ≤ e → e < count → on e ≡ false
-    on_out e le lt = ap (λ w. active w (p_at u m) e) is.element ∙ exact e (omega (arith, lt, count_is)) ∙ ap (λ b. b && on_mask mask (ls (f.i + e))) (le-ltb e n le)
+    on_out e le lt = ap (λ w. active w (p_at u m) e) is.element ∙ exact e (omega (arith, lt, read_count)) ∙ ap (λ b. b && on_mask mask (ls (f.i + e))) (le-ltb e n le)
 
     pub below : (v : ℕ) → v < count → on v ≡ true → v < n
     below v lt yes' = ⊎_elim (λ vn. vn) (λ ge. absurd (true_false (on v) yes' (on_out v ge lt))) (cases_lt v n)
@@ -192,8 +192,8 @@ module _ {l : Layout} (fit : Assigned l) {f : Setting} {a : State} {p0 : ℕ} {t
     fault_is : (e : ℕ) → lane_fault form u.memory spot e ≡ fault (f.i + e)
     fault_is e = ap (λ mem. first_fault (can_read mem) (spot e) (width_bytes form.memory)) h.same.memory ∙ ap₂ (first_fault (can_read a.memory)) (spot_is e) is.memory
 
-    number_is : (e : ℕ) → number_at u.memory (spot e) (width_bytes form.memory) ≡ number (f.i + e)
-    number_is e = ap (λ mem. number_at mem (spot e) (width_bytes form.memory)) h.same.memory ∙ ap₂ (number_at a.memory) (spot_is e) is.memory
+    read_number : (e : ℕ) → number_at u.memory (spot e) (width_bytes form.memory) ≡ number (f.i + e)
+    read_number e = ap (λ mem. number_at mem (spot e) (width_bytes form.memory)) h.same.memory ∙ ap₂ (number_at a.memory) (spot_is e) is.memory
 
     number_low : (e : ℕ) → number (f.i + e) < 2 ^ bits_of ty
     number_low e = subst (λ k. number (f.i + e) < k) (bytes_power ty) (number_at-below a.memory (place (f.i + e)) (byte_count ty) h0.is.mapped)
@@ -201,8 +201,8 @@ module _ {l : Layout} (fit : Assigned l) {f : Setting} {a : State} {p0 : ℕ} {t
     test_is : (e : ℕ) → e < n → (on_mask mask (ls (f.i + e)) && is_some (fault (f.i + e))) ≡ (on e && faults e)
     test_is e lt = ap₂ (λ b o. b && is_some o) (sym (on_in e lt)) (sym (fault_is e))
 
-    pub passes : (e : ℕ) → e < n → (on e && faults e) ≡ false → way (f.i + e) (ls (f.i + e)) ≡ On (new (f.i + e))
-    passes e lt no' = way_is (f.i + e) (ls (f.i + e)) ∙ ap (λ b. way_of Fell (if b then Halts else Keeps (new (f.i + e)))) (test_is e lt ∙ no')
+    pub read_passes_lane : (e : ℕ) → e < n → (on e && faults e) ≡ false → way (f.i + e) (ls (f.i + e)) ≡ On (new (f.i + e))
+    read_passes_lane e lt no' = way_is (f.i + e) (ls (f.i + e)) ∙ ap (λ b. way_of Fell (if b then Halts else Keeps (new (f.i + e)))) (test_is e lt ∙ no')
 
     pub falls : (e : ℕ) → e < n → (on e && faults e) ≡ true → way (f.i + e) (ls (f.i + e)) ≡ Fell
     falls e lt yes' = way_is (f.i + e) (ls (f.i + e)) ∙ ap (λ b. way_of Fell (if b then Halts else Keeps (new (f.i + e)))) (test_is e lt ∙ yes')
@@ -213,12 +213,12 @@ module _ {l : Layout} (fit : Assigned l) {f : Setting} {a : State} {p0 : ℕ} {t
         ap (λ w. at f.w (register (width_bytes w) (kept_lane form u.memory on spot limit) count) e) is.element
         ∙ at-register f.w (kept_lane form u.memory on spot limit) count e (in_count e lt)
         ∙ ap (λ b. cond b (loaded_lane form u.memory on spot e) 0 % modulus f.w) before
-        ∙ ap₂ (λ b n. cond b (extended form n) 0 % modulus f.w) (on_in e lt) (number_is e)
+        ∙ ap₂ (λ b n. cond b (extended form n) 0 % modulus f.w) (on_in e lt) (read_number e)
         ∙ lane_value ty f.w (on_mask mask (ls (f.i + e))) (number (f.i + e)) is (number_low e)
 
     pub loaded_is : (e : ℕ) → e < n → at f.w (register (width_bytes form.element) (loaded_lane form u.memory on spot) count) e ≡ held f.w (val (f.i + e) (ls (f.i + e)))
     loaded_is e lt =
         ap (λ w. at f.w (register (width_bytes w) (loaded_lane form u.memory on spot) count) e) is.element
         ∙ at-register f.w (loaded_lane form u.memory on spot) count e (in_count e lt)
-        ∙ ap₂ (λ b n. cond b (extended form n) 0 % modulus f.w) (on_in e lt) (number_is e)
+        ∙ ap₂ (λ b n. cond b (extended form n) 0 % modulus f.w) (on_in e lt) (read_number e)
         ∙ lane_value ty f.w (on_mask mask (ls (f.i + e))) (number (f.i + e)) is (number_low e)

@@ -1,5 +1,5 @@
 -- What fits a loop fits its break region and the rest of its items.
-use Rattle.std.proofs.Common.{◌≡◌, ℕ, ◌+◌, ◌≤◌, Bool, true, false, List, [], ◌∷◌, ◌++◌, Option, Some, None, refl, sym, ap, ◌∙◌, subst, arith}
+use Rattle.std.proofs.Common.{◌≡◌, ℕ, ◌+◌, ◌≤◌, Bool, true, false, List, [], ◌∷◌, ◌++◌, Option, refl, sym, ap, ◌∙◌, subst, arith}
 use Rattle.std.specs.Prelude.{is_some, ◌||◌, ◌&&◌, if◌then◌else◌}
 use Rattle.std.specs.List.{list_any}
 use Rattle.std.proofs.lemmas.Bool.{or_parts}
@@ -14,10 +14,11 @@ use Rattle.chunk_emit.proofs.FitsParts.{first_part, second_part, items_fit}
 use Rattle.first_fault.specs.Fits.{FitsStep, FitsRegion}
 use Rattle.first_fault.specs.BreakRegion.{breaks_loop, is_loop_break, writes, is_write, region_of, rest_of}
 use Rattle.first_fault.specs.KernelFits.{is_inner_break}
+use Rattle.first_fault.proofs.EarlyReads.{is_none}
 
-none_left : {A : Type 0} (p : A → Bool) (xs ys : List A) → list_any p (xs ++ ys) ≡ false → list_any p xs ≡ false
-none_left p [] ys e = refl
-none_left p (x ∷ xs) ys e = let h = or_parts (p x) (list_any p (xs ++ ys)) e in both (p x) (list_any p xs) h.0 (none_left p xs ys h.1)
+none_in_front_of_append : {A : Type 0} (p : A → Bool) (xs ys : List A) → list_any p (xs ++ ys) ≡ false → list_any p xs ≡ false
+none_in_front_of_append p [] ys e = refl
+none_in_front_of_append p (x ∷ xs) ys e = let h = or_parts (p x) (list_any p (xs ++ ys)) e in both (p x) (list_any p xs) h.0 (none_in_front_of_append p xs ys h.1)
   where
     both : (a b : Bool) → a ≡ false → b ≡ false → a || b ≡ false
     both true b e f = e
@@ -25,12 +26,8 @@ none_left p (x ∷ xs) ys e = let h = or_parts (p x) (list_any p (xs ++ ys)) e i
 
 -- ---- the region
 
-unmasked : (mask : Option ℕ) → is_some mask ≡ false → mask ≡ None
-unmasked None e = refl
-unmasked (Some q) e = absurd cc
-
 region_step : (l : Layout) (f : Setting) (p : ℕ) (mask : Option ℕ) (op : Op) → writes op ≡ false → breaks_loop op && is_some mask ≡ false → whole.FitsStep l f p op → FitsStep l f p mask op
-region_step l f p mask (ops.Break c) w e h = (unmasked mask e, h.0, h.1)
+region_step l f p mask (ops.Break c) w e h = (is_none mask e, h.0, h.1)
 region_step l f p mask (ops.Load a base t c) w e h = h
 region_step l f p mask (ops.Gather a base t r u x) w e h = absurd cc
 region_step l f p mask (ops.Unary op t x) w e h = h
@@ -70,7 +67,7 @@ pub record BothFit (l : Layout) (f : Setting) (p : ℕ) (items : List Item) : Ty
 pub both_fit : (l : Layout) (f : Setting) (p : ℕ) (items : List Item) → region_of items ++ rest_of items ≡ items → list_any is_write (region_of items) ≡ false → list_any is_loop_break (rest_of items) ≡ false → list_any is_inner_break items ≡ false → FitsSteps l f p items → BothFit l f p items
 both_fit l f p items split unwritten unbroken outer h =
     let parts : FitsSteps l f p (region_of items ++ rest_of items) = subst (FitsSteps l f p) (sym split) h in
-    let outer2 = none_left is_inner_break (region_of items) (rest_of items) (ap (list_any is_inner_break) split ∙ outer) in
+    let outer2 = none_in_front_of_append is_inner_break (region_of items) (rest_of items) (ap (list_any is_inner_break) split ∙ outer) in
     record {
       region = region_fits l f p (region_of items) unwritten outer2 (first_part l f p (region_of items) (rest_of items) parts);
       rest = items_fit l f (following_items p (region_of items)) (rest_of items) (no_breaks (rest_of items) unbroken) (second_part l f p (region_of items) (rest_of items) parts);

@@ -13,15 +13,15 @@ use Rattle.chunk_emit.specs.ChunkCode.{puts}
 use Rattle.chunk_emit.proofs.ItemRuns.{puts-append}
 use Rattle.first_fault.specs.RegionCode.{Mode, step_words, region_words}
 
-one_more : (mode : Mode) (w : Width) (l : Layout) (it : Item) (items : List Item) (rest : List DraftEntry) → puts (region_words mode w l (it ∷ items)) rest ≡ puts (step_words mode w l it.item it.mask it.op) (puts (region_words mode w l items) rest)
-one_more mode w l it items rest = puts-append (step_words mode w l it.item it.mask it.op) (region_words mode w l items) rest
+puts_of_one_item : (mode : Mode) (w : Width) (l : Layout) (it : Item) (items : List Item) (rest : List DraftEntry) → puts (region_words mode w l (it ∷ items)) rest ≡ puts (step_words mode w l it.item it.mask it.op) (puts (region_words mode w l items) rest)
+puts_of_one_item mode w l it items rest = puts-append (step_words mode w l it.item it.mask it.op) (region_words mode w l items) rest
 
 -- the item at a place, and those after it
 pub next_puts : (mode : Mode) (w : Width) (l : Layout) (items : List LoopItem) (p : ℕ) (rest : List DraftEntry) → p < length items → let it = view_of (slice_index_or items p no_item) in puts (step_words mode w l it.item it.mask it.op) (puts (region_words mode w l (view (drop (p + 1) items))) rest) ≡ puts (region_words mode w l (view (drop p items))) rest
 next_puts mode w l items p rest h =
     let it : Item = view_of (slice_index_or items p no_item) in
-    sym (one_more mode w l it (view (drop (p + 1) items)) rest) ∙ ap (λ its. puts (region_words mode w l its) rest) (sym (at_place items p no_item h))
+    sym (puts_of_one_item mode w l it (view (drop (p + 1) items)) rest) ∙ ap (λ its. puts (region_words mode w l its) rest) (sym (at_place items p no_item h))
 
 -- after the last item
-pub none_left : (mode : Mode) (w : Width) (l : Layout) (items : List LoopItem) (p : ℕ) (rest : List DraftEntry) → length items ≤ p → rest ≡ puts (region_words mode w l (view (drop p items))) rest
-none_left mode w l items p rest h = ap (λ its. puts (region_words mode w l (view its)) rest) (sym (drop_all p items h))
+pub no_region_words_past_items : (mode : Mode) (w : Width) (l : Layout) (items : List LoopItem) (p : ℕ) (rest : List DraftEntry) → length items ≤ p → rest ≡ puts (region_words mode w l (view (drop p items))) rest
+no_region_words_past_items mode w l items p rest h = ap (λ its. puts (region_words mode w l (view its)) rest) (sym (drop_all p items h))

@@ -14,7 +14,7 @@ use Rattle.chunk_emit.specs.Registers.{Layout, p_of}
 use Rattle.chunk_emit.specs.ChunkCode.{puts}
 use Rattle.chunk_emit.specs.Chunk.{Setting, chunk_of, ValueRight, Holds}
 use Rattle.chunk_emit.specs.Fits.{Assigned, following_items}
-use Rattle.chunk_emit.proofs.ChunkStates.{inside}
+use Rattle.chunk_emit.proofs.ChunkStates.{lane_below_and}
 use Rattle.first_fault.specs.Region.{region_way}
 use Rattle.first_fault.specs.RegionCode.{Early, Single, exits_words, single_words}
 use Rattle.first_fault.specs.Prefix.{IsTop, with_count, lanes_of, Same, Inside}
@@ -24,12 +24,12 @@ use Rattle.first_fault.proofs.PrefixSteps.{in_bytes, byte_made}
 use Rattle.first_fault.proofs.OutcomeLists.{outcome_following, region_runs}
 
 -- nothing has changed yet
-same_state : (l : Layout) (s : State) → Same l s s
-same_state l s = record { memory = refl; vl = refl; x = λ r ne. refl; all = refl; held = λ x is. refl; sums = λ x is. refl }
+same_refl : (l : Layout) (s : State) → Same l s s
+same_refl l s = record { memory = refl; vl = refl; x = λ r ne. refl; all = refl; held = λ x is. refl; sums = λ x is. refl }
 
 module _ {l : Layout} (fit : Assigned l) {f : Setting} {p : ℕ} {t : Lanes} {s : State} (h : Holds l f p t s) where
   first_truths : (q : ℕ) → q < p → p ≤ l.p_last_use q → PRight f.w f.n (p_at s (p_of l q)) (truth_of (chunk_of f (lanes_of s.memory t.lane)) q)
-  first_truths q lt le e en = h.truths q lt le e (omega (arith, en, h.few)) ∙ inside e f.n _ en
+  first_truths q lt le e en = h.truths q lt le e (omega (arith, en, h.few)) ∙ lane_below_and e f.n _ en
 
   first_values : (q : ℕ) → q < p → p ≤ l.z_last_use q → ValueRight l (with_count f f.n) (lanes_of s.memory t.lane) s q
   first_values q lt le = let old = h.values q lt le in record { right = old.right; typed = old.typed }
@@ -39,7 +39,7 @@ module _ {l : Layout} (fit : Assigned l) {f : Setting} {p : ℕ} {t : Lanes} {s 
     is = h.is;
     few = omega arith;
     alone = λ e. one;
-    same = same_state l s;
+    same = same_refl l s;
     top = top;
     ffr = λ e. absurd cc;
     values = first_values;

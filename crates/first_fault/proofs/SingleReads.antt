@@ -69,8 +69,8 @@ module _ {l : Layout} (fit : Assigned l) {f : Setting} {a : State} {p0 : ℕ} {t
   })
 
   module _ {mode : Mode} {n : ℕ} {u : State} (h : Inside mode l f a n p ls u) (low : x < 8) (based : slice_index f.x x ≡ word (nth_value f.names x)) (r : ℕ) (at_index : x_at u r ≡ word (pos f.i +ℤ c)) where
-    pub base_is : x_or_sp u x ≡ word (nth_value f.names x)
-    base_is = ap (λ b. if b then u.sp else x_at u x) (ne_eqb x 31 (λ e. absurd (omega (arith, low, e)))) ∙ x_is fit h0 h x (λ e. absurd (omega (arith, low, e))) ∙ based
+    pub single_read_base : x_or_sp u x ≡ word (nth_value f.names x)
+    single_read_base = ap (λ b. if b then u.sp else x_at u x) (ne_eqb x 31 (λ e. absurd (omega (arith, low, e)))) ∙ x_is fit h0 h x (λ e. absurd (omega (arith, low, e))) ∙ based
 
     abbrev pub spot : ℕ → ℕ
     spot = lane_address (x_or_sp u x) (x_at u r) (width_bytes (reads.form fit h0 p ls mask array x ty c wide).memory)
@@ -78,12 +78,12 @@ module _ {l : Layout} (fit : Assigned l) {f : Setting} {a : State} {p0 : ℕ} {t
     pub spot_is : (e : ℕ) → spot e ≡ reads.place fit h0 p ls mask array x ty c wide (f.i + e)
     spot_is e =
         ap (λ k. lane_address (x_or_sp u x) (x_at u r) k e) (Rattle.chunk_emit.proofs.LoadForms.is_form ty f.w wide).memory
-        ∙ lane_place ty (nth_value f.names x) c f.i e (x_or_sp u x) (x_at u r) base_is at_index
+        ∙ lane_place ty (nth_value f.names x) c f.i e (x_or_sp u x) (x_at u r) single_read_base at_index
 
   -- a load that refuses
-  pub refused : {d : Laid} {rest : List DraftEntry} {i : Rattle.machine_model.specs.InstructionTable.Listed} {u : State} (o : Option ℕ) → is_some o ≡ true → (other : Rattle.guest_types.specs.LaneMemory.Loaded) → Rattle.label_fix.specs.DraftRun.effect i u ≡ after_load (or_fault (read_fault o) other) (z_of l p) u → Stops d (Rattle.label_fix.specs.DraftRun.Put i ∷ rest) u Read u.memory 1
-  refused None some other e = absurd cc
-  refused {u = u} (Some z) some other e = put_stops u.pc z e
+  pub single_read_stops : {d : Laid} {rest : List DraftEntry} {i : Rattle.machine_model.specs.InstructionTable.Listed} {u : State} (o : Option ℕ) → is_some o ≡ true → (other : Rattle.guest_types.specs.LaneMemory.Loaded) → Rattle.label_fix.specs.DraftRun.effect i u ≡ after_load (or_fault (read_fault o) other) (z_of l p) u → Stops d (Rattle.label_fix.specs.DraftRun.Put i ∷ rest) u Read u.memory 1
+  single_read_stops None some other e = absurd cc
+  single_read_stops {u = u} (Some z) some other e = put_stops u.pc z e
 
   module _ (d : Laid) (rest : List DraftEntry) {n : ℕ} {u : State} (h : Inside Single l f a n p ls u) (exact : PRight f.w (count_of f) (p_at u (mask_register l.registers mask)) (within n (mask_of (prefix f a n ls) mask))) (low : x < 8) (based : slice_index f.x x ≡ word (nth_value f.names x)) (r : ℕ) (at_index : x_at u r ≡ word (pos f.i +ℤ c)) where
     abbrev m : ℕ
@@ -110,8 +110,8 @@ module _ {l : Layout} (fit : Assigned l) {f : Setting} {a : State} {p0 : ℕ} {t
     abbrev load_ends : Option ℕ → Step
     load_ends o = after_load (or_fault (fault_at form u.memory place o) (record { z = made; ffr = u.ffr })) (z_of l p) u
 
-    does : do_vector (load_word f.w ty (z_of l p) m x r) u ≡ load_ends (first_true test count 0)
-    does = refl
+    single_load_does : do_vector (load_word f.w ty (z_of l p) m x r) u ≡ load_ends (first_true test count 0)
+    single_load_does = refl
 
     abbrev Result : Type 0
     Result = RegionOutcome Single l f d a n (p + 1) 1 ls (puts (Vector (load_word f.w ty (z_of l p) m x r) ∷ []) rest) u rest way
@@ -123,8 +123,8 @@ module _ {l : Layout} (fit : Assigned l) {f : Setting} {a : State} {p0 : ℕ} {t
         let written : z_at end (z_of l p) ≡ made = get_or-set_same u.z (z_of l p) made [] (omega (arith, h.is.z_count, fit.z_small p)) in
         let only = only_wrote (z_of l p) u made in
         comes n new end (omega arith)
-        (λ e en. reads.passes fit h0 p ls mask array x ty c wide h exact place (spot_is h low based r at_index) e en (none e (omega arith) (omega (arith, reads.in_count fit h0 p ls mask array x ty c wide h exact place (spot_is h low based r at_index) e en))))
-        (word_leads false (does ∙ ap load_ends eq) refl) (λ lt. absurd (omega (arith, lt)))
+        (λ e en. reads.read_passes_lane fit h0 p ls mask array x ty c wide h exact place (spot_is h low based r at_index) e en (none e (omega arith) (omega (arith, reads.in_count fit h0 p ls mask array x ty c wide h exact place (spot_is h low based r at_index) e en))))
+        (word_leads false (single_load_does ∙ ap load_ends eq) refl) (λ lt. absurd (omega (arith, lt)))
         (read_inside h (omega arith) is (same_z fit used only) h.top (λ early. absurd cc) only.z (λ r ne. refl)
         (λ e en. ap (λ z. at f.w z e) written ∙ reads.loaded_is fit h0 p ls mask array x ty c wide h exact place (spot_is h low based r at_index) e en))
     by o eq (found v lo hi yes' none) =
@@ -132,7 +132,7 @@ module _ {l : Layout} (fit : Assigned l) {f : Setting} {a : State} {p0 : ℕ} {t
         let vn : v < n = reads.below fit h0 p ls mask array x ty c wide h exact place (spot_is h low based r at_index) v (omega (arith, hi)) parts.0 in
         let same : f.i + v ≡ f.i = omega (arith, vn, h.alone refl) in
         stops (omega (arith, vn)) (ap (λ j. way j (ls j)) (sym same) ∙ reads.falls fit h0 p ls mask array x ty c wide h exact place (spot_is h low based r at_index) v vn yes')
-        (subst (λ mem. Stops d (puts (Vector (load_word f.w ty (z_of l p) m x r) ∷ []) rest) u Read mem 1) h.same.memory (refused (lane_fault form u.memory place v) parts.1 (record { z = made; ffr = u.ffr }) (does ∙ ap load_ends eq)))
+        (subst (λ mem. Stops d (puts (Vector (load_word f.w ty (z_of l p) m x r) ∷ []) rest) u Read mem 1) h.same.memory (single_read_stops (lane_fault form u.memory place v) parts.1 (record { z = made; ffr = u.ffr }) (single_load_does ∙ ap load_ends eq)))
 
     pub single_reads : Result
     single_reads = by (first_true test count 0) refl (first_is test count 0)

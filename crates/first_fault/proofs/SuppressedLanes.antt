@@ -1,7 +1,7 @@
 -- What it says of a load that it suppresses its free element of a lane: the element is free, its access does not fault, and the stop
 -- list names it.
-use Rattle.std.proofs.Common.{◌≡◌, ℕ, Bool, true, false, not, ◌||◌, List, Option, Some, None, refl, sym, ap, ◌∙◌, subst}
-use Rattle.std.proofs.lemmas.Bool.{and_parts}
+use Rattle.std.proofs.Common.{◌≡◌, ℕ, Bool, true, false, ◌||◌, List, Option, Some, None, refl, sym, ap, ◌∙◌, subst}
+use Rattle.std.proofs.lemmas.Bool.{and_parts, not-true}
 use Rattle.guest_types.specs.declared.length.Width.{Width}
 use Rattle.guest_types.specs.declared.memory.AccessFault.{AccessFault}
 use Rattle.guest_types.specs.Length.{lanes}
@@ -29,14 +29,10 @@ or_second : (a b : Bool) → (a || b) ≡ true → a ≡ false → b ≡ true
 or_second true b h no' = absurd cc
 or_second false b h no' = h
 
-not_true : (b : Bool) → not b ≡ true → b ≡ false
-not_true true h = absurd cc
-not_true false h = refl
-
 named : (free faults stopped : ℕ → Bool) (n lane : ℕ) → first_true (suppressed_at free faults stopped) n 0 ≡ Some lane → is_cut faults (first_true (suppressed_at free faults stopped) n 0) ≡ true → Named free faults stopped lane
 named free faults stopped n lane first cut =
     let parts = and_parts (free lane) (faults lane || stopped (rank free lane)) (test_at (suppressed_at free faults stopped) n 0 lane (first_is (suppressed_at free faults stopped) n 0) first) in
-    let good = not_true (faults lane) (ap (is_cut faults) (sym first) ∙ cut) in
+    let good = not-true (faults lane) (ap (is_cut faults) (sym first) ∙ cut) in
     record { active = parts.0; read = good; listed = or_second (faults lane) (stopped (rank free lane)) parts.1 good }
 
 -- LDNF1, of which all active elements are free

@@ -6,7 +6,7 @@ use Rattle.guest_types.specs.declared.length.Width.TheVariants.{B, H, S, D}
 use Rattle.guest_types.specs.Length.{width_bits}
 use Rattle.kernel_tree.specs.declared.ops.Ty.{Ty}
 use Rattle.kernel_tree.specs.declared.ops.Ty.TheVariants as ty
-use Rattle.kernel_tree.specs.Wrap.{bits_of}
+use Rattle.kernel_tree.specs.Wrap.{bits_of, log_bytes}
 use Rattle.kernel_tree.specs.Plain.{PlainLoop, Program}
 use Rattle.kernel_tree.specs.Typing.{check_fault}
 use Rattle.reg_assign.specs.declared.interval.RegClass.TheVariants.{Z, P}
@@ -21,7 +21,6 @@ use Rattle.dependence.specs.Classes.{class_of}
 use Rattle.dependence.specs.declared.reason.Class.TheVariants.{Vector}
 use Rattle.lane_emit.specs.LaneCode.{size_of}
 use Rattle.chunk_emit.specs.Registers.{Layout, base_of}
-use Rattle.chunk_emit.specs.ChunkCode.{memory_size}
 use Rattle.chunk_emit.specs.Chunk.{Setting}
 use Rattle.chunk_emit.specs.Fits.{FitsBase, FitsOp, FitsItems, IsNear}
 use Rattle.chunk_emit.specs.KernelLayout.{layout_of_loop}
@@ -39,7 +38,7 @@ fits_place f (Outer p) c h near = let small = h.0 in (omega (arith, small), omeg
 fits_place f other c h near = elim h [ ]
 
 -- in each size
-narrow : (t : Ty) (w : Width) → bits_of t ≤ width_bits w → memory_size t ≤ size_of w
+narrow : (t : Ty) (w : Width) → bits_of t ≤ width_bits w → log_bytes t ≤ size_of w
 narrow ty.I8 w h = omega arith
 narrow ty.U8 w h = omega arith
 narrow ty.I16 B h = absurd (omega (arith, h))

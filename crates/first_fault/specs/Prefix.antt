@@ -4,6 +4,7 @@ use Rattle.guest_types.specs.Memory.{Memory}
 use Rattle.guest_types.specs.Elements.{active}
 use Rattle.machine_model.specs.Machine.{State, x_at, z_at, p_at}
 use Rattle.machine_model.specs.States.{IsState}
+use Rattle.label_fix.specs.Registers.{all_true, lanes_left, scratch}
 use Rattle.vector_order.specs.Orders.{Lane, Lanes}
 use Rattle.loop_form.specs.declared.loop_item.Operand.{Operand}
 use Rattle.lane_emit.specs.Right.{PRight}
@@ -25,8 +26,8 @@ lanes_of m ls = record { memory = m; lane = ls }
 pub record Same (l : Layout) (a s : State) : Type 0 where
   pub memory : s.memory ≡ a.memory
   pub vl : s.vl ≡ a.vl
-  pub x : (r : ℕ) → r ≢ 26 → x_at s r ≡ x_at a r
-  pub all : p_at s 1 ≡ p_at a 1
+  pub x : (r : ℕ) → r ≢ scratch → x_at s r ≡ x_at a r
+  pub all : p_at s all_true ≡ p_at a all_true
   pub held : (x : Operand) → l.held x ≡ true → z_at s (l.registers.source x) ≡ z_at a (l.registers.source x)
   pub sums : (x : List ℕ) → l.updated x ≡ true → z_at s (l.sum x) ≡ z_at a (l.sum x)
 
@@ -37,7 +38,7 @@ pub record Inside (mode : Mode) (l : Layout) (f : Setting) (a : State) (n p : �
   pub few : n ≤ f.n
   pub alone : mode ≡ Single → n ≤ 1
   pub same : Same l a s
-  pub top : IsTop f.w n (p_at s 0)
+  pub top : IsTop f.w n (p_at s lanes_left)
   pub ffr : mode ≡ Early → (e : ℕ) → e < n → active f.w s.ffr e ≡ true
   pub values : (q : ℕ) → q < p → p ≤ l.z_last_use q → ValueRight l (with_count f n) (lanes_of a.memory ls) s q
   pub truths : (q : ℕ) → q < p → p ≤ l.p_last_use q → PRight f.w n (p_at s (p_of l q)) (truth_of (chunk_of f (lanes_of a.memory ls)) q)

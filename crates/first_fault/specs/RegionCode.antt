@@ -4,15 +4,17 @@
 use Rattle.std.specs.Prelude.{ℕ, List, [], ◌∷◌, ◌++◌, Option, Some, None, if◌then◌else◌}
 use Rattle.guest_types.specs.declared.length.Width.{Width}
 use Rattle.kernel_tree.specs.declared.ops.Ty.{Ty}
+use Rattle.kernel_tree.specs.Wrap.{log_bytes}
 use Rattle.a64_code.specs.Table as a64
 use Rattle.sve_code.specs.Table.{p_and, brkb, rdffr_z, setffr, ldff1, ldnf1}
 use Rattle.machine_model.specs.InstructionTable.{Listed, Scalar, Vector}
+use Rattle.label_fix.specs.Registers.{lanes_left, scratch}
 use Rattle.loop_form.specs.LoopItems.{Op, Item}
 use Rattle.loop_form.specs.LoopItems as ops
 use Rattle.lane_emit.specs.Stretch.{VectorInstruction, word}
 use Rattle.lane_emit.specs.ItemCode.{mask_register, op_code}
 use Rattle.chunk_emit.specs.Registers.{Layout, z_of, p_of, base_of, is_used}
-use Rattle.chunk_emit.specs.ChunkCode.{with_index, index_of, memory_size, dtype_of, load_word, vectors}
+use Rattle.chunk_emit.specs.ChunkCode.{with_index, index_of, dtype_of, load_word, vectors}
 
 -- over a chunk, or over one lane
 pub data Mode : Type 0 where
@@ -22,23 +24,23 @@ pub data Mode : Type 0 where
 -- AND m, P0/Z, m, m: a mask loses the lanes that P0 has lost
 abbrev pub narrow_words : Layout → Option ℕ → List Listed → List Listed
 narrow_words l None rest = rest
-narrow_words l (Some q) rest = Vector (word p_and (p_of l q ∷ p_of l q ∷ 0 ∷ p_of l q ∷ [])) ∷ rest
+narrow_words l (Some q) rest = Vector (word p_and (p_of l q ∷ p_of l q ∷ lanes_left ∷ p_of l q ∷ [])) ∷ rest
 
 -- LDFF1 d, P0/Z, [base, index, lsl]
 abbrev pub first_fault_word : Width → Ty → (d base index : ℕ) → VectorInstruction
-first_fault_word w t d base index = word ldff1 (d ∷ base ∷ 0 ∷ index ∷ dtype_of t w ∷ [])
+first_fault_word w t d base index = word ldff1 (d ∷ base ∷ lanes_left ∷ index ∷ dtype_of t w ∷ [])
 
 -- LDNF1 d, m/Z, [X26]
 abbrev pub non_fault_word : Width → Ty → (d m : ℕ) → VectorInstruction
-non_fault_word w t d m = word ldnf1 (d ∷ 26 ∷ m ∷ dtype_of t w ∷ [])
+non_fault_word w t d m = word ldnf1 (d ∷ scratch ∷ m ∷ dtype_of t w ∷ [])
 
 -- ADD X26, base, index, LSL the size
 abbrev pub address_word : Ty → (base index : ℕ) → Listed
-address_word t base index = Scalar (record { name = a64.add; numbers = 26 ∷ base ∷ memory_size t ∷ index ∷ 0 ∷ [] })
+address_word t base index = Scalar (record { name = a64.add; numbers = scratch ∷ base ∷ log_bytes t ∷ index ∷ 0 ∷ [] })
 
 -- RDFFR P0, P0/Z: P0 loses the lanes from the first suppressed one on
 abbrev pub read_faults : Listed
-read_faults = Vector (word rdffr_z (0 ∷ 0 ∷ []))
+read_faults = Vector (word rdffr_z (lanes_left ∷ lanes_left ∷ []))
 
 abbrev pub load_words : Mode → Width → Layout → (q : ℕ) → Option ℕ → Ty → (base index : ℕ) → List Listed
 load_words Early w l q None t base index = Vector (first_fault_word w t (z_of l q) base index) ∷ read_faults ∷ []
@@ -47,7 +49,7 @@ load_words Single w l q mask t base index = Vector (load_word w t (z_of l q) (ma
 
 -- BRKB P0, P0/Z, c: the lanes before the first in which c holds
 abbrev pub break_word : Layout → (c : ℕ) → Listed
-break_word l c = Vector (word brkb (0 ∷ p_of l c ∷ 0 ∷ []))
+break_word l c = Vector (word brkb (lanes_left ∷ p_of l c ∷ lanes_left ∷ []))
 
 abbrev pub step_words : Mode → Width → Layout → (q : ℕ) → Option ℕ → Op → List Listed
 step_words mode w l q mask (ops.Load a base (Some t) c) = narrow_words l mask (with_index c (load_words mode w l q mask t (base_of base) (index_of c)))

@@ -4,19 +4,19 @@ ghost use Rattle.std.specs.Prelude.{◌≡◌, [], ◌∷◌};
 ghost use Rattle.sve_code.specs.Table as sve;
 ghost use Rattle.machine_model.specs.InstructionTable.{Vector};
 ghost use Rattle.label_fix.specs.Draft.{word_view};
+ghost use Rattle.label_fix.specs.Registers.{lanes_left};
 ghost use Rattle.lane_emit.specs.Stretch.{word};
 ghost use Rattle.chunk_emit.specs.ChunkCode as code;
 ghost use Rattle.first_fault.specs.RegionCode as region;
 
 use a64_code::{A64, AddSubOp, AddSubShift, Reg};
-use chunk_emit::{index_shift, load_type};
+use chunk_emit::load_type;
 use guest_types::length::Width;
 use kernel_tree::Ty;
 use label_fix::Word;
+use label_fix::registers::{LANES_LEFT, SCRATCH};
 use lane_emit::wide;
-use sve_code::{
-    BreakOp, GoverningReg, OffsetReg, PredicateLogicalOp, PredicateReg, Sve, VectorReg,
-};
+use sve_code::{BreakOp, GoverningReg, OffsetReg, PredicateLogicalOp, Sve, VectorReg};
 use word_rows::Bits;
 
 // The register of an offset as any general register.
@@ -28,21 +28,15 @@ fn general(index: OffsetReg) -> Reg
     }
 }
 
-fn p0() -> PredicateReg
-    ensures { result.number ≡ 0 }
-{
-    Bits { number: 0 }
-}
-
 /// A mask loses the lanes that P0 has lost.
 pub fn narrow(m: GoverningReg) -> Word
-    ensures { word_view result ≡ Vector (word sve.p_and (m.number ∷ m.number ∷ 0 ∷ m.number ∷ [])) }
+    ensures { word_view result ≡ Vector (word sve.p_and (m.number ∷ m.number ∷ lanes_left ∷ m.number ∷ [])) }
 {
     Word::V(Sve::PredicateLogical {
         op: PredicateLogicalOp::And,
         pd: wide(m),
         pn: wide(m),
-        pg: p0(),
+        pg: wide(LANES_LEFT),
         pm: wide(m),
     })
 }
@@ -54,7 +48,7 @@ pub fn first_fault(width: Width, ty: Ty, d: VectorReg, base: Reg, index: OffsetR
     Word::V(Sve::FirstFaultLoad {
         zt: d,
         rn: base,
-        pg: Bits { number: 0 },
+        pg: LANES_LEFT,
         rm: general(index),
         dtype: load_type(ty, width),
     })
@@ -66,7 +60,7 @@ pub fn non_fault(width: Width, ty: Ty, d: VectorReg, m: GoverningReg) -> Word
 {
     Word::V(Sve::NonFaultLoad {
         zt: d,
-        rn: Bits { number: 26 },
+        rn: SCRATCH,
         pg: m,
         dtype: load_type(ty, width),
     })
@@ -78,10 +72,10 @@ pub fn address(ty: Ty, base: Reg, index: OffsetReg) -> Word
 {
     Word::A(A64::AddSubShifted {
         op: AddSubOp::Add,
-        rd: Bits { number: 26 },
+        rd: SCRATCH,
         rn: base,
         imm6: Bits {
-            number: index_shift(ty),
+            number: ty.log_bytes(),
         },
         rm: general(index),
         shift: AddSubShift::Lsl,
@@ -92,7 +86,10 @@ pub fn address(ty: Ty, base: Reg, index: OffsetReg) -> Word
 pub fn read_faults() -> Word
     ensures { word_view result ≡ region.read_faults }
 {
-    Word::V(Sve::RdffrPredicated { pd: p0(), pg: p0() })
+    Word::V(Sve::RdffrPredicated {
+        pd: wide(LANES_LEFT),
+        pg: wide(LANES_LEFT),
+    })
 }
 
 /// All lanes may fault.
@@ -104,12 +101,12 @@ pub fn set_faults() -> Word
 
 /// P0 keeps the lanes before the first in which a condition holds.
 pub fn leave(c: GoverningReg) -> Word
-    ensures { word_view result ≡ Vector (word sve.brkb (0 ∷ c.number ∷ 0 ∷ [])) }
+    ensures { word_view result ≡ Vector (word sve.brkb (lanes_left ∷ c.number ∷ lanes_left ∷ [])) }
 {
     Word::V(Sve::Break {
         op: BreakOp::Brkb,
-        pd: p0(),
+        pd: wide(LANES_LEFT),
         pn: wide(c),
-        pg: p0(),
+        pg: wide(LANES_LEFT),
     })
 }

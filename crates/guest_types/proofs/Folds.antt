@@ -1,5 +1,5 @@
 -- Folds over elements.
-use Rattle.std.proofs.Common.{◌≡◌, ℕ, ◌+◌, false, ◌&&◌, ◌||◌, refl, ap, add-one}
+use Rattle.std.proofs.Common.{◌≡◌, ℕ, ◌+◌, false, ◌&&◌, ◌||◌, refl, ap, add-one, zero, suc, ◌<◌, Bool, ap₂, ◌∙◌, sym, arith}
 use Rattle.guest_types.specs.Lanes.{folded, broken}
 use Rattle.guest_types.specs.Elements.{bit}
 use Rattle.std.proofs.Common.{List}
@@ -19,3 +19,8 @@ broken-none pg p = refl
 pub broken-more : (pg p : List ℕ) (j : ℕ) → broken pg p (j + 1) ≡ (broken pg p j || (bit pg j && bit p j))
 unfolding broken
 broken-more pg p j = ap (broken pg p) (add-one j)
+
+-- where no active bit is set, nothing breaks
+pub not_broken : (pg p : List ℕ) (n : ℕ) → ((b : ℕ) → b < n → (bit pg b && bit p b) ≡ false) → broken pg p n ≡ false
+not_broken pg p zero h = broken-none pg p
+not_broken pg p (suc n) h = ap (broken pg p) (sym (add-one n)) ∙ broken-more pg p n ∙ ap₂ (λ a b. a || b) (not_broken pg p n (λ b lt. h b (omega (arith, lt)))) (h n (omega arith))

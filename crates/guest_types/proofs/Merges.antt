@@ -43,12 +43,12 @@ ordered_from low [] rises each start = tt
 ordered_from low (p ∷ ps) rises each start =
     (start, All-head IsPage p ps each, ordered_from (suc p.page) ps (rises_tail p.page (page_numbers ps) rises) (All-tail IsPage p ps each) (rises_start p.page (page_numbers ps) rises))
 
-starts : (memory : Memory) → StartsFrom 0 (page_numbers memory)
-starts [] = tt
-starts (p ∷ ps) = omega arith
+page_numbers_start_from_0 : (memory : Memory) → StartsFrom 0 (page_numbers memory)
+page_numbers_start_from_0 [] = tt
+page_numbers_start_from_0 (p ∷ ps) = omega arith
 
 pub Ordered-from_IsMemory : (memory : Memory) → IsMemory memory → Ordered 0 memory
-Ordered-from_IsMemory memory is = ordered_from 0 memory is.ascending is.pages (starts memory)
+Ordered-from_IsMemory memory is = ordered_from 0 memory is.ascending is.pages (page_numbers_start_from_0 memory)
 
 ordered_start : (low : ℕ) (memory : Memory) → Ordered low memory → StartsFrom low (page_numbers memory)
 ordered_start low [] h = tt

@@ -36,7 +36,7 @@ number-bytes_of (suc k) x =
     let m : x % 256 ^ suc k ≡ (x / 256 % 256 ^ k) * 256 + x % 256 = ap (λ n. x % n) (pow-suc 256 k) ∙ mod-mul x {m = 256 ^ k} {c = 256} some (omega arith) in
     omega arith
 
-digit : (x r : ℕ) → x < 256 → ((x + 256 * r) % 256 ≡ x) × ((x + 256 * r) / 256 ≡ r)
+pub digit : (x r : ℕ) → x < 256 → ((x + 256 * r) % 256 ≡ x) × ((x + 256 * r) / 256 ≡ r)
 digit x r lt = (add-mul-mod_self_left x 256 r ∙ mod-eq_of_lt lt, omega (arith, add-mul-div_left x r {y = 256} (omega arith), div-eq_of_lt lt))
 
 pub bytes_of-number : (bs : List ℕ) → Each1 (λ b. b < 256) bs → bytes_of (length bs) (number_of_bytes bs) ≡ bs
@@ -60,3 +60,7 @@ bytes_of-mod k x = ap (bytes_of k) (sym (number-bytes_of k x)) ∙ ap (λ n. byt
     below : (k x : ℕ) → Each1 (λ b. b < 256) (bytes_of k x)
     below zero x = tt
     below (suc k) x = (omega arith, below k (x / 256))
+
+-- a number is its lowest three bits, the two above, and the rest
+pub split_at_3_and_5 : (v : ℕ) → 32 * (v / 32) + 8 * (v / 8 % 4) + v % 8 ≡ v
+split_at_3_and_5 v = omega arith

@@ -46,7 +46,7 @@ bit-of_byte h i t l =
     bit_mask_l (map (λ s. h (8 * i + s)) (range_with_len 0 8)) t
     ∙ ap (λ b. cond b 1 0) (get_or-map (λ s. h (8 * i + s)) (range_with_len 0 8) t 0 false l ∙ ap (λ s. h (8 * i + s)) (range-at 0 8 t l ∙ zero-add t))
 
-eqb-cond : (b : Bool) → eqb (cond b 1 0) 1 ≡ b
+pub eqb-cond : (b : Bool) → eqb (cond b 1 0) 1 ≡ b
 eqb-cond true = refl
 eqb-cond false = refl
 
@@ -75,8 +75,8 @@ bits-ext h n bs long small each =
     ∙ sym (byte-bits_of h n i inside))
 
 -- ---- the step of a loop over elements
-here : (k e : ℕ) (h : ℕ → Bool) → 0 < k → (element_bit k h (e + 1) (k * e) ≡ h e) × (element_bit k h e (k * e) ≡ false)
-here k e h some =
+element_bit_at_its_place : (k e : ℕ) (h : ℕ → Bool) → 0 < k → (element_bit k h (e + 1) (k * e) ≡ h e) × (element_bit k h e (k * e) ≡ false)
+element_bit_at_its_place k e h some =
     let r : k * e % k ≡ 0 = mul-mod_right k e in
     let q : k * e / k ≡ e = mul-div_cancel_left e some in
     let up : k * e < k * (e + 1) = omega (arith, mul-suc k e, ap (λ n. k * n) (add-one e)) in (
@@ -127,3 +127,8 @@ element_bit-bytes h n i l =
 pub predicate-bytes : (h : ℕ → Bool) → predicate 1 h 256 ≡ bits_of h 32
 predicate-bytes h =
     bits-ext h 32 (predicate 1 h 256) (length-bits_of (element_bit 1 h 256) 32) (bits-small (element_bit 1 h 256) 32) (λ j l. bit-bits_of (element_bit 1 h 256) 32 j l ∙ element_bit-bytes h 256 j (omega arith))
+
+pub and_twice : (a b : Bool) → (a && (b && b)) ≡ (a && b)
+and_twice true true = refl
+and_twice true false = refl
+and_twice false b = refl

@@ -80,8 +80,8 @@ pub chunk-take : (i n m : ℕ) (z : List ℕ) → i + n ≤ m → chunk i n (tak
 chunk-take i n m z h =
     ap (λ j. take n (drop i (take j z))) (let e : m ≡ i + (m - i) = omega arith in e) ∙ ap (take n) (drop-take i (m - i) z) ∙ take-take n (m - i) (drop i z) (omega arith)
 
-chunk-below : (i n : ℕ) (z : List ℕ) → ((j : ℕ) → get_or z j 0 < 256) → Each1 (λ b. b < 256) (chunk i n z)
-chunk-below i n z h =
+pub chunk-all_bytes : (i n : ℕ) (z : List ℕ) → ((j : ℕ) → get_or z j 0 < 256) → Each1 (λ b. b < 256) (chunk i n z)
+chunk-all_bytes i n z h =
     Each1-from_get_or (λ b. b < 256) (chunk i n z) 0 (λ j l.
     subst (λ b. b < 256) (sym (get_or-take n (drop i z) j 0 (omega (arith, length-take n (drop i z))) ∙ get_or-drop i z j 0)) (h (i + j)))
 
@@ -107,7 +107,7 @@ elements-of k f (suc n) z long small each =
       | inr g ↦ subst (λ b. b < 256) (sym (get_or_past front j 0 (omega arith))) (omega arith)
     ])
     (λ e l. ap number_of_bytes (chunk-take (k * e) k (k * n) z (omega (arith, mul-suc k e, mul-le-mul_left k (let u : suc e ≤ n = l in u)))) ∙ each e (omega arith)))
-    (sym (bytes_of-number back (subst (λ l. Each1 (λ b. b < 256) l) last (chunk-below (k * n) k z small)))
+    (sym (bytes_of-number back (subst (λ l. Each1 (λ b. b < 256) l) last (chunk-all_bytes (k * n) k z small)))
     ∙ ap₂ bytes_of length-back (ap number_of_bytes (sym last) ∙ each n (omega arith)))
 
 -- element e of block i, where a block has q elements

@@ -34,3 +34,7 @@ some-bytes other = omega arith
 pub lane-inside : (w : Width) (e n : ℕ) → e < n → width_bytes w * n ≤ 256 → width_bytes w * e < 256
 lane-inside B e n l h = omega arith
 lane-inside other e n l h = omega arith
+
+pub modulus_pos : (w : Width) → 0 < modulus w
+modulus_pos B = omega arith
+modulus_pos other = omega arith

@@ -5,6 +5,7 @@ use Rattle.guest_types.specs.declared.memory.Perm.{Perm}
 use Rattle.guest_types.specs.declared.memory.Perm.TheVariants.{Read, ReadWrite, ReadExec}
 use Rattle.guest_types.specs.declared.memory.AccessFault.{AccessFault}
 use Rattle.guest_types.specs.declared.memory.PageSpec.{PageSpec}
+use Rattle.guest_types.specs.declared.memory.TheConstants.{PAGE_BYTES}
 
 -- a page: its number, what it may be used for, and its bytes
 abbrev pub Page : Type 0
@@ -17,7 +18,7 @@ Memory = List Page
 -- a page as it may stand in a memory
 pub record IsPage (page : Page) : Type 0 where
   pub below : page.page < 2 ^ 36
-  pub whole : length page.bytes ≡ 4096
+  pub whole : length page.bytes ≡ PAGE_BYTES
   pub small : All (λ b. b < 256) page.bytes
 
 -- the numbers of the pages
@@ -35,11 +36,11 @@ page_at memory n = find (λ page. nat_eq page.page n) memory
 
 -- the byte of a page that an address names
 abbrev pub byte_of : Page → ℕ → ℕ
-byte_of page address = slice_index page.bytes (address % 4096)
+byte_of page address = slice_index page.bytes (address % PAGE_BYTES)
 
 -- the byte at an address, where it is readable
 abbrev pub byte_at : Memory → ℕ → Option ℕ
-byte_at memory address = option_map (λ page. byte_of page address) (page_at memory (address / 4096))
+byte_at memory address = option_map (λ page. byte_of page address) (page_at memory (address / PAGE_BYTES))
 
 -- the page may be written
 abbrev pub is_writable : Perm → Bool
@@ -55,7 +56,7 @@ is_executable ReadExec = true
 
 -- the address is readable
 abbrev pub can_read : Memory → ℕ → Bool
-can_read memory address = is_some (page_at memory (address / 4096))
+can_read memory address = is_some (page_at memory (address / PAGE_BYTES))
 
 -- there is a page, which may be written
 abbrev pub may_write : Option Page → Bool
@@ -64,7 +65,7 @@ may_write (Some page) = is_writable page.perm
 
 -- the address is writable
 abbrev pub can_write : Memory → ℕ → Bool
-can_write memory address = may_write (page_at memory (address / 4096))
+can_write memory address = may_write (page_at memory (address / PAGE_BYTES))
 
 -- the next address
 abbrev pub next_address : ℕ → ℕ
@@ -94,13 +95,13 @@ loaded memory address size =
 
 -- a page with one byte replaced
 abbrev pub with_byte : Page → ℕ → ℕ → Page
-with_byte page address b = record page { bytes = slice_set page.bytes (address % 4096) b }
+with_byte page address b = record page { bytes = slice_set page.bytes (address % PAGE_BYTES) b }
 
 -- the memory with one byte replaced, where it is mapped
 abbrev pub put_byte : Memory → ℕ → ℕ → Memory
 put_byte [] address b = []
 put_byte (page ∷ pages) address b =
-    if nat_eq page.page (address / 4096) then with_byte page address b ∷ pages else page ∷ put_byte pages address b
+    if nat_eq page.page (address / PAGE_BYTES) then with_byte page address b ∷ pages else page ∷ put_byte pages address b
 
 -- the memory with the lowest bytes of a number written
 abbrev pub put_number : Memory → ℕ → ℕ → ℕ → Memory
@@ -121,7 +122,7 @@ fetched memory pc =
     if nat_eq (pc % 4) 0 then
     option_and_then
     (λ page. if is_executable page.perm then Some (number_at memory pc 4) else None)
-    (page_at memory (pc / 4096))
+    (page_at memory (pc / PAGE_BYTES))
     else None
 
 -- the pages of two memories in one ascending list; the second is passed as what is left of it after each page of the first

@@ -1,6 +1,7 @@
 //! Vector lengths and element widths.
 
 ghost use Rattle.std.specs.Prelude.{◌≡◌, ℕ, ◌+◌, ◌/◌, ◌%◌, ◌<◌, ◌≤◌, IsSome, IfSome, ◌↔◌};
+ghost use Rattle.guest_types.specs.LaneMemory.{width_of_size, size_of_width};
 ghost use Rattle.guest_types.specs.Length.{IsLength, lanes, width_bits, width_bytes, all_lanes, modulus};
 
 use std::marker::Model;
@@ -66,6 +67,20 @@ impl Vl {
 }
 
 impl Width {
+    /// The width of so many bytes, by their logarithm to the base 2.
+    pub fn of(log_bytes: u32) -> Width
+        requires { log_bytes < 4 }
+        ensures value { result ≡ width_of_size log_bytes }
+        ensures size { size_of_width result ≡ log_bytes }
+    {
+        match log_bytes {
+            0 => Width::B,
+            1 => Width::H,
+            2 => Width::S,
+            _ => Width::D,
+        }
+    }
+
     /// The bytes of an element.
     pub fn bytes(self) -> usize
         ensures { result ≡ width_bytes self }

@@ -1,8 +1,15 @@
 //! Pages of 4,096 bytes, and refused accesses.
 
 ghost use Rattle.std.specs.Prelude.{◌≡◌, ℕ, ◌<◌, ◌^◌, List, length, IsSome, IfSome, ◌↔◌, slice_set, true, false, All};
+ghost use Rattle.guest_types.specs.declared.memory.TheConstants.{PAGE_BYTES};
 
 use std::marker::Model;
+
+/// The bytes of a page.
+pub const PAGE_BYTES: u64 = 4096;
+
+/// The most pages that a guest's memory has.
+pub const MOST_PAGES: usize = 16384;
 
 /// What a page may be used for. Every page is readable.
 #[derive(Clone, Copy, Debug, PartialEq, Eq)]
@@ -94,13 +101,13 @@ impl Model for PageBytes {
 
     ghost view = { λ p. p.bytes.items };
 
-    ghost invariant = { λ p. length p.bytes.items ≡ 4096 };
+    ghost invariant = { λ p. length p.bytes.items ≡ PAGE_BYTES };
 }
 
 impl PageBytes {
     /// A page of these bytes.
     pub fn new(bytes: Vec<u8>) -> Self
-        requires { length bytes.items ≡ 4096 }
+        requires { length bytes.items ≡ PAGE_BYTES }
         ensures { result ≡ bytes.items }
     {
         PageBytes { bytes }
@@ -109,7 +116,7 @@ impl PageBytes {
     /// The bytes, from the lowest address on.
     pub fn as_slice(&self) -> &[u8]
         ensures bytes { result.now ≡ self.now }
-        ensures whole { length self.now ≡ 4096 }
+        ensures whole { length self.now ≡ PAGE_BYTES }
         ensures small { All (λ b. b < 256) self.now }
     {
         let bytes = self.bytes.as_slice();
@@ -118,7 +125,7 @@ impl PageBytes {
 
     /// Replaces one byte, by its place in the page.
     pub fn put(&mut self, at: usize, byte: u8)
-        requires { at < 4096 }
+        requires { at < PAGE_BYTES }
         ensures { self.new ≡ slice_set self.old at byte }
     {
         self.bytes[at] = byte;

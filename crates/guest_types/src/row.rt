@@ -91,26 +91,13 @@ impl StoreRow {
     pub fn memory(self) -> Width
         ensures { result ≡ width_of_size self.msz }
     {
-        width_of_size(self.msz)
+        Width::of(self.msz)
     }
 
     /// The width of an element in the register.
     pub fn element(self) -> Width
         ensures { result ≡ width_of_size self.size }
     {
-        width_of_size(self.size)
-    }
-}
-
-// The width of so many bytes by their logarithm.
-fn width_of_size(size: u32) -> Width
-    requires { size ≤ 3 }
-    ensures { result ≡ width_of_size size }
-{
-    match size {
-        0 => Width::B,
-        1 => Width::H,
-        2 => Width::S,
-        _ => Width::D,
+        Width::of(self.size)
     }
 }

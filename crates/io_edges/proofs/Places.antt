@@ -35,11 +35,11 @@ found_from name (file ∷ files) from =
       | false ↦ λ other. found_later name file files from _ other (found_from name files (from + 1))
     ]) refl
 
-pub found : (name : List ℕ) (files : List NamedFile) (at : Option ℕ) → at ≡ position (has_name name) files → Found name files 0 at
-found name files at e = subst (Found name files 0) (sym (e ∙ position_from-zero (has_name name) files)) (found_from name files 0)
+pub position_found : (name : List ℕ) (files : List NamedFile) (at : Option ℕ) → at ≡ position (has_name name) files → Found name files 0 at
+position_found name files at e = subst (Found name files 0) (sym (e ∙ position_from-zero (has_name name) files)) (found_from name files 0)
 
 pub content_none : (name : List ℕ) (files : List NamedFile) → None ≡ position (has_name name) files → content (entries files) name ≡ None
-content_none name files e = found name files None e
+content_none name files e = position_found name files None e
 
 -- the file at that place has the bytes
 content_first : (name : List ℕ) (files : List NamedFile) (place : ℕ) (d : NamedFile) → IsFirst name files place → content (entries files) name ≡ Some (get_or files place d).bytes.items
@@ -49,7 +49,7 @@ content_first name (file ∷ files) (suc place) d first = cond-false _ _ _ first
 
 first_at : (name : List ℕ) (files : List NamedFile) (at : ℕ) → Some at ≡ position (has_name name) files → IsFirst name files at
 first_at name files at e =
-    let f = found name files (Some at) e in
+    let f = position_found name files (Some at) e in
     let same : at ≡ 0 + f.0 = f.1 in
     let place : f.0 ≡ at = omega (arith, same) in
     subst (IsFirst name files) place f.2

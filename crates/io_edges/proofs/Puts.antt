@@ -32,8 +32,8 @@ puts_nothing (Some bytes) n = record {
   cause = record { later = omega arith; failed = tt };
 }
 
-joined : (bytes x y : List ℕ) (mid new : Option (List ℕ)) → mid ≡ Some (bytes ++ x) → IfSome mid (λ b. new ≡ Some (b ++ y)) → new ≡ Some (bytes ++ (x ++ y))
-joined bytes x y mid new is h = (subst (λ m. IfSome m (λ b. new ≡ Some (b ++ y))) is h) ∙ ap Some (append_assoc bytes x y)
+both_gained : (bytes x y : List ℕ) (mid new : Option (List ℕ)) → mid ≡ Some (bytes ++ x) → IfSome mid (λ b. new ≡ Some (b ++ y)) → new ≡ Some (bytes ++ (x ++ y))
+both_gained bytes x y mid new is h = (subst (λ m. IfSome m (λ b. new ≡ Some (b ++ y))) is h) ∙ ap Some (append_assoc bytes x y)
 
 joined_part : (bytes x y : List ℕ) (mid new : Option (List ℕ)) → mid ≡ Some (bytes ++ x) → IfSome mid (λ b. GainsPart b new y) → GainsPart bytes new (x ++ y)
 joined_part bytes x y mid new is h =
@@ -75,7 +75,7 @@ puts_then (Some bytes) mid new a b c x y first result is p q =
     }
   where
     by : (r : Result (Unit {0}) Failed) → OnOk r (IfSome mid (λ b. new ≡ Some (b ++ y))) → mid ≡ Some (bytes ++ x) → OnOk r (new ≡ Some (bytes ++ (x ++ y)))
-    by (Ok done) h whole = joined bytes x y mid new whole h
+    by (Ok done) h whole = both_gained bytes x y mid new whole h
     by (Err failed) h whole = tt
 
 -- a text at which the output failed, and so nothing of another

@@ -1,4 +1,5 @@
 pub mod Files
+pub mod Requests
 pub mod Sink
 pub mod Source
 pub mod Calls

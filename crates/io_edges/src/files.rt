@@ -1,7 +1,8 @@
 //! Files by name.
 
-ghost use Rattle.std.specs.Prelude.{◌≡◌, ◌≢◌, ℕ, Bool, List, Option, IsTrue, IsSome, OnErr};
+ghost use Rattle.std.specs.Prelude.{◌≡◌, ◌≢◌, ℕ, Bool, List, Option, None, IsTrue, IsSome, OnErr};
 ghost use Rattle.io_edges.specs.Files.{HasCause, Reads, Writes, ReadsSteadily, WritesSteadily};
+ghost use Rattle.io_edges.specs.Requests.{ReadOf, Request, Requested, WriteOf, failed_in};
 
 use std::alloc::Global;
 use thiserror::Error;
@@ -37,6 +38,10 @@ pub trait Files {
     /// No call fails from here on, but a read of a name that is not held.
     ghost steady: { Self → Bool };
 
+    /// The calls so far, in order, with how each came out, where they are told. Whoever hands files in can tell them by a type of
+    /// its own; nothing is told where an `impl` leaves it out.
+    ghost requests: { Self → Option (List Request) } = { λ _. None };
+
     /// Appends the bytes of the file to `into`. The memory for them comes from the allocator of
     /// `into`, and what an implementation needs besides comes from `alloc`.
     fn read(&mut self, alloc: Global, name: &str, into: &mut Vec<u8>) -> Result<(), FileError>
@@ -44,7 +49,8 @@ pub trait Files {
         ensures err { OnErr result (into.new.items ≡ into.old.items) }
         ensures same { held self.new ≡ held self.old }
         ensures cause { HasCause (faults self.old) (faults self.new) result }
-        ensures steady { ReadsSteadily (steady self.old) (steady self.new) (held self.old) name.now result };
+        ensures steady { ReadsSteadily (steady self.old) (steady self.new) (held self.old) name.now result }
+        ensures asked { Requested (requests self.old) (requests self.new) (ReadOf name.now (failed_in result)) };
 
     /// Makes the file hold exactly these bytes. A refusal may leave any bytes under that name, or
     /// none.
@@ -52,7 +58,8 @@ pub trait Files {
         ensures bytes { Writes (held self.old) (held self.new) name.now bytes.now result }
         ensures not_long { result ≢ Err FileError.TooLong }
         ensures cause { HasCause (faults self.old) (faults self.new) result }
-        ensures steady { WritesSteadily (steady self.old) (steady self.new) result };
+        ensures steady { WritesSteadily (steady self.old) (steady self.new) result }
+        ensures asked { Requested (requests self.old) (requests self.new) (WriteOf name.now bytes.now (failed_in result)) };
 
     // Steady files tell what they hold.
     ghost told: { (files : Self) → IsTrue (steady files) → IsSome (held files) };

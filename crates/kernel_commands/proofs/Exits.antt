@@ -1,18 +1,14 @@
 -- What `check` and `eval` owe where they end by a refusal.
 use mathlib.Core.Logic.{⊎_elim}
-use Rattle.std.proofs.Common.{◌≡◌, ◌≢◌, ◌⊎◌, Option, Some, None, Result, Err, sym, ◌∙◌}
-use Rattle.std.specs.Prelude.{IfSome, IsErrAnd}
+use Rattle.std.proofs.Common.{◌≡◌, ◌≢◌, ◌⊎◌, Result, Err, sym, ◌∙◌}
+use Rattle.std.specs.Prelude.{IsErrAnd}
 use Rattle.refusals.specs.declared.refusal.Refusal.{Refusal}
 use Rattle.refusals.specs.declared.refusal.Refusal.TheVariants.{TooManyLive, Kernel, Memory, File, Output}
-use Rattle.command_answers.specs.Answer.{HeldFiles, Expected, Answer}
+use Rattle.command_answers.specs.Answer.{Expected, Answer}
 use Rattle.command_answers.specs.Reads.{IsOfRead}
 use Rattle.command_answers.proofs.Reading.{is_err}
 use Rattle.command_answers.proofs.Exits.{same_refusal, of_reading}
 use Rattle.kernel_commands.specs.Commands.{RefusesText}
-
-pub steady_anyway : (held : Option HeldFiles) (Q : HeldFiles → Type 0) (result : Answer) → result ≢ Err File → IfSome held (λ h. Q h → result ≢ Err File)
-steady_anyway None Q result h = tt
-steady_anyway (Some held) Q result h = λ q. h
 
 differ : ◌≡◌ {A = Answer} (Err File) (Err Output) → ⊥
 differ e = absurd cc

@@ -2,3 +2,4 @@ pub mod Exits
 pub mod Expectations
 pub mod Verdicts
 pub mod Evaluations
+pub mod Requested

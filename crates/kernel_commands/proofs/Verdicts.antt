@@ -51,11 +51,11 @@ unfolding typing_at
 failing item fault.Unknown = record { explains = (Fails (record { item = item; fault = fault.Unknown }), refl, refl); of_text = tt }
 failing item other = record { explains = (Fails (record { item = item; fault = other }), refl, refl); of_text = tt }
 
-refused : (r : Typing) → Explained (Refused r) (kernels.Broken (typing_of r))
+explained_refusal : (r : Typing) → Explained (Refused r) (kernels.Broken (typing_of r))
 unfolding typing_of
-refused (TooLarge size) = record { explains = (TooLarge size, refl, refl); of_text = tt }
-refused (TooDeep depth) = record { explains = (TooDeep depth, refl, refl); of_text = tt }
-refused (Fails found) = failing found.item found.fault
+explained_refusal (TooLarge size) = record { explains = (TooLarge size, refl, refl); of_text = tt }
+explained_refusal (TooDeep depth) = record { explains = (TooDeep depth, refl, refl); of_text = tt }
+explained_refusal (Fails found) = failing found.item found.fault
 
 -- a limit that a text passes is one of three
 abbrev pub IsLimit : Option ReadFault → Type 0
@@ -95,7 +95,7 @@ on_verdict sound text (Limited f) h =
 on_verdict sound text (NoKernel token) h =
     (Err (Kernel (kernels.Unread (reading.Syntax token))), record { fault = kernels.Unread (reading.Syntax token); explains = refl; of_text = tt; is_refused = refl })
 on_verdict sound text (Refused r) h =
-    let e = refused r in
+    let e = explained_refusal r in
     (Err (Kernel (kernels.Broken (typing_of r))), record { fault = kernels.Broken (typing_of r); explains = e.explains; of_text = e.of_text; is_refused = refl })
 on_verdict sound text (Sound k) h = (sound k, refl)
 

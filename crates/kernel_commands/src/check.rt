@@ -1,6 +1,7 @@
 //! The command `check IN`.
 
-ghost use Rattle.std.specs.Prelude.{◌≡◌, ◌≢◌, Some, Err, IfSome, IsSome, IfOk, IfErr, IsTrue, []};
+ghost use Rattle.command_answers.specs.Requests.{Asks, IsNotOfFiles, Read};
+ghost use Rattle.std.specs.Prelude.{◌∷◌, ◌≡◌, ◌≢◌, Some, Err, IfSome, IsSome, IfOk, IfErr, IsTrue, []};
 ghost use Rattle.io_edges.specs.Files.{Rose, content};
 ghost use Rattle.command_answers.specs.Answer.{answer_of, expected_text, IsAnswer, IsQuiet};
 ghost use Rattle.kernel_commands.specs.Commands.{CheckExpects, ExpectsCheck, RefusesText, IsOfCheck};
@@ -47,6 +48,7 @@ pub fn check<F: Files, S: Sink>(
     ensures steady { IsTrue (F.steady files.old)
         → IfSome (F.held files.old) (λ held. IsSome (content held from.now) → result ≢ Err Refusal.File) }
     ensures of_check { IsOfCheck result }
+    ensures asked { Asks IsNotOfFiles (F.requests files.old) (F.requests files.new) (Read from.now ∷ []) result }
 {
     let text = read_file(alloc, from, files)?;
     let report = check_kernel(alloc, &text)?;

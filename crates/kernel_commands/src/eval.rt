@@ -1,5 +1,6 @@
 //! The command `eval`.
 
+ghost use Rattle.command_answers.specs.Requests.{Asks, IsNotOfFiles, task_wants};
 ghost use Rattle.std.specs.Prelude.{◌≡◌, ◌≢◌, Some, Err, IfSome, IfOk, IfErr, IsTrue, option_map, string_bytes, []};
 ghost use Rattle.io_edges.specs.Files.{Rose};
 ghost use Rattle.kernel_tree.specs.Plain.{program_of};
@@ -90,6 +91,7 @@ pub fn eval<F: Files, S: Sink>(
     ensures steady { IsTrue (F.steady files.old)
         → IfSome (F.held files.old) (λ held. IsTaskHeld held (task_view task.now) → result ≢ Err Refusal.File) }
     ensures of_eval { IsOfEval result }
+    ensures asked { Asks IsNotOfFiles (F.requests files.old) (F.requests files.new) (task_wants (task_view task.now)) result }
 {
     let read = read_task(alloc, task, files)?;
     let run_report = evaluate_text(alloc, task, &read.file, &read.map)?;

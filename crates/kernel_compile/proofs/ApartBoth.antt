@@ -12,12 +12,11 @@ use Rattle.kernel_tree.specs.declared.ops.Ty.{Ty}
 use Rattle.kernel_tree.specs.declared.ast.Shape.{Shape}
 use Rattle.kernel_tree.specs.Plain.{Parameter, PlainLoop, Program}
 use Rattle.kernel_tree.specs.Typing.{element_type, binding_of_shape}
-use Rattle.kernel_meaning.specs.Eval.{byte_count}
 use Rattle.kernel_meaning.specs.ScalarRun.{argument_names, argument, bound_of}
 use Rattle.loop_form.specs.declared.stream.Stream.{Stream}
 use Rattle.loop_form.specs.declared.reach.Reach.{Reach}
 use Rattle.loop_form.specs.Reaches.{reaches_of}
-use Rattle.loop_form.specs.Lanes.{width_of}
+use Rattle.loop_form.specs.Lanes.{type_width}
 use Rattle.loop_form.specs.Streams.{streams_of, is_of, offsets_of, least_offset, greatest_offset, type_of_place, In}
 use Rattle.loop_form.proofs.StreamLaws.{in_any}
 use Rattle.dependence.specs.declared.used.Extent.TheVariants as extent
@@ -28,13 +27,15 @@ use Rattle.vector_order.specs.Apart.{is_store_of, one_array, size_of_type, place
 use Rattle.kernel_compile.proofs.ArrayStreams.{IsTyped, IsReadTyped}
 use Rattle.kernel_tree.specs.declared.ops.Ty.TheVariants as ty
 use Rattle.kernel_tree.specs.declared.ast.Shape.TheVariants as shape
+use Rattle.kernel_tree.specs.Wrap.{byte_count}
 use Rattle.dependence.specs.Apart as by_use
+use Rattle.overlap_guard.proofs.CheckedKernels.{le_z_trans}
 
 -- ---- a parameter that is used is found
 
 -- what is known of the parameter at a place, an array, by the accesses
 abbrev used_for : ℕ → Ty → List Stream → Used
-used_for p t ss = record { place = p; width = width_of t; least = least_offset (offsets_of p ss); extent = extent.Streams (greatest_offset (offsets_of p ss)); stored = list_any (is_store_of p) ss }
+used_for p t ss = record { place = p; width = type_width t; least = least_offset (offsets_of p ss); extent = extent.Streams (greatest_offset (offsets_of p ss)); stored = list_any (is_store_of p) ss }
 
 abbrev IsIn : Used → List Used → Type 0
 IsIn u [] = ⊥
@@ -86,17 +87,17 @@ unfolding by_use.greatest_of
 greatest_same c [] = refl
 greatest_same c (s ∷ ss) = greatest_same (int_max c s.offset) ss
 
-used_alone : (p : ℕ) (t : Ty) (ss : List Stream) → list_any (is_of p) ss ≡ true → used_by p (width_of t) (filter (is_of p) ss) ≡ used_for p t ss ∷ []
+used_alone : (p : ℕ) (t : Ty) (ss : List Stream) → list_any (is_of p) ss ≡ true → used_by p (type_width t) (filter (is_of p) ss) ≡ used_for p t ss ∷ []
 used_alone p t ss some = by (filter (is_of p) ss) (some_filtered p ss some) (offsets_filtered p ss) (stored_filtered p ss)
   where
-    by : (fs : List Stream) → (fs ≡ [] → ⊥) → offsets_of p ss ≡ map offset_of fs → list_any (is_store_of p) ss ≡ list_any by_use.is_store fs → used_by p (width_of t) fs ≡ used_for p t ss ∷ []
+    by : (fs : List Stream) → (fs ≡ [] → ⊥) → offsets_of p ss ≡ map offset_of fs → list_any (is_store_of p) ss ≡ list_any by_use.is_store fs → used_by p (type_width t) fs ≡ used_for p t ss ∷ []
     by [] ne o st = absurd (ne refl)
     by (s ∷ fs) ne o st =
         let low : least_offset (offsets_of p ss) ≡ by_use.least_of s.offset fs = ap least_offset o ∙ least_same s.offset fs in
         let high : greatest_offset (offsets_of p ss) ≡ by_use.greatest_of s.offset fs = ap greatest_offset o ∙ greatest_same s.offset fs in
-        ap (λ (c : ℤ). record { place = p; width = width_of t; least = c; extent = extent.Streams (by_use.greatest_of s.offset fs); stored = list_any by_use.is_store (s ∷ fs) } ∷ []) (sym low)
-        ∙ ap (λ (c : ℤ). record { place = p; width = width_of t; least = least_offset (offsets_of p ss); extent = extent.Streams (c); stored = list_any by_use.is_store (s ∷ fs) } ∷ []) (sym high)
-        ∙ ap (λ (b : Bool). record { place = p; width = width_of t; least = least_offset (offsets_of p ss); extent = extent.Streams (greatest_offset (offsets_of p ss)); stored = b } ∷ []) (sym st)
+        ap (λ (c : ℤ). record { place = p; width = type_width t; least = c; extent = extent.Streams (by_use.greatest_of s.offset fs); stored = list_any by_use.is_store (s ∷ fs) } ∷ []) (sym low)
+        ∙ ap (λ (c : ℤ). record { place = p; width = type_width t; least = least_offset (offsets_of p ss); extent = extent.Streams (c); stored = list_any by_use.is_store (s ∷ fs) } ∷ []) (sym high)
+        ∙ ap (λ (b : Bool). record { place = p; width = type_width t; least = least_offset (offsets_of p ss); extent = extent.Streams (greatest_offset (offsets_of p ss)); stored = b } ∷ []) (sym st)
 
 none_filtered : (p : ℕ) (ss : List Stream) → list_any (is_of p) ss ≡ false → filter (is_of p) ss ≡ []
 none_filtered p [] e = refl
@@ -163,7 +164,7 @@ none_reads (x ∷ xs) r e i = absurd cc
 -- what is known of the parameter at a place, an array, takes in what its accesses and reads come to in n iterations
 record Covers (n p : ℕ) (t : Ty) (ss : List Stream) (rs : List Reach) (u : Used) : Type 0 where
   place : u.place ≡ p
-  width : u.width ≡ width_of t
+  width : u.width ≡ type_width t
   stored : list_any (is_store_of p) ss ≡ true → u.stored ≡ true
   low : list_any (is_of p) ss ≡ true → u.least ≤ℤ least_offset (offsets_of p ss)
   high : list_any (is_of p) ss ≡ true → (pos n +ℤ greatest_offset (offsets_of p ss)) ≤ℤ highest n u.extent
@@ -185,9 +186,6 @@ most_both a m = (omega (arith, ints, clamps), omega (arith, ints, clamps))
 le_refl : (a : ℤ) → a ≤ℤ a
 le_refl a = omega (arith, ints)
 
-le_trans : (a b c : ℤ) → a ≤ℤ b → b ≤ℤ c → a ≤ℤ c
-le_trans a b c h j = omega (arith, ints, h, j)
-
 lt_le : (a b c : ℤ) → a <ℤ b → b ≤ℤ c → a <ℤ c
 lt_le a b c h j = omega (arith, ints, h, j)
 
@@ -195,7 +193,7 @@ pos_le : (a b : ℕ) → a ≤ b → pos a ≤ℤ pos b
 pos_le a b h = omega (arith, ints, h)
 
 module _ (n p : ℕ) (t : Ty) (ss : List Stream) (rs : List Reach) where
-  with_streams : list_any (is_of p) ss ≡ true → (o : Option ℕ) → greatest_reach (filter (is_reach_of p) rs) ≡ o → Covered n p t ss rs (with_reach p (width_of t) o (used_for p t ss ∷ []))
+  with_streams : list_any (is_of p) ss ≡ true → (o : Option ℕ) → greatest_reach (filter (is_reach_of p) rs) ≡ o → Covered n p t ss rs (with_reach p (type_width t) o (used_for p t ss ∷ []))
   with_streams some None none = (
     used_for p t ss,
     inl refl,
@@ -210,7 +208,7 @@ module _ (n p : ℕ) (t : Ty) (ss : List Stream) (rs : List Reach) where
     },
   )
   with_streams some (Some m) is = (
-    record { place = p; width = width_of t; least = int_min (least_offset (offsets_of p ss)) (pos 0); extent = extent.Both (greatest_offset (offsets_of p ss)) m; stored = list_any (is_store_of p) ss },
+    record { place = p; width = type_width t; least = int_min (least_offset (offsets_of p ss)) (pos 0); extent = extent.Both (greatest_offset (offsets_of p ss)) m; stored = list_any (is_store_of p) ss },
     inl refl,
     record {
       place = refl;
@@ -219,14 +217,14 @@ module _ (n p : ℕ) (t : Ty) (ss : List Stream) (rs : List Reach) where
       low = λ h. (least_both (least_offset (offsets_of p ss))).0;
       high = λ h. (most_both (pos n +ℤ greatest_offset (offsets_of p ss)) m).0;
       zeroed = λ r i e. (least_both (least_offset (offsets_of p ss))).1;
-      far = λ r i e. le_trans (pos r.reach) (pos m) _ (pos_le r.reach m (within_greatest (filter (is_reach_of p) rs) m r is (reach_there p rs r i e))) (most_both (pos n +ℤ greatest_offset (offsets_of p ss)) m).1;
+      far = λ r i e. le_z_trans (pos r.reach) (pos m) _ (pos_le r.reach m (within_greatest (filter (is_reach_of p) rs) m r is (reach_there p rs r i e))) (most_both (pos n +ℤ greatest_offset (offsets_of p ss)) m).1;
     },
   )
 
-  without_streams : list_any (is_of p) ss ≡ false → Reads rs p → (o : Option ℕ) → greatest_reach (filter (is_reach_of p) rs) ≡ o → Covered n p t ss rs (with_reach p (width_of t) o [])
+  without_streams : list_any (is_of p) ss ≡ false → Reads rs p → (o : Option ℕ) → greatest_reach (filter (is_reach_of p) rs) ≡ o → Covered n p t ss rs (with_reach p (type_width t) o [])
   without_streams none reads None nil = absurd (none_reads (filter (is_reach_of p) rs) reads.0 nil (reach_there p rs reads.0 reads.1 reads.2))
   without_streams none reads (Some m) is = (
-    record { place = p; width = width_of t; least = pos 0; extent = extent.Computed m; stored = false },
+    record { place = p; width = type_width t; least = pos 0; extent = extent.Computed m; stored = false },
     inl refl,
     record {
       place = refl;
@@ -239,13 +237,13 @@ module _ (n p : ℕ) (t : Ty) (ss : List Stream) (rs : List Reach) where
     },
   )
 
-  covered_by : Uses p ss rs → Covered n p t ss rs (with_reach p (width_of t) (greatest_reach (filter (is_reach_of p) rs)) (used_by p (width_of t) (filter (is_of p) ss)))
+  covered_by : Uses p ss rs → Covered n p t ss rs (with_reach p (type_width t) (greatest_reach (filter (is_reach_of p) rs)) (used_by p (type_width t) (filter (is_of p) ss)))
   covered_by uses = by (list_any (is_of p) ss) refl uses
     where
-      by : (b : Bool) → list_any (is_of p) ss ≡ b → Uses p ss rs → Covered n p t ss rs (with_reach p (width_of t) (greatest_reach (filter (is_reach_of p) rs)) (used_by p (width_of t) (filter (is_of p) ss)))
-      by true e h = subst (λ us. Covered n p t ss rs (with_reach p (width_of t) (greatest_reach (filter (is_reach_of p) rs)) us)) (sym (used_alone p t ss e)) (with_streams e (greatest_reach (filter (is_reach_of p) rs)) refl)
+      by : (b : Bool) → list_any (is_of p) ss ≡ b → Uses p ss rs → Covered n p t ss rs (with_reach p (type_width t) (greatest_reach (filter (is_reach_of p) rs)) (used_by p (type_width t) (filter (is_of p) ss)))
+      by true e h = subst (λ us. Covered n p t ss rs (with_reach p (type_width t) (greatest_reach (filter (is_reach_of p) rs)) us)) (sym (used_alone p t ss e)) (with_streams e (greatest_reach (filter (is_reach_of p) rs)) refl)
       by false e (inl some) = absurd cc
-      by false e (inr reads) = subst (λ fs. Covered n p t ss rs (with_reach p (width_of t) (greatest_reach (filter (is_reach_of p) rs)) (used_by p (width_of t) fs))) (sym (none_filtered p ss e)) (without_streams e reads (greatest_reach (filter (is_reach_of p) rs)) refl)
+      by false e (inr reads) = subst (λ fs. Covered n p t ss rs (with_reach p (type_width t) (greatest_reach (filter (is_reach_of p) rs)) (used_by p (type_width t) fs))) (sym (none_filtered p ss e)) (without_streams e reads (greatest_reach (filter (is_reach_of p) rs)) refl)
 
 covered_at : (n p : ℕ) (ss : List Stream) (rs : List Reach) (h : Shape) (t : Ty) → element_type (binding_of_shape h) ≡ Some t → Uses p ss rs → Covered n p t ss rs (used_at ss rs p h)
 covered_at n p ss rs (shape.Scalar u) t e uses = absurd cc
@@ -333,7 +331,7 @@ base_given [] args p t e = absurd cc
 base_given (q ∷ ps) args zero t e = array_value q.shape (slice_index args 0) t e
 base_given (q ∷ ps) args (suc p) t e = base_given ps (drop 1 args) p t e ∙ ap pos (dropped args p)
 
-same_bytes : (t : Ty) → byte_count t ≡ width_bytes (width_of t)
+same_bytes : (t : Ty) → byte_count t ≡ width_bytes (type_width t)
 same_bytes ty.I8 = refl
 same_bytes other = refl
 
@@ -350,17 +348,17 @@ scaled_zero b B = omega (arith, ints)
 scaled_zero b other = omega (arith, ints)
 
 module _ (k : Program) (args : List ℕ) where
-  begin_same : (p : ℕ) (t : Ty) → type_of_place k.params p ≡ Some t → begin_of k args p ≡ scaled (slice_index args p) (width_of t) (least_offset (offsets_of p (streams_of k)))
+  begin_same : (p : ℕ) (t : Ty) → type_of_place k.params p ≡ Some t → begin_of k args p ≡ scaled (slice_index args p) (type_width t) (least_offset (offsets_of p (streams_of k)))
   begin_same p t e =
       ap (λ (b : ℤ). b +ℤ pos (place_size k.params p) *ℤ least_offset (offsets_of p (streams_of k))) (base_given k.params args p t e)
       ∙ ap (λ (s : ℕ). pos (slice_index args p) +ℤ pos s *ℤ least_offset (offsets_of p (streams_of k))) (ap size_of_type e ∙ same_bytes t)
 
-  end_same : (n p : ℕ) (t : Ty) → type_of_place k.params p ≡ Some t → end_of k args n p ≡ scaled (slice_index args p) (width_of t) (pos n +ℤ greatest_offset (offsets_of p (streams_of k)))
+  end_same : (n p : ℕ) (t : Ty) → type_of_place k.params p ≡ Some t → end_of k args n p ≡ scaled (slice_index args p) (type_width t) (pos n +ℤ greatest_offset (offsets_of p (streams_of k)))
   end_same n p t e =
       ap (λ (b : ℤ). b +ℤ pos (place_size k.params p) *ℤ (pos n +ℤ greatest_offset (offsets_of p (streams_of k)))) (base_given k.params args p t e)
       ∙ ap (λ (s : ℕ). pos (slice_index args p) +ℤ pos s *ℤ (pos n +ℤ greatest_offset (offsets_of p (streams_of k)))) (ap size_of_type e ∙ same_bytes t)
 
-  reach_same : (m p : ℕ) (t : Ty) → type_of_place k.params p ≡ Some t → base_of k args p +ℤ (pos (place_size k.params p) *ℤ pos m) ≡ scaled (slice_index args p) (width_of t) (pos m)
+  reach_same : (m p : ℕ) (t : Ty) → type_of_place k.params p ≡ Some t → base_of k args p +ℤ (pos (place_size k.params p) *ℤ pos m) ≡ scaled (slice_index args p) (type_width t) (pos m)
   reach_same m p t e =
       ap (λ (b : ℤ). b +ℤ pos (place_size k.params p) *ℤ pos m) (base_given k.params args p t e)
       ∙ ap (λ (s : ℕ). pos (slice_index args p) +ℤ pos s *ℤ pos m) (ap size_of_type e ∙ same_bytes t)
@@ -411,8 +409,8 @@ module _ (k : Program) (args : List ℕ) where
     one_place : (p q : ℕ) → length (used_of k) ≤ 1 → IsUsed 0 p → IsUsed 0 q → p ≡ q
     one_place p q few a b = sym a.covers.place ∙ ap (λ (x : Used). x.place) (one_in (used_of k) a.used b.used few a.found b.found) ∙ b.covers.place
 
-    alone : length (used_of k) ≤ 1 → OneUsed k
-    alone few = record { streams = by (streams_of k) refl; reads = λ s r i j. one_place s.param r.param few (used_own 0 s i) (read_used 0 r j) }
+    one_used_of_few : length (used_of k) ≤ 1 → OneUsed k
+    one_used_of_few few = record { streams = by (streams_of k) refl; reads = λ s r i j. one_place s.param r.param few (used_own 0 s i) (read_used 0 r j) }
       where
         by : (ss : List Stream) → streams_of k ≡ ss → one_array ss ≡ true
         by [] e = refl
@@ -426,21 +424,21 @@ module _ (k : Program) (args : List ℕ) where
         (slice_index args p, base_given k.params args p u.type u.shown, b.0, b.1)
 
     -- the ends of what is used, by the parameter's place and type
-    begin_at : (n p : ℕ) (u : IsUsed n p) → begin_in args u.used ≡ scaled (slice_index args p) (width_of u.type) u.used.least
+    begin_at : (n p : ℕ) (u : IsUsed n p) → begin_in args u.used ≡ scaled (slice_index args p) (type_width u.type) u.used.least
     begin_at n p u = ap₂ (λ q w. scaled (slice_index args q) w u.used.least) u.covers.place u.covers.width
 
-    end_at : (n p : ℕ) (u : IsUsed n p) → end_in args n u.used ≡ scaled (slice_index args p) (width_of u.type) (highest n u.used.extent)
+    end_at : (n p : ℕ) (u : IsUsed n p) → end_in args n u.used ≡ scaled (slice_index args p) (type_width u.type) (highest n u.used.extent)
     end_at n p u = ap₂ (λ q w. scaled (slice_index args q) w (highest n u.used.extent)) u.covers.place u.covers.width
 
     -- an address in what is used
     abbrev IsAt : (n p : ℕ) → IsUsed n p → ℤ → Type 0
     IsAt n p u z = (begin_in args u.used ≤ℤ z) × (z <ℤ end_in args n u.used)
 
-    lies : (n p : ℕ) (u : IsUsed n p) (x y z : ℤ) → u.used.least ≤ℤ x → y ≤ℤ highest n u.used.extent → scaled (slice_index args p) (width_of u.type) x ≤ℤ z → z <ℤ scaled (slice_index args p) (width_of u.type) y → IsAt n p u z
+    lies : (n p : ℕ) (u : IsUsed n p) (x y z : ℤ) → u.used.least ≤ℤ x → y ≤ℤ highest n u.used.extent → scaled (slice_index args p) (type_width u.type) x ≤ℤ z → z <ℤ scaled (slice_index args p) (type_width u.type) y → IsAt n p u z
     lies n p u x y z low high from to =
         let b : ℕ = slice_index args p in
-        let w : Width = width_of u.type in (
-          subst (λ c. c ≤ℤ z) (sym (begin_at n p u)) (le_trans (scaled b w u.used.least) (scaled b w x) z (scaled_le b w u.used.least x low) from),
+        let w : Width = type_width u.type in (
+          subst (λ c. c ≤ℤ z) (sym (begin_at n p u)) (le_z_trans (scaled b w u.used.least) (scaled b w x) z (scaled_le b w u.used.least x low) from),
           subst (λ c. z <ℤ c) (sym (end_at n p u)) (lt_le z (scaled b w y) (scaled b w (highest n u.used.extent)) to (scaled_le b w y (highest n u.used.extent) high)),
         )
 
@@ -452,7 +450,7 @@ module _ (k : Program) (args : List ℕ) where
     reached_used : (n : ℕ) (r : Reach) (z : ℤ) (u : IsUsed n r.param) → Among r (reaches_of k) → Reached k args r z → IsAt n r.param u z
     reached_used n r z u i w =
         lies n r.param u (pos 0) (pos r.reach) z (u.covers.zeroed r i refl) (u.covers.far r i refl)
-        (subst (λ b. b ≤ℤ z) (base_given k.params args r.param u.type u.shown ∙ sym (scaled_zero (slice_index args r.param) (width_of u.type))) w.0) (subst (λ e. z <ℤ e) (reach_same r.reach r.param u.type u.shown) w.1)
+        (subst (λ b. b ≤ℤ z) (base_given k.params args r.param u.type u.shown ∙ sym (scaled_zero (slice_index args r.param) (type_width u.type))) w.0) (subst (λ e. z <ℤ e) (reach_same r.reach r.param u.type u.shown) w.1)
 
     either_stored : (b c : Bool) → b ≡ true → (b || c ≡ true) × (c || b ≡ true)
     either_stored true true e = (refl, refl)
@@ -493,5 +491,5 @@ apart_both k args l typed read_typed is bound h = subst (λ o. StreamsApartBy k 
   where
     by : by_use.Apart k args → StreamsApartBy k args (Some l)
     by (inl none) = inl (none_stored k args typed read_typed none)
-    by (inr (inl few)) = inr (inl (alone k args typed read_typed few))
+    by (inr (inl few)) = inr (inl (one_used_of_few k args typed read_typed few))
     by (inr (inr in_range)) = inr (inr (subst (λ n. Separate k args n) (sym bound) (separate k args typed read_typed (slice_index args (bound_place k)) in_range)))

@@ -12,7 +12,7 @@ use Rattle.kernel_tree.specs.Typing.{local, has_name, binding_of, binding_of_sha
 use Rattle.kernel_tree.specs.Scopes.{locals_of, accs_of}
 use Rattle.kernel_tree.proofs.Scopes.{var_visible}
 use Rattle.kernel_tree.proofs.NoFault.{bound_scalar}
-use Rattle.kernel_tree.proofs.Names.{no_scalar}
+use Rattle.kernel_tree.proofs.Names.{accumulator_is_no_scalar}
 use Rattle.kernel_meaning.specs.Operators.{word}
 use Rattle.kernel_meaning.specs.Eval.{Names, is_named, value_of, value_at}
 use Rattle.kernel_meaning.specs.Iterate.{named}
@@ -21,7 +21,7 @@ use Rattle.kernel_meaning.proofs.Started.{started_names, started_bound}
 use Rattle.loop_form.specs.declared.stream.Stream.{Stream}
 use Rattle.loop_form.specs.declared.reach.Reach.{Reach}
 use Rattle.loop_form.specs.Reaches.{reaches_of}
-use Rattle.loop_form.specs.Lanes.{width_of}
+use Rattle.loop_form.specs.Lanes.{type_width}
 use Rattle.loop_form.specs.Streams.{place_from, streams_of, is_of, type_of_place}
 use Rattle.dependence.specs.declared.used.Used.{Used}
 use Rattle.dependence.specs.Apart.{is_reach_of, greatest_reach, with_reach, used_by, used_at, used_from, used_of, bound_in, bound_place}
@@ -35,6 +35,8 @@ use Rattle.kernel_compile.proofs.ApartBoth.{base_given, dropped}
 use Rattle.kernel_tree.specs.declared.ops.Ty.TheVariants as ty
 use Rattle.kernel_tree.specs.declared.ast.Shape.TheVariants as shape
 use Rattle.kernel_tree.specs.declared.fault.Binding.TheVariants as binding
+use Rattle.loop_form.proofs.Places.{typed_place-below}
+use Rattle.loop_code.proofs.BeginRuns.{small_word}
 
 -- ---- parameters in their registers
 
@@ -48,23 +50,15 @@ held_from n (q ∷ ps) hs (m ∷ names) s (suc p) r h lt at = held_from (n + 1) 
 pub params_held : (R : ℕ → ℕ) (k : Program) (names : Names) (s : State) → AreHeld (kernel_homes R k) names s → (p : ℕ) → p < length k.params → x_at s p ≡ word (nth_value names p)
 params_held R k names s h p lt = held_from 0 k.params (var_homes R 0 k.vars) names s p p h lt (omega arith)
 
-word_small : (n : ℕ) → n < 2 ^ 64 → word (pos n) ≡ n
-word_small n lt = mod-eq_of_lt lt
-
 -- an argument is a word, also one that is missing
 pub argument_small : (args : List ℕ) → All (λ arg. arg < 2 ^ 64) args → (p : ℕ) → slice_index args p < 2 ^ 64
 argument_small [] h p = let z : 0 < 2 ^ 64 = omega arith in z
 argument_small (a ∷ args) h zero = h 0 0 (omega arith)
 argument_small (a ∷ args) h (suc p) = argument_small args (λ j d lt. h (suc j) d (omega (arith, lt))) p
 
-place_below : (ps : List Parameter) (p : ℕ) (t : Ty) → type_of_place ps p ≡ Some t → p < length ps
-place_below [] p t e = absurd cc
-place_below (q ∷ ps) zero t e = omega arith
-place_below (q ∷ ps) (suc p) t e = let h = place_below ps p t e in omega (arith, h)
-
 -- an array's register holds its argument
 array_held : (R : ℕ → ℕ) (k : Program) (args : List ℕ) (m : Memory) (names : Names) (s : State) → All (λ arg. arg < 2 ^ 64) args → started k args m ≡ Some names → AreHeld (kernel_homes R k) names s → (p : ℕ) (t : Ty) → type_of_place k.params p ≡ Some t → x_at s p ≡ slice_index args p
-array_held R k args m names s small start h p t e = params_held R k names s h p (place_below k.params p t e) ∙ ap word (started_bases k args m names start p t e ∙ base_given k.params args p t e) ∙ word_small (slice_index args p) (argument_small args small p)
+array_held R k args m names s small start h p t e = params_held R k names s h p (typed_place-below k.params p t e) ∙ ap word (started_bases k args m names start p t e ∙ base_given k.params args p t e) ∙ small_word (slice_index args p) (argument_small args small p)
 
 -- ---- the bases of the arrays that the loop uses
 
@@ -76,7 +70,7 @@ bases_at : (args : List ℕ) (ss : List Stream) (rs : List Reach) (n : ℕ) (h :
 bases_at args ss rs n (shape.Scalar t) s held = tt
 bases_at args ss rs n (shape.Array t) s held = by (filter (is_of n) ss) (greatest_reach (filter (is_reach_of n) rs))
   where
-    by : (fs : List Stream) (o : Option ℕ) → BasesHeld args (with_reach n (width_of t) o (used_by n (width_of t) fs)) s
+    by : (fs : List Stream) (o : Option ℕ) → BasesHeld args (with_reach n (type_width t) o (used_by n (type_width t) fs)) s
     by [] None = tt
     by [] (Some r) = (held t refl, tt)
     by (f ∷ fs) None = (held t refl, tt)
@@ -108,7 +102,7 @@ whole_argument (shape.Array t) n e = absurd cc
 whole_argument (shape.Scalar t) n e = let same : t ≡ ty.U64 = cc in ap (λ u. argument (shape.Scalar u) n) same
 
 bound_from : (n : ℕ) (ps : List Parameter) (vs : List Accumulator) (args : List ℕ) (more : Names) (x : List ℕ) → option_map binding_of (find (has_name x) (locals_of ps ++ accs_of vs)) ≡ Some (binding.Scalar ty.U64) → IsBound ps x n args more
-bound_from n [] vs args more x e = absurd (no_scalar vs x ty.U64 e)
+bound_from n [] vs args more x e = absurd (accumulator_is_no_scalar vs x ty.U64 e)
 bound_from n (p ∷ ps) vs args more x e = by (bytes_eq p.name x) refl e (bound_from (n + 1) ps vs (drop 1 args) more x)
   where
     by : (b : Bool) → bytes_eq p.name x ≡ b → option_map binding_of (cond b (Some (local p.name (binding_of_shape p.shape))) (find (has_name x) (locals_of ps ++ accs_of vs))) ≡ Some (binding.Scalar ty.U64)

@@ -1,7 +1,6 @@
 -- The state in which the vector part of a kernel's code is entered.
-use Rattle.std.proofs.Common.{◌≡◌, ℕ, zero, suc, ◌+◌, ◌<◌, ◌≤◌, ◌^◌, List, [], ◌∷◌, ◌++◌, length, Option, Some, None, refl, sym, ◌∙◌, arith, ⊎_elim}
+use Rattle.std.proofs.Common.{◌≡◌, ℕ, zero, suc, ◌+◌, ◌<◌, ◌≤◌, ◌^◌, List, [], ◌∷◌, ◌++◌, length, Option, Some, None, refl, sym, ◌∙◌, arith}
 use Rattle.std.specs.Prelude.{All, slice_index, is_none, if◌then◌else◌}
-use Rattle.std.proofs.lemmas.Bool.{cases_lt}
 use Rattle.guest_types.specs.Length.{IsLength}
 use Rattle.guest_types.specs.Memory.{Memory}
 use Rattle.machine_model.specs.Machine.{State, x_at}
@@ -24,6 +23,7 @@ use Rattle.scalar_words.specs.KernelRegisters.{param_homes, var_homes, kernel_ho
 use Rattle.scalar_words.specs.Iterations.{AreHeld, AtIteration}
 use Rattle.scalar_words.proofs.AssignedOf.{counted-high}
 use Rattle.vector_emit.proofs.FromBelow.{Ground, IsGround}
+use Rattle.reserved_registers.proofs.FreeRegisters.{assigned_below}
 use Rattle.kernel_compile.proofs.ArrayStreams.{streams_typed, reaches_typed}
 use Rattle.kernel_compile.proofs.ApartBoth.{apart_both}
 use Rattle.kernel_compile.proofs.AtLoop.{params_held, bounded}
@@ -51,13 +51,8 @@ past_end [] j h = refl
 past_end (x ∷ xs) zero h = absurd (omega (arith, h))
 past_end (x ∷ xs) (suc j) h = past_end xs j (omega (arith, h))
 
--- a register of an assignment, also for an interval that there is not
-register_small : (k : Program) (a : Assignment) → FitsKernel k X a → (j : ℕ) → register_in a j < 15
-register_small k a fits j =
-    ⊎_elim (λ (within : j < length a.registers). fits.assigned.below j within) (λ (past : length a.registers ≤ j). let z = past_end a.registers j past in omega (arith, z)) (cases_lt j (length a.registers))
-
 pub homes_low : (k : Program) (a : Assignment) → FitsKernel k X a → length k.params ≤ 8 → AreLow (kernel_homes (register_in a) k)
-homes_low k a fits few = low-append (param_homes 0 k.params) (var_homes (register_in a) 0 k.vars) (params_low 0 k.params (omega (arith, few))) (vars_low (register_in a) (register_small k a fits) 0 k.vars)
+homes_low k a fits few = low-append (param_homes 0 k.params) (var_homes (register_in a) 0 k.vars) (params_low 0 k.params (omega (arith, few))) (vars_low (register_in a) (assigned_below k a fits) 0 k.vars)
 
 held_same : (hs : Homes) (names : Names) (s t : State) → AreLow hs → ((r : ℕ) → r ≤ 25 → x_at t r ≡ x_at s r) → AreHeld hs names s → AreHeld hs names t
 held_same [] [] s t low same h = tt

@@ -91,9 +91,9 @@ pub record Starts (words : List ℕ) (args : List ℕ) (pages : Memory) (s : Sta
   pub sized : length s.x ≡ 31
   pub given : (r : ℕ) → x_at s r ≡ slice_index args r
 
-pub starts : (words args : List ℕ) (pages : Memory) (vl : ℕ) (stops : StopList) → length args ≤ 8 → Starts words args pages (free_start (image_of_words words) args pages vl stops)
+pub file_starts : (words args : List ℕ) (pages : Memory) (vl : ℕ) (stops : StopList) → length args ≤ 8 → Starts words args pages (free_start (image_of_words words) args pages vl stops)
 unfolding free_start start_of
-starts words args pages vl stops few =
+file_starts words args pages vl stops few =
     let zeros : length (replicate (31 - length args) zero) ≡ 31 - length args = length-replicate (31 - length args) zero in
     record {
       memory = refl;

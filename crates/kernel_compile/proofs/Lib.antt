@@ -11,5 +11,6 @@ pub mod VectorPlaced
 pub mod VectorJoin
 pub mod VectorFiles
 pub mod VectorEmitted
+mod SlowDrafts
 mod ReservedWords
 pub mod Tried

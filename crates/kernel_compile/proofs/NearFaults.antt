@@ -7,7 +7,7 @@ use Rattle.kernel_tree.specs.declared.ops.Ty.{Ty}
 use Rattle.kernel_tree.specs.declared.ast.Shape.{Shape}
 use Rattle.kernel_tree.specs.Plain.{Parameter, Program}
 use Rattle.kernel_tree.specs.Typing.{element_type, binding_of_shape}
-use Rattle.kernel_meaning.specs.Eval.{address, byte_count}
+use Rattle.kernel_meaning.specs.Eval.{address}
 use Rattle.kernel_meaning.proofs.Residues.{word-add}
 use Rattle.loop_form.specs.declared.stream.Stream.{Stream}
 use Rattle.loop_form.specs.Streams.{streams_of, elements_of, type_of_place, In}
@@ -17,6 +17,7 @@ use Rattle.vector_order.specs.Elsewhere.{Elsewhere}
 use Rattle.promises.specs.Faithful.{byte_address, IsNearFault}
 use Rattle.kernel_compile.proofs.ApartBoth.{base_given}
 use Rattle.kernel_tree.specs.declared.ast.Shape.TheVariants as shape
+use Rattle.kernel_tree.specs.Wrap.{byte_count}
 
 -- ---- addresses that are no words
 

@@ -57,6 +57,6 @@ stop_count a b = refl
 -- ---- the bound
 
 -- a run within a pace that gives no more words has come to its end
-pub enough : (d : Laid) (c : List DraftEntry) (s : State) (count unit base steps : ℕ) → base + unit * cuts d steps c s ≤ steps → Paced d c s count unit base → count ≤ steps
-enough d c s count unit base steps few paced =
+pub paced_steps_are_enough : (d : Laid) (c : List DraftEntry) (s : State) (count unit base steps : ℕ) → base + unit * cuts d steps c s ≤ steps → Paced d c s count unit base → count ≤ steps
+paced_steps_are_enough d c s count unit base steps few paced =
     ⊎_elim (λ (short : steps < count). (let lt = paced steps short in absurd (omega (arith, lt, few)))) (λ (long : count ≤ steps). long) (cases_lt steps count)

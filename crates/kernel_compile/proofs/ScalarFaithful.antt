@@ -21,8 +21,9 @@ use Rattle.loop_code.specs.Kernel.{begin_code, scalar_code, begin_labels}
 use Rattle.loop_code.specs.Runs.{HasArguments, BeginRuns, ScalarRuns}
 use Rattle.scalar_words.specs.Iterations.{Comes, ends_so, faults_so}
 use Rattle.loop_code.proofs.Placed.{whole_once}
-use Rattle.promises.specs.Faithful.{Follows, CloseSlowFaithful}
-use Rattle.kernel_compile.proofs.FileStart.{starts, start_memory, words_stand}
+use Rattle.promises.specs.Faithful.{Follows, CloseSlowFaithful, close_slow_steps}
+use Rattle.kernel_compile.specs.Drafted.{FollowsAnywhere}
+use Rattle.kernel_compile.proofs.FileStart.{file_starts, start_memory, words_stand}
 
 -- ---- runs that end
 
@@ -64,6 +65,15 @@ module _ (R : ℕ → ℕ) (k : Program) (begins : BeginRuns R k) (runs : Scalar
       let c = runs.reached D n [] 0 b.names m b.end res (start_within k.for_loop b.names) b.at in
       subst (λ r. Comes D (begin_code R k 0 (scalar_code R k n [])) s (iteration_steps k) (outside_steps k) 0 r) (whole_run k args m b.names b.starts) (comes_after (omega arith) b.goes c)
 
+  -- Entries that are the code of a kernel, after a front, follow the scalar loop wherever they are laid.
+  pub followed : (n : ℕ) (entries front : List DraftEntry) → entries ≡ front ++ scalar_code R k n [] → entries ≡ begin_code R k 0 (scalar_code R k n []) → Once entries → FollowsAnywhere close_slow_steps k entries
+  followed n entries front following begun_by placed base steps q args s given is few le =
+      let D : Laid = record { base = base; entries = entries } in
+      let code = begin_code R k 0 (scalar_code R k n []) in
+      let c = code_comes D n args s.memory s given (resolves_in D code [] begun_by placed) (resolves_in D (scalar_code R k n []) front following placed) in
+      let enough : iteration_steps k * begun (scalar_run k args s.memory) + outside_steps k ≤ steps = omega (arith, le) in
+      subst (λ es. Follows k args s.vl (scalar_run k args s.memory) (draft_run D steps 0 es s)) (sym begun_by) (comes_follow k args s.vl steps enough c)
+
   -- Entries that are the code of a kernel, after a front, come to a file that does what the kernel says.
   pub compiled : (labels n : ℕ) (entries front : List DraftEntry) (words : List ℕ) → entries ≡ front ++ scalar_code R k n [] → entries ≡ begin_code R k 0 (scalar_code R k n []) → Once entries → AreFit labels entries → size entries ≤ 65536 → words ≡ words_of entries → All (λ w. w < 2 ^ 32) words
       → CloseSlowFaithful k (file_of words)
@@ -77,7 +87,7 @@ module _ (R : ℕ → ℕ) (k : Program) (begins : BeginRuns R k) (runs : Scalar
             let s0 = free_start (image_of_words words) args pages vl stops in
             let m = merged (image_of_words words).pages pages in
             let code = begin_code R k 0 (scalar_code R k n []) in
-            let st = starts words args pages vl stops start.few in
+            let st = file_starts words args pages vl stops start.few in
             let stand : StandAt s0.memory D.base (words_of D.entries) = subst (λ ws. StandAt s0.memory code_base ws) is (subst (λ m. StandAt m code_base words) (sym st.memory) (words_stand words pages many small start.apart)) in
             let same : run steps 0 s0 ≡ draft_run D steps 0 code s0 = runs_as_draft D labels s0 fits few stand st.pc steps 0 ∙ ap (λ es. draft_run D steps 0 es s0) begun_by in
             let given : HasArguments args m s0 = record { few = start.few; words = start.words; sized = st.sized; held = λ r lt. st.given r; memory = st.memory; good = start_memory words pages many start.memory start.apart } in

@@ -16,8 +16,8 @@ use Rattle.promises.specs.declared.fault.CompileFault.{CompileFault}
 use Rattle.promises.specs.declared.fault.CompileFault.TheVariants.{TooManyLive, Memory}
 use Rattle.promises.specs.Refusals.{tried, need_in, exceeds, exceeded, too_many, IsRefusalIn, IsRefusal}
 
-none_of : (needs : Needs) (class : RegClass) (classes : List RegClass) → exceeded needs (class ∷ []) ≡ None → exceeded needs classes ≡ None → exceeded needs (class ∷ classes) ≡ None
-none_of needs class classes first rest = go (exceeds needs class) first
+none_exceeded : (needs : Needs) (class : RegClass) (classes : List RegClass) → exceeded needs (class ∷ []) ≡ None → exceeded needs classes ≡ None → exceeded needs (class ∷ classes) ≡ None
+none_exceeded needs class classes first rest = go (exceeds needs class) first
   where
     go : (over : Bool) → cond over (Some class) None ≡ None → cond over (Some class) (exceeded needs classes) ≡ None
     go true e = absurd cc
@@ -90,7 +90,7 @@ pub scalar_refused : (k : Program) (fault : CompileFault) → is_vector (class_o
 scalar_refused k fault is h = subst (λ cs. IsRefusalIn (needs_of k) cs fault) (sym (tried_in_scalar (class_of k) is)) h
 
 pub vector_enough : (k : Program) → class_of k ≡ Vector → exceeded (needs_of k) (Z ∷ []) ≡ None → exceeded (needs_of k) (P ∷ []) ≡ None → exceeded (needs_of k) (X ∷ []) ≡ None → too_many k ≡ None
-vector_enough k is z p x = ap (λ o. exceeded (needs_of k) (tried o)) is ∙ none_of (needs_of k) Z (P ∷ X ∷ []) z (none_of (needs_of k) P (X ∷ []) p x)
+vector_enough k is z p x = ap (λ o. exceeded (needs_of k) (tried o)) is ∙ none_exceeded (needs_of k) Z (P ∷ X ∷ []) z (none_exceeded (needs_of k) P (X ∷ []) p x)
 
 in_vector : (k : Program) (fault : CompileFault) → class_of k ≡ Vector → IsRefusalIn (needs_of k) (Z ∷ P ∷ X ∷ []) fault → IsRefusal k fault
 in_vector k fault is h = subst (λ o. IsRefusalIn (needs_of k) (tried o) fault) (sym is) h

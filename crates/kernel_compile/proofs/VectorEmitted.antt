@@ -86,8 +86,8 @@ module _ {R : ℕ → ℕ} {k : Program} {a b : Assignment} {vector scalar n0 n1
       }
 
   -- by the words of each part
-  pub few_words : size e2 ≤ size e1 + (40 + 8 * size_of k) → size e4 ≤ size e3 + (64 + 16 * size_of k) → size e6 ≤ size e5 + 464 → size e7 ≤ size e6 + (200 + 32 * size_of k) → size e7 ≤ 860 + 56 * size_of k
-  few_words begin loop guard lanes =
+  pub vector_code_words_le : size e2 ≤ size e1 + (40 + 8 * size_of k) → size e4 ≤ size e3 + (64 + 16 * size_of k) → size e6 ≤ size e5 + 464 → size e7 ≤ size e6 + (200 + 32 * size_of k) → size e7 ≤ 860 + 56 * size_of k
+  vector_code_words_le begin loop guard lanes =
       let none : size e1 ≡ 0 = ap size (d.same ∙ d.none) in
       let branch : size e3 ≡ size e2 + 1 = ap size (sym (append-nil e3) ∙ d.branch []) ∙ size-append e2 (Branch Always vector ∷ []) in
       let place : size e5 ≡ size e4 = ap size (sym (append-nil e5) ∙ d.place []) ∙ size-append e4 (Place vector ∷ []) ∙ (let z : size e4 + 0 ≡ size e4 = omega arith in z) in

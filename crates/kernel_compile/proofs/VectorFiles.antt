@@ -21,7 +21,8 @@ use Rattle.label_fix.proofs.PlacedRuns.{runs_as_draft, cuts_are_suppressed, word
 use Rattle.scalar_words.specs.KernelRegisters.{register_in}
 use Rattle.loop_code.specs.Runs.{HasArguments}
 use Rattle.promises.specs.Faithful.{Follows, IsFaithful, IsAny, FreeEnds, CloseFaithful, end_steps}
-use Rattle.kernel_compile.proofs.FileStart.{image_memory, starts, start_memory, words_stand}
+use Rattle.kernel_compile.specs.Drafted.{FollowsAnywhere}
+use Rattle.kernel_compile.proofs.FileStart.{image_memory, file_starts, start_memory, words_stand}
 use Rattle.kernel_compile.proofs.VectorPlaced.{whole_code}
 use Rattle.kernel_compile.proofs.VectorJoin.{scalar_part, guard_part, vector_part, IsJoined, Suffices, by_close, by_iterations, code_follows}
 
@@ -61,6 +62,39 @@ pub record IsWhole (R : ℕ → ℕ) (k : Program) (a b : Assignment) (n1 n2 n3 
 abbrev IsBound : Program → (Program → (args : List ℕ) (vl m q : ℕ) → ℕ) → Type 0
 IsBound k enough = (args : List ℕ) (vl m cut q steps : ℕ) → cut ≤ q → enough k args vl m q ≤ steps → Suffices k args vl m cut steps
 
+-- the draft follows the scalar loop wherever it is laid
+followed_within : (enough : Program → (args : List ℕ) (vl m q : ℕ) → ℕ) (k : Program) (a b c : Assignment) (labels n1 n2 n3 : ℕ) (entries : List DraftEntry) → IsBound k enough → IsJoined k a b c → IsWhole (register_in c) k a b n1 n2 n3 entries → AreFit labels entries → FollowsAnywhere enough k entries
+followed_within enough k a b c labels n1 n2 n3 entries suffices j w fits base steps q args s given is few le =
+    let R = register_in c in
+    let code = whole_code R k a b n1 n2 n3 in
+    let D : Laid = record { base = base; entries = entries } in
+    let following = resolves_in D _ w.before_guard w.guard w.placed in
+    let r = scalar_run k args s.memory in
+    let f = code_follows k a b c j labels n1 n2 n3 D args s.memory s steps
+    (record {
+      whole = resolves_in D code [] w.all w.placed;
+      scalar = resolves_in D _ w.before_scalar w.scalar w.placed;
+      place = following.0;
+      guard = following.1;
+      vector = resolves_in D _ w.before_vector w.vector w.placed;
+      fit = fits;
+      fits = subst (AreFit labels) w.all fits;
+    })
+    given is
+    (subst (λ es. Suffices k args s.vl (begun r) (cuts D steps es s) steps) w.all (suffices args s.vl (begun r) (cuts D steps entries s) q steps few le)) in
+    subst (λ es. Follows k args s.vl r (draft_run D steps 0 es s)) (sym w.all) f
+
+-- by the close bound, and by the iterations
+pub record Followed (k : Program) (entries : List DraftEntry) : Type 0 where
+  pub close : FollowsAnywhere close_bound k entries
+  pub ends : FollowsAnywhere end_steps k entries
+
+pub vector_followed : (k : Program) (a b c : Assignment) (labels n1 n2 n3 : ℕ) (entries : List DraftEntry) → IsJoined k a b c → IsWhole (register_in c) k a b n1 n2 n3 entries → AreFit labels entries → Followed k entries
+vector_followed k a b c labels n1 n2 n3 entries j w fits = record {
+  close = followed_within close_bound k a b c labels n1 n2 n3 entries (λ args vl m cut q steps few le. by_close q few le) j w fits;
+  ends = followed_within end_steps k a b c labels n1 n2 n3 entries (λ args vl m cut q steps few le. by_iterations q le) j w fits;
+}
+
 file_within : (enough : Program → (args : List ℕ) (vl m q : ℕ) → ℕ) (k : Program) (a b c : Assignment) (labels n1 n2 n3 : ℕ) (entries : List DraftEntry) (words : List ℕ) → IsBound k enough → IsJoined k a b c → IsWhole (register_in c) k a b n1 n2 n3 entries → AreFit labels entries → size entries ≤ 65536
     → words ≡ words_of entries → All (λ w. w < 2 ^ 32) words → IsFaithful enough IsAny k (file_of words)
 file_within enough k a b c labels n1 n2 n3 entries words suffices j w fits few is small =
@@ -74,7 +108,7 @@ file_within enough k a b c labels n1 n2 n3 entries words suffices j w fits few i
           let D : Laid = record { base = code_base; entries = entries } in
           let s0 = free_start (image_of_words words) args pages vl stops in
           let m = merged (image_of_words words).pages pages in
-          let st = starts words args pages vl stops start.few in
+          let st = file_starts words args pages vl stops start.few in
           let stand : StandAt s0.memory D.base (words_of D.entries) = subst (λ ws. StandAt s0.memory code_base ws) is (subst (λ m. StandAt m code_base words) (sym st.memory) (words_stand words pages many small start.apart)) in
           let same : run steps 0 s0 ≡ draft_run D steps 0 code s0 = runs_as_draft D labels s0 fits few stand st.pc steps 0 ∙ ap (λ es. draft_run D steps 0 es s0) w.all in
           let cut : cuts D steps code s0 ≤ suppressed steps s0 = subst (λ es. cuts D steps es s0 ≤ suppressed steps s0) w.all (cuts_are_suppressed D labels s0 fits few stand st.pc steps) in

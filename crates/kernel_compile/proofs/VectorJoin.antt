@@ -46,7 +46,7 @@ use Rattle.vector_emit.specs.VectorRuns.{Near, VectorRuns, edge_steps, vector_ba
 use Rattle.promises.specs.Faithful.{Follows, IsNearFault, end_steps}
 use Rattle.kernel_compile.proofs.ScalarFaithful.{comes_after, comes_follow}
 use Rattle.kernel_compile.proofs.MapStays.{draft_map}
-use Rattle.kernel_compile.proofs.Paces.{end_paced, stop_paced, end_count, stop_count, enough}
+use Rattle.kernel_compile.proofs.Paces.{end_paced, stop_paced, end_count, stop_count, paced_steps_are_enough}
 use Rattle.kernel_compile.proofs.NearFaults.{both_unmapped, elsewhere}
 use Rattle.kernel_compile.proofs.AtLoop.{bases_held, bounded}
 use Rattle.kernel_compile.proofs.AtVector.{homes_low, at_same, has_loop, ground_of, is_ground}
@@ -79,8 +79,8 @@ reach_steps k = 2 + length k.params + 4 * vars_size (loop_index k) k.vars + guar
 -- ---- outcomes
 
 -- a run that ends within the bound
-ends_within : (d : Laid) (c : List DraftEntry) (s : State) (k : Program) (args : List ℕ) (vl steps : ℕ) (m : Memory) (r bg count : ℕ) → count ≤ steps → ((n taken : ℕ) → draft_run d (count + n) taken c s ≡ End m r (taken + count)) → Follows k args vl (scalar.End m r bg) (draft_run d steps 0 c s)
-ends_within d c s k args vl steps m r bg count le by =
+vector_ends_within : (d : Laid) (c : List DraftEntry) (s : State) (k : Program) (args : List ℕ) (vl steps : ℕ) (m : Memory) (r bg count : ℕ) → count ≤ steps → ((n taken : ℕ) → draft_run d (count + n) taken c s ≡ End m r (taken + count)) → Follows k args vl (scalar.End m r bg) (draft_run d steps 0 c s)
+vector_ends_within d c s k args vl steps m r bg count le by =
     let f : count + (steps - count) ≡ steps = omega (arith, le) in
     (0 + count, ap (λ j. draft_run d j 0 c s) (sym f) ∙ by (steps - count) 0)
 
@@ -138,7 +138,7 @@ in_steps {g = g} {D = D} {c = c} {s = s} {vl = vl} x bg count steps (by_close q 
     let k = g.kernel in
     let whole = close_as k g.args vl bg q steps true x.chunks le in
     let here : outside_steps k + (pass_steps k * passes k (most_lanes g) bg q + last_steps (has_break k) k) ≤ steps = subst (λ n. outside_steps k + (pass_steps k * passes k n bg q + last_steps (has_break k) k) ≤ steps) x.lanes whole in
-    enough D c s count (vector_unit g) (reach_steps k + vector_base g bg) steps
+    paced_steps_are_enough D c s count (vector_unit g) (reach_steps k + vector_base g bg) steps
     (in_bound (pass_steps k) (div_ceil bg (most_lanes g)) (spare (has_break k)) (cuts D steps c s) q (reach_steps k) (edge_steps k) (outside_steps k) (last_steps (has_break k) k) steps cut (omega arith) here) paced
 in_steps {g = g} x bg count steps (by_iterations q le) paced few =
     let k = g.kernel in
@@ -152,7 +152,7 @@ follows_chunk : {g : Ground} {D : Laid} {c e o : List DraftEntry} {s t : State} 
 follows_chunk {g = g} {D = D} {c = c} {s = s} {vl = vl} {steps = steps} x (vectors.ends_so {m = left} {r = result} {bg = bg} w most) h le =
     let all = end_paced x.goes w in
     let few = in_steps x bg all.count steps le all.paced (let n = end_count x.goes w in let f = x.goes.within in omega (arith, n, f, most)) in
-    ends_within D c s g.kernel g.args vl steps left result bg all.count few all.by
+    vector_ends_within D c s g.kernel g.args vl steps left result bg all.count few all.by
 follows_chunk {g = g} {D = D} {c = c} {s = s} {t = t} {vl = vl} {steps = steps} {m = m} x (vectors.faults_so {m = faulted} {bg = bg} kind left access near w most) h le =
     let all = stop_paced x.goes w in
     let few = in_steps x bg all.count steps le all.paced (let n = stop_count x.goes w in let f = x.goes.within in omega (arith, n, f, most)) in

@@ -1,5 +1,5 @@
 -- Each label of a kernel's code with a vector part is placed once.
-use Rattle.std.proofs.Common.{◌≡◌, ◌≢◌, ℕ, suc, ◌+◌, ◌<◌, ◌≤◌, Bool, true, false, List, [], ◌∷◌, Some, subst, arith}
+use Rattle.std.proofs.Common.{◌≡◌, ◌≢◌, ℕ, zero, suc, ◌+◌, ◌<◌, ◌≤◌, Bool, true, false, List, [], ◌∷◌, Some, subst, arith}
 use Rattle.std.specs.Prelude.{unwrap_or}
 use Rattle.std.specs.List.{list_any}
 use Rattle.a64_code.specs.Table.{umov}
@@ -23,7 +23,7 @@ use Rattle.loop_code.specs.Kernel.{begin_code, begin_labels, scalar_code, scalar
 use Rattle.scalar_words.proofs.Pieces.{word_put, const_put, binary_put, unplaced_put, once_put}
 use Rattle.loop_code.proofs.Placed.{begin_once, scalar_unplaced, scalar_once}
 use Rattle.vector_emit.proofs.FromBelow.{dup_code, identity, reduce_code, vectors, puts, update_of, layout_of_loop, is_loop_break, type_of_var, hold_code, holds_code, start_code, fold_one, folds_code, fold_code, lanes_word, chunk_words, iteration_words, plain_words}
-use Rattle.vector_emit.specs.VectorCode.{any_lane, passes_by, vector_code}
+use Rattle.vector_emit.specs.VectorCode.{any_lane, times, passes_by, vector_code}
 use Rattle.overlap_guard.specs.Guard.{label_by, is_free, guard_code}
 use Rattle.overlap_guard.proofs.Placed.{guard_unplaced, guard_once, grows_pairs}
 
@@ -33,6 +33,10 @@ module _ (P : List DraftEntry → Type 0) (put : (i : Listed) (rest : List Draft
   puts_put : (is : List Listed) (rest : List DraftEntry) → P rest → P (puts is rest)
   puts_put [] rest h = h
   puts_put (i ∷ is) rest h = put i (puts is rest) (puts_put is rest h)
+
+  times_put : (t : ℕ) (is : List Listed) (rest : List DraftEntry) → P rest → P (times t is rest)
+  times_put zero is rest h = h
+  times_put (suc t) is rest h = puts_put is (times t is rest) (times_put t is rest h)
 
   hold_put : (k : Program) (z : ℕ) (t : Throughout) (rest : List DraftEntry) → P rest → P (hold_code k z t rest)
   hold_put k z (Scalar x) rest h = puts_put (vectors (dup_code (lane_width_of k) z (unwrap_or (place_of x k.params) 0))) rest h
@@ -65,22 +69,29 @@ module _ (P : List DraftEntry → Type 0) (put : (i : Listed) (rest : List Draft
 
 -- ---- the vector part
 
-passes_unplaced : (c : Bool) (k : Program) (a b : Assignment) (items : List Item) (n l : ℕ) (rest : List DraftEntry) → n ≢ l → suc n ≢ l → Unplaced l rest → Unplaced l (passes_by c k a b items n rest)
-passes_unplaced true k a b items n l rest ne next h =
+passes_unplaced : (c : Bool) (k : Program) (a b : Assignment) (items : List Item) (n l : ℕ) (rest : List DraftEntry) → n ≢ l → suc n ≢ l → suc (suc n) ≢ l → Unplaced l rest → Unplaced l (passes_by c k a b items n rest)
+passes_unplaced true k a b items n l rest ne next turn h =
     let w = lane_width_of k in
     let layout = layout_of_loop k a b in
     let tail : Unplaced l (Put any_lane ∷ Branch (If 1) n ∷ Place (suc n) ∷ rest) = (next, h) in
     (ne, puts_put (Unplaced l) (unplaced_put l) (chunk_words w layout (bound_place k) items) _ (puts_put (Unplaced l) (unplaced_put l) (iteration_words w layout items) _ tail))
-passes_unplaced false k a b items n l rest ne next h =
+passes_unplaced false k a b items n l rest ne next turn h =
     let w = lane_width_of k in
     let tail : Unplaced l (Put (lanes_word w (bound_place k)) ∷ Branch (If 1) n ∷ Place (suc n) ∷ rest) = (next, h) in
-    (ne, puts_put (Unplaced l) (unplaced_put l) (plain_words w (layout_of_loop k a b) items) _ tail)
+    let words = plain_words w (layout_of_loop k a b) items in
+    (turn, times_put (Unplaced l) (unplaced_put l) 4 words _ (ne, puts_put (Unplaced l) (unplaced_put l) words _ tail))
 
 next_other : (n : ℕ) → suc n ≢ n
 next_other n e = absurd (omega (arith, e))
 
-passes_once : (c : Bool) (k : Program) (a b : Assignment) (items : List Item) (n : ℕ) (rest : List DraftEntry) → Unplaced n rest → Unplaced (suc n) rest → Once rest → Once (passes_by c k a b items n rest)
-passes_once true k a b items n rest u v h =
+later_other : (n : ℕ) → n ≢ suc (suc n)
+later_other n e = absurd (omega (arith, e))
+
+later_other_next : (n : ℕ) → suc n ≢ suc (suc n)
+later_other_next n e = absurd (omega (arith, e))
+
+passes_once : (c : Bool) (k : Program) (a b : Assignment) (items : List Item) (n : ℕ) (rest : List DraftEntry) → Unplaced n rest → Unplaced (suc n) rest → Unplaced (suc (suc n)) rest → Once rest → Once (passes_by c k a b items n rest)
+passes_once true k a b items n rest u v x h =
     let w = lane_width_of k in
     let layout = layout_of_loop k a b in
     let once : Unplaced n (Put any_lane ∷ Branch (If 1) n ∷ Place (suc n) ∷ rest) = (next_other n, u) in
@@ -88,21 +99,24 @@ passes_once true k a b items n rest u v h =
       puts_put (Unplaced n) (unplaced_put n) (chunk_words w layout (bound_place k) items) _ (puts_put (Unplaced n) (unplaced_put n) (iteration_words w layout items) _ once),
       puts_put Once once_put (chunk_words w layout (bound_place k) items) _ (puts_put Once once_put (iteration_words w layout items) _ tail),
     )
-passes_once false k a b items n rest u v h =
+passes_once false k a b items n rest u v x h =
     let w = lane_width_of k in
-    let once : Unplaced n (Put (lanes_word w (bound_place k)) ∷ Branch (If 1) n ∷ Place (suc n) ∷ rest) = (next_other n, u) in
-    let tail : Once (Put (lanes_word w (bound_place k)) ∷ Branch (If 1) n ∷ Place (suc n) ∷ rest) = (v, h) in
-    (puts_put (Unplaced n) (unplaced_put n) (plain_words w (layout_of_loop k a b) items) _ once, puts_put Once once_put (plain_words w (layout_of_loop k a b) items) _ tail)
+    let words = plain_words w (layout_of_loop k a b) items in
+    let last : List DraftEntry = Put (lanes_word w (bound_place k)) ∷ Branch (If 1) n ∷ Place (suc n) ∷ rest in
+    let once : Unplaced n last = (next_other n, u) in
+    let turn : Unplaced (suc (suc n)) (Place n ∷ puts words last) = (later_other n, puts_put (Unplaced (suc (suc n))) (unplaced_put (suc (suc n))) words _ (later_other_next n, x)) in
+    let passes : Once (Place n ∷ puts words last) = (puts_put (Unplaced n) (unplaced_put n) words _ once, puts_put Once once_put words _ (v, h)) in
+    (times_put (Unplaced (suc (suc n))) (unplaced_put (suc (suc n))) 4 words _ turn, times_put Once once_put 4 words _ passes)
 
--- it places no label but its two
-pub vector_unplaced : (R : ℕ → ℕ) (k : Program) (a b : Assignment) (scalar n l : ℕ) (rest : List DraftEntry) → n ≢ l → suc n ≢ l → Unplaced l rest → Unplaced l (vector_code R k a b scalar n rest)
-vector_unplaced R k a b scalar n l rest ne next h = start_put (Unplaced l) (unplaced_put l) k a _ (passes_unplaced (list_any is_loop_break (loop_items_of k)) k a b (loop_items_of k) n l _ ne next (fold_put (Unplaced l) (unplaced_put l) R k a _ h))
+-- it places no label but its own
+pub vector_unplaced : (R : ℕ → ℕ) (k : Program) (a b : Assignment) (scalar n l : ℕ) (rest : List DraftEntry) → n ≢ l → suc n ≢ l → suc (suc n) ≢ l → Unplaced l rest → Unplaced l (vector_code R k a b scalar n rest)
+vector_unplaced R k a b scalar n l rest ne next turn h = start_put (Unplaced l) (unplaced_put l) k a _ (passes_unplaced (list_any is_loop_break (loop_items_of k)) k a b (loop_items_of k) n l _ ne next turn (fold_put (Unplaced l) (unplaced_put l) R k a _ h))
 
 -- and each of these once
-pub vector_once : (R : ℕ → ℕ) (k : Program) (a b : Assignment) (scalar n : ℕ) (rest : List DraftEntry) → Unplaced n rest → Unplaced (suc n) rest → Once rest → Once (vector_code R k a b scalar n rest)
-vector_once R k a b scalar n rest u v h =
+pub vector_once : (R : ℕ → ℕ) (k : Program) (a b : Assignment) (scalar n : ℕ) (rest : List DraftEntry) → Unplaced n rest → Unplaced (suc n) rest → Unplaced (suc (suc n)) rest → Once rest → Once (vector_code R k a b scalar n rest)
+vector_once R k a b scalar n rest u v x h =
     start_put Once once_put k a _
-    (passes_once (list_any is_loop_break (loop_items_of k)) k a b (loop_items_of k) n _ (fold_put (Unplaced n) (unplaced_put n) R k a _ u) (fold_put (Unplaced (suc n)) (unplaced_put (suc n)) R k a _ v) (fold_put Once once_put R k a _ h))
+    (passes_once (list_any is_loop_break (loop_items_of k)) k a b (loop_items_of k) n _ (fold_put (Unplaced n) (unplaced_put n) R k a _ u) (fold_put (Unplaced (suc n)) (unplaced_put (suc n)) R k a _ v) (fold_put (Unplaced (suc (suc n))) (unplaced_put (suc (suc n))) R k a _ x) (fold_put Once once_put R k a _ h))
 
 -- ---- the whole
 
@@ -119,14 +133,14 @@ abbrev pub whole_code : (ℕ → ℕ) → Program → (a b : Assignment) → (n1
 whole_code R k a b n1 n2 n3 = begin_code R k 1 (Branch Always 0 ∷ scalar_code R k n1 (Place 0 ∷ guard_code k n1 n2 (vector_code R k a b n1 n3 [])))
 
 module _ (R : ℕ → ℕ) (k : Program) (a b : Assignment) (n1 n2 n3 : ℕ) (one : n1 ≡ 1 + begin_labels k) (two : n2 ≡ n1 + scalar_labels k) (three : n3 ≡ guard_end k n2) where
-  later : n2 ≤ n3
-  later = let h = grows_by (is_free (used_of k)) n2 (used_of k) in omega (arith, h, three)
+  labels_rise : n2 ≤ n3
+  labels_rise = let h = grows_by (is_free (used_of k)) n2 (used_of k) in omega (arith, h, three)
 
   vector_new : (l : ℕ) → l < n3 → Unplaced l (vector_code R k a b n1 n3 [])
-  vector_new l lt = vector_unplaced R k a b n1 n3 l [] (λ e. absurd (omega (arith, e, lt))) (λ e. absurd (omega (arith, e, lt))) tt
+  vector_new l lt = vector_unplaced R k a b n1 n3 l [] (λ e. absurd (omega (arith, e, lt))) (λ e. absurd (omega (arith, e, lt))) (λ e. absurd (omega (arith, e, lt))) tt
 
   guard_new : (l : ℕ) → l < n2 → Unplaced l (guard_code k n1 n2 (vector_code R k a b n1 n3 []))
-  guard_new l lt = guard_unplaced k n1 n2 l (vector_code R k a b n1 n3 []) (λ h. absurd (omega (arith, h, lt))) (vector_new l (omega (arith, lt, later)))
+  guard_new l lt = guard_unplaced k n1 n2 l (vector_code R k a b n1 n3 []) (λ h. absurd (omega (arith, h, lt))) (vector_new l (omega (arith, lt, labels_rise)))
 
   following_new : (l : ℕ) → 1 ≤ l → l < n2 → Unplaced l (Place 0 ∷ guard_code k n1 n2 (vector_code R k a b n1 n3 []))
   following_new l some lt = ((λ e. absurd (omega (arith, e, some))), guard_new l lt)
@@ -134,7 +148,7 @@ module _ (R : ℕ → ℕ) (k : Program) (a b : Assignment) (n1 n2 n3 : ℕ) (on
   following_once : Once (Place 0 ∷ guard_code k n1 n2 (vector_code R k a b n1 n3 []))
   following_once = (
     guard_new 0 (omega (arith, one, two)),
-    guard_once k n1 n2 (vector_code R k a b n1 n3 []) (λ l lo hi. vector_new l (subst (λ m. l < m) (sym_of three) hi)) (vector_once R k a b n1 n3 [] tt tt tt),
+    guard_once k n1 n2 (vector_code R k a b n1 n3 []) (λ l lo hi. vector_new l (subst (λ m. l < m) (sym_of three) hi)) (vector_once R k a b n1 n3 [] tt tt tt tt),
   )
     where
       sym_of : {x y : ℕ} → x ≡ y → y ≡ x

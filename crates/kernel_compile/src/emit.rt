@@ -10,6 +10,7 @@ ghost use Rattle.dependence.specs.Classes.{class_of};
 ghost use Rattle.dependence.specs.declared.reason.Class.TheVariants.{Vector};
 ghost use Rattle.promises.specs.Faithful.{FreeEnds, CloseFaithful, CloseSlowFaithful};
 ghost use Rattle.promises.specs.Reserved.{LeavesReserved};
+ghost use Rattle.kernel_compile.specs.Drafted.{AreDrafted, FollowsSlowly, FollowsClosely};
 
 use kernel_tree::Checked;
 use label_fix::{BranchKind, Draft};
@@ -34,6 +35,7 @@ pub fn emit_scalar_code(
     ensures faithful { IfOk result (λ words. CloseSlowFaithful (program kernel.now) (file_of words.items)) }
     ensures short { IfOk result (λ words. length words.items ≤ 1000 + 60 * size_of (program kernel.now)) }
     ensures reserved { IfOk result (λ words. All LeavesReserved words.items) }
+    ensures drafted { IfOk result (λ words. AreDrafted (FollowsSlowly (program kernel.now)) words.items) }
 {
     few_items(kernel);
     begin_runs(kernel, regs);
@@ -64,6 +66,7 @@ pub fn emit_vector_code(
     ensures ends { IfOk result (λ words. FreeEnds (program facts.now.kernel.now) (file_of words.items)) }
     ensures short { IfOk result (λ words. length words.items ≤ 1000 + 60 * size_of (program facts.now.kernel.now)) }
     ensures reserved { IfOk result (λ words. All LeavesReserved words.items) }
+    ensures drafted { IfOk result (λ words. AreDrafted (FollowsClosely (program facts.now.kernel.now)) words.items) }
 {
     let kernel = facts.kernel;
     few_items(kernel);

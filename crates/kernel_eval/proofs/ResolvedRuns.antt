@@ -17,7 +17,7 @@ use Rattle.kernel_plan.specs.Resolve.{most_slots, resolved_block}
 use Rattle.kernel_plan.specs.Plans.{resolved_vars, resolved_loop, resolved_for_loop, resolved_answer, planned}
 use Rattle.kernel_eval.specs.SlotRuns.{filled, slot_iteration, slot_iterations, slot_answer, slot_closed, Limited, Ended, Cut, slot_finish, slot_loop, slot_for_loop, slot_begun, slot_run}
 use Rattle.kernel_eval.proofs.HeldSlots.{AreInSlots, value-held, named-held, held-length}
-use Rattle.kernel_eval.proofs.ResolvedValues.{same}
+use Rattle.kernel_eval.proofs.ResolvedValues.{resolved_value_is_same}
 use Rattle.kernel_meaning.proofs.Extends.{Extends, extends_one, extends_on, visible_block}
 use Rattle.kernel_eval.proofs.ResolvedStatements.{Closed, NextsIn, BreaksIn, FaultsIn, widen, cut-same, block-same, block_lets}
 use Rattle.kernel_tree.specs.declared.fault.Binding.TheVariants as binding
@@ -60,7 +60,7 @@ iterations-same (suc count) i s l m ns vs h n room =
 
 answer-same : (s : Scope) (a : Option Returned) (m : Memory) (ns : Names) (vs : Slots) → AreInSlots s.visible ns vs → length vs ≡ most_slots → returned s a m ns ≡ slot_answer (resolved_answer s a) m vs
 answer-same s None m ns vs h n = refl
-answer-same s (Some a) m ns vs h n = ap (option_map word) (sym ((same s a.value m ns vs h (omega arith)).value_is (Some a.type)))
+answer-same s (Some a) m ns vs h n = ap (option_map word) (sym ((resolved_value_is_same s a.value m ns vs h (omega arith)).value_is (Some a.type)))
 
 closed-same : (s : Scope) (l : PlainLoop) (a : Option Returned) (m : Memory) (ns : Names) (vs : Slots) (done n : ℕ) → AreInSlots s.visible ns vs → length vs ≡ most_slots → length s.visible + 1 ≤ most_slots → closed s l a m ns done n ≡ slot_closed (resolved_answer (after_for_loop s (Some l)) a) (length s.visible) m vs done n
 closed-same s l a m ns vs done n h e room =
@@ -114,7 +114,7 @@ vars-same [] s m ns vs h e room = Begins ns vs h e
 vars-same (v ∷ us) s m ns vs h e room =
     let t = declared s v.name (binding.Accumulator v.type) in
     let more : length t.visible ≡ length s.visible + 1 = length-append s.visible (local v.name (binding.Accumulator v.type) ∷ []) in
-    let o = (same s v.init m ns vs h (omega arith)).value_is (Some v.type) in
+    let o = (resolved_value_is_same s v.init m ns vs h (omega arith)).value_is (Some v.type) in
     subst (λ p. Started (after_vars t us) m (initial s (v ∷ us) m ns) (then_go (set_slot (length s.visible) m vs p) (do_tasks (resolved_vars t us)))) (sym o)
     (vars_step s (after_vars t us) v (initial t us m) (do_tasks (resolved_vars t us)) m ns vs (value s (Some v.type) v.init m ns) h e (omega arith) (λ ns' vs' h' e'. vars-same us t m ns' vs' h' e' (omega arith)))
 

@@ -4,7 +4,7 @@ use Rattle.std.specs.Prelude.{ℤ, ◌+ℤ◌, option_and_then, slice_set}
 use Rattle.std.proofs.lemmas.List.{length-set, set_past, length-append}
 use Rattle.kernel_tree.specs.declared.ops.Ty.{Ty}
 use Rattle.kernel_tree.specs.declared.ops.Ty.TheVariants as ty
-use Rattle.kernel_tree.specs.Wrap.{wrap}
+use Rattle.kernel_tree.specs.Wrap.{wrap, byte_count}
 use Rattle.kernel_tree.specs.declared.ops.UpdateOp.{UpdateOp}
 use Rattle.kernel_tree.specs.declared.fault.Binding.TheVariants as binding
 use Rattle.kernel_tree.specs.Items.{stream_offset}
@@ -14,13 +14,13 @@ use Rattle.guest_types.specs.declared.memory.AccessFault.{AccessFault}
 use Rattle.guest_types.specs.Memory.{Memory, stored}
 use Rattle.kernel_meaning.specs.Ends.{BlockEnd, Next, Broke, Faulted}
 use Rattle.kernel_meaning.specs.Operators.{word, binary_value, operator_of}
-use Rattle.kernel_meaning.specs.Eval.{Names, value_at, address, byte_count, iteration, element_number, on_both, value, holds}
+use Rattle.kernel_meaning.specs.Eval.{Names, value_at, address, iteration, element_number, on_both, value, holds}
 use Rattle.kernel_meaning.specs.Iterate.{with_name, assigned, cut, define, update, write, put, choose, leave, then_do, act, do_block, do_otherwise}
 use Rattle.kernel_eval.specs.Slots.{Slots, slot_at, stream_number, tree_value, set_slot, write as write_slots, store, branch, quit, then_go, do_task, do_tasks}
 use Rattle.kernel_plan.specs.Trees.{Tree}
 use Rattle.kernel_plan.specs.Resolve.{most_slots, slot_of, index_slot, let_slot, store_task, resolved, resolved_action, resolved_block, resolved_otherwise}
 use Rattle.kernel_eval.proofs.HeldSlots.{AreInSlots, value-held, assigned-held, named-held, cut-held, held-length}
-use Rattle.kernel_eval.proofs.ResolvedValues.{same, stream-alike, address-word}
+use Rattle.kernel_eval.proofs.ResolvedValues.{resolved_value_is_same, stream-alike, address-word}
 use Rattle.kernel_meaning.proofs.Extends.{Extends, extends_none, extends_on, visible_after, visible_block}
 
 -- two ends that leave the same memory, and in the slots what the names have: those of the scope after the statements, or
@@ -149,21 +149,21 @@ mutual
   act-same : (a : Action) (s : Scope) (m : Memory) (ns : Names) (vs : Slots) → AreInSlots s.visible ns vs → length vs ≡ most_slots → length s.visible + action_lets a ≤ most_slots → Matches s (after_action s a) (act s a m ns) (do_task (resolved_action s a) m vs)
   act-same (Define x t e) s m ns vs h l room =
       let want = first t (own s e) in
-      let v = (same s e m ns vs h (omega arith)).value_is want in
+      let v = (resolved_value_is_same s e m ns vs h (omega arith)).value_is want in
       subst (λ o. Matches s (defined s x want) (define x want m ns (value s want e m ns)) (set_slot (let_slot s want) m vs o)) (sym v) (define-same s x want m ns vs (value s want e m ns) h l room)
   act-same (Put a i e) s m ns vs h l room =
       let le : length vs ≤ most_slots = omega arith in
-      let v = (same s e m ns vs h le).value_is (array_type s a) in
-      let x = (same s i m ns vs h le).value_is (index_type s i) in
+      let v = (resolved_value_is_same s e m ns vs h le).value_is (array_type s a) in
+      let x = (resolved_value_is_same s i m ns vs h le).value_is (index_type s i) in
       store-same s a (stream_offset s.index i) (resolved s (index_type s i) i) (resolved s (array_type s a) e) m ns vs (value s (index_type s i) i m ns) (value s (array_type s a) e m ns) h l x v
   act-same (Update x op e) s m ns vs h l room =
       let want = option_and_then accumulator_type (lookup s x) in
-      let v = (same s e m ns vs h (omega arith)).value_is want in
+      let v = (resolved_value_is_same s e m ns vs h (omega arith)).value_is want in
       subst (λ o. Matches s s (update x op want m ns (value s want e m ns)) (set_slot (slot_of s x) m vs (on_both (binary_value (operator_of op) want) (Some (slot_at vs (slot_of s x))) o))) (sym v) (update-same s x op want m ns vs (value s want e m ns) h l)
   act-same (Choose c b d) s m ns vs h l room =
       let t = left s (after_block s b) in
       let u = after_action s (Choose c b d) in
-      let truth = (same s c m ns vs h (omega arith)).holds_is None in
+      let truth = (resolved_value_is_same s c m ns vs h (omega arith)).holds_is None in
       let n = held-length s.visible ns vs h in
       let one = cut-same s (after_block s b) (length ns) (do_block s b m ns) (do_tasks (resolved_block s b) m vs) (block-same b s m ns vs h l (omega arith)) (visible_block s b) n in
       let other = otherwise-same d t (length ns) m ns vs h l (omega arith) n in
@@ -172,7 +172,7 @@ mutual
       (reopen s u (cut (length ns) (do_block s b m ns)) (do_tasks (resolved_block s b) m vs) refl one)
       (widen s t u (cut (length ns) (do_otherwise t d m ns)) (do_tasks (resolved_otherwise t d) m vs) (extends_none s.visible) (reopen t u (cut (length ns) (do_otherwise t d m ns)) (do_tasks (resolved_otherwise t d) m vs) refl other)))
   act-same (Leave c) s m ns vs h l room =
-      let truth = (same s c m ns vs h (omega arith)).holds_is None in
+      let truth = (resolved_value_is_same s c m ns vs h (omega arith)).holds_is None in
       subst (λ o. Matches s s (leave m ns (holds s c m ns)) (quit m vs o)) (sym truth) (leave-same s m ns vs (holds s c m ns) h l)
 
   pub block-same : (b : Block) (s : Scope) (m : Memory) (ns : Names) (vs : Slots) → AreInSlots s.visible ns vs → length vs ≡ most_slots → length s.visible + block_lets b ≤ most_slots → Matches s (after_block s b) (do_block s b m ns) (do_tasks (resolved_block s b) m vs)

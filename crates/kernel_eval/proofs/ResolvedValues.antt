@@ -4,13 +4,13 @@ use Rattle.std.specs.Prelude.{ℤ, pos, ◌+ℤ◌, ◌*ℤ◌, option_map, opti
 use Rattle.std.proofs.lemmas.List.{get_or_past}
 use Rattle.kernel_tree.specs.declared.ops.Ty.{Ty}
 use Rattle.kernel_tree.specs.declared.ops.Ty.TheVariants as ty
-use Rattle.kernel_tree.specs.Wrap.{wrap}
+use Rattle.kernel_tree.specs.Wrap.{wrap, byte_count}
 use Rattle.kernel_tree.specs.Items.{stream_offset}
 use Rattle.kernel_tree.specs.Plain as plain
 use Rattle.kernel_tree.specs.Typing.{Scope, Local, own, index_type, side_type, array_type}
 use Rattle.guest_types.specs.Memory.{Memory, loaded}
 use Rattle.kernel_meaning.specs.Operators.{word, unary_value, binary_value, shift_value, compare_on}
-use Rattle.kernel_meaning.specs.Eval.{Names, value_at, address, byte_count, read_value, read_element, iteration, element_number, on_both, chosen, and_then, or_else, value, holds}
+use Rattle.kernel_meaning.specs.Eval.{Names, value_at, address, read_value, read_element, iteration, element_number, on_both, chosen, and_then, or_else, value, holds}
 use Rattle.kernel_plan.specs.Trees.{Tree}
 use Rattle.kernel_eval.specs.Slots.{Slots, slot_at, stream_number, tree_value, tree_holds}
 use Rattle.kernel_plan.specs.Resolve.{most_slots, index_slot, read_tree, resolved}
@@ -70,43 +70,43 @@ pub record Same (s : Scope) (e : plain.Term) (memory : Memory) (ns : Names) (vs 
   pub value_is : (want : Option Ty) → tree_value (resolved s want e) memory vs ≡ value s want e memory ns
   pub holds_is : (want : Option Ty) → tree_holds (resolved s want e) memory vs ≡ holds s e memory ns
 
-pub same : (s : Scope) (e : plain.Term) (memory : Memory) (ns : Names) (vs : Slots) → AreInSlots s.visible ns vs → length vs ≤ most_slots → Same s e memory ns vs
-same s (plain.Literal n) memory ns vs h le = record { value_is = λ want. refl; holds_is = λ want. refl }
-same s (plain.Variable x) memory ns vs h le = record { value_is = λ want. ap Some (value-held s.visible ns vs x h le); holds_is = λ want. refl }
-same s (plain.Element a i) memory ns vs h le =
-    let inner = (same s i memory ns vs h le).value_is (index_type s i) in
+pub resolved_value_is_same : (s : Scope) (e : plain.Term) (memory : Memory) (ns : Names) (vs : Slots) → AreInSlots s.visible ns vs → length vs ≤ most_slots → Same s e memory ns vs
+resolved_value_is_same s (plain.Literal n) memory ns vs h le = record { value_is = λ want. refl; holds_is = λ want. refl }
+resolved_value_is_same s (plain.Variable x) memory ns vs h le = record { value_is = λ want. ap Some (value-held s.visible ns vs x h le); holds_is = λ want. refl }
+resolved_value_is_same s (plain.Element a i) memory ns vs h le =
+    let inner = (resolved_value_is_same s i memory ns vs h le).value_is (index_type s i) in
     let read = read-same s a (stream_offset s.index i) (resolved s (index_type s i) i) (value s (index_type s i) i memory ns) memory ns vs h le inner in
     record { value_is = λ want. read; holds_is = λ want. read-holds s a (stream_offset s.index i) (resolved s (index_type s i) i) memory vs }
-same s (plain.Unary op e) memory ns vs h le =
-    let r = same s e memory ns vs h le in
+resolved_value_is_same s (plain.Unary op e) memory ns vs h le =
+    let r = resolved_value_is_same s e memory ns vs h le in
     record { value_is = λ want. ap (option_map (unary_value op want)) (r.value_is want); holds_is = λ want. refl }
-same s (plain.Operation op a b) memory ns vs h le =
-    let r = same s a memory ns vs h le in
-    let q = same s b memory ns vs h le in
+resolved_value_is_same s (plain.Operation op a b) memory ns vs h le =
+    let r = resolved_value_is_same s a memory ns vs h le in
+    let q = resolved_value_is_same s b memory ns vs h le in
     record { value_is = λ want. ap₂ (on_both (binary_value op want)) (r.value_is want) (q.value_is want); holds_is = λ want. refl }
-same s (plain.Shift left e n) memory ns vs h le =
-    let r = same s e memory ns vs h le in
+resolved_value_is_same s (plain.Shift left e n) memory ns vs h le =
+    let r = resolved_value_is_same s e memory ns vs h le in
     record { value_is = λ want. ap (option_map (shift_value left n want)) (r.value_is want); holds_is = λ want. refl }
-same s (plain.Conversion e t) memory ns vs h le =
-    let r = same s e memory ns vs h le in
+resolved_value_is_same s (plain.Conversion e t) memory ns vs h le =
+    let r = resolved_value_is_same s e memory ns vs h le in
     record { value_is = λ want. ap (option_map (wrap t)) (r.value_is (own s e)); holds_is = λ want. refl }
-same s (plain.Choice c a b) memory ns vs h le =
-    let r = same s c memory ns vs h le in
-    let p = same s a memory ns vs h le in
-    let q = same s b memory ns vs h le in
+resolved_value_is_same s (plain.Choice c a b) memory ns vs h le =
+    let r = resolved_value_is_same s c memory ns vs h le in
+    let p = resolved_value_is_same s a memory ns vs h le in
+    let q = resolved_value_is_same s b memory ns vs h le in
     record { value_is = λ want. ap₂ (λ x y. chosen x y (tree_holds (resolved s None c) memory vs)) (p.value_is want) (q.value_is want) ∙ ap (chosen (value s want a memory ns) (value s want b memory ns)) (r.holds_is None); holds_is = λ want. refl }
-same s (plain.Comparison op a b) memory ns vs h le =
-    let p = same s a memory ns vs h le in
-    let q = same s b memory ns vs h le in
+resolved_value_is_same s (plain.Comparison op a b) memory ns vs h le =
+    let p = resolved_value_is_same s a memory ns vs h le in
+    let q = resolved_value_is_same s b memory ns vs h le in
     record { value_is = λ want. refl; holds_is = λ want. ap₂ (on_both (compare_on op)) (p.value_is (side_type s a b)) (q.value_is (side_type s a b)) }
-same s (plain.Both a b) memory ns vs h le =
-    let p = same s a memory ns vs h le in
-    let q = same s b memory ns vs h le in
+resolved_value_is_same s (plain.Both a b) memory ns vs h le =
+    let p = resolved_value_is_same s a memory ns vs h le in
+    let q = resolved_value_is_same s b memory ns vs h le in
     record { value_is = λ want. refl; holds_is = λ want. ap₂ and_then (p.holds_is None) (q.holds_is None) }
-same s (plain.Either a b) memory ns vs h le =
-    let p = same s a memory ns vs h le in
-    let q = same s b memory ns vs h le in
+resolved_value_is_same s (plain.Either a b) memory ns vs h le =
+    let p = resolved_value_is_same s a memory ns vs h le in
+    let q = resolved_value_is_same s b memory ns vs h le in
     record { value_is = λ want. refl; holds_is = λ want. ap₂ or_else (p.holds_is None) (q.holds_is None) }
-same s (plain.Not e) memory ns vs h le =
-    let r = same s e memory ns vs h le in
+resolved_value_is_same s (plain.Not e) memory ns vs h le =
+    let r = resolved_value_is_same s e memory ns vs h le in
     record { value_is = λ want. refl; holds_is = λ want. ap (option_map not) (r.holds_is None) }

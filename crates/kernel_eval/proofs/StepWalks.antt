@@ -1,10 +1,10 @@
 -- One step of a walk over steps.
 use Rattle.std.proofs.Common.{◌≡◌, ℕ, ◌+◌, ◌*◌, ◌<◌, ◌≤◌, List, length, drop, get_or, sym, ap, ◌∙◌, arith}
 use Rattle.guest_types.specs.Memory.{Memory}
+use Rattle.kernel_tree.proofs.Walks.{next_item}
 use Rattle.kernel_meaning.specs.Ends.{BlockEnd}
 use Rattle.kernel_plan.specs.declared.step.Step.{Step}
 use Rattle.kernel_plan.specs.Trees.{Task, Tasks, Then, task_of, tasks_of, task_depth, tasks_depth}
-use Rattle.kernel_plan.proofs.ListWalks.{next_item}
 use Rattle.kernel_eval.specs.Slots.{Slots, then_go, do_task, do_tasks}
 
 pub next_step : (xs : List Step) (i : ℕ) (x : Step) → i < length xs → x ≡ get_or xs i x → tasks_of (drop i xs) ≡ Then (task_of x) (tasks_of (drop (i + 1) xs))

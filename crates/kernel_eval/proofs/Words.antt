@@ -5,8 +5,9 @@ use Rattle.std.specs.Int.{w128, int_wrapping_add, int_wrapping_sub}
 use Rattle.std.proofs.lemmas.Int.{wrapping_add_is, wrapping_sub_is}
 use Rattle.kernel_tree.specs.declared.ops.Ty.{Ty}
 use Rattle.kernel_tree.specs.declared.ops.Ty.TheVariants as ty
+use Rattle.kernel_tree.specs.Wrap.{byte_count}
 use Rattle.kernel_meaning.specs.Operators.{word}
-use Rattle.kernel_meaning.specs.Eval.{byte_count, address}
+use Rattle.kernel_meaning.specs.Eval.{address}
 use Rattle.kernel_meaning.proofs.Residues.{word-wide, word-add, word-mul}
 
 pub word-wrapping_add : (a b : ℤ) → FitsSigned w128 a → FitsSigned w128 b → word (int_wrapping_add w128 a b) ≡ word (a +ℤ b)

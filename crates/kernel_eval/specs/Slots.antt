@@ -4,10 +4,10 @@ use Rattle.kernel_tree.specs.declared.ops.Ty.{Ty}
 use Rattle.kernel_tree.specs.declared.ops.Ty.TheVariants as ty
 use Rattle.guest_types.specs.declared.memory.AccessFault.{AccessFault}
 use Rattle.guest_types.specs.Memory.{Memory, stored}
-use Rattle.kernel_tree.specs.Wrap.{wrap}
+use Rattle.kernel_tree.specs.Wrap.{wrap, byte_count}
 use Rattle.kernel_meaning.specs.Ends.{BlockEnd, Next, Broke, Faulted}
 use Rattle.kernel_meaning.specs.Operators.{word, unary_value, binary_value, shift_value, compare_on}
-use Rattle.kernel_meaning.specs.Eval.{read_element, on_both, chosen, and_then, or_else, address, byte_count}
+use Rattle.kernel_meaning.specs.Eval.{read_element, on_both, chosen, and_then, or_else, address}
 use Rattle.kernel_plan.specs.Trees.{Tree, Constant, Slot, Stream, Element, Unary, Binary, Shift, Cast, Select, Compare, And, Or, Not, Task, Set, Put, Store, If, Break, Tasks, Done, Then}
 use Rattle.kernel_eval.specs.declared.block_end.BlockEnd.{BlockEnd as CodeEnd}
 use Rattle.kernel_eval.specs.declared.block_end.BlockEnd.TheVariants as code

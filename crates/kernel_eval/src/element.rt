@@ -1,6 +1,6 @@
 //! Elements of arrays.
 
-ghost use Rattle.std.specs.Prelude.{◌≡◌, ◌⊎◌, option_and_then};
+ghost use Rattle.std.specs.Prelude.{◌≡◌, option_and_then};
 ghost use Rattle.kernel_meaning.specs.Eval as eval;
 ghost use Rattle.kernel_eval.specs.Slots.{Slots, block_end_of, store};
 
@@ -9,26 +9,12 @@ use guest_types::guest::GuestMemory;
 use kernel_meaning::{word, wrap};
 use kernel_tree::Ty;
 
-/// The bytes of an element.
-#[inline(always)]
-fn byte_count(ty: Ty) -> u32
-    ensures value { result ≡ eval.byte_count ty }
-    ensures size { (result ≡ 1) ⊎ (result ≡ 2) ⊎ (result ≡ 4) ⊎ (result ≡ 8) }
-{
-    match ty {
-        Ty::I8 | Ty::U8 => 1,
-        Ty::I16 | Ty::U16 => 2,
-        Ty::I32 | Ty::U32 => 4,
-        Ty::I64 | Ty::U64 => 8,
-    }
-}
-
 /// The address of an element, by the address of its array and its number.
 #[inline(always)]
 fn address(ty: Ty, base: i128, number: i128) -> u64
     ensures { result ≡ eval.address ty base number }
 {
-    word(base).wrapping_add(u64::from(byte_count(ty)).wrapping_mul(word(number)))
+    word(base).wrapping_add(u64::from(ty.bytes()).wrapping_mul(word(number)))
 }
 
 /// An element of an array, unless its number faults or the read does.
@@ -45,7 +31,7 @@ pub fn read<M: GuestMemory>(
         (None, _) => None,
         (Some(_), None) => Some(0),
         (Some(number), Some(ty)) => {
-            match memory.load(address(ty, base, number), byte_count(ty)) {
+            match memory.load(address(ty, base, number), ty.bytes()) {
                 Ok(value) => Some(wrap(ty, value as i128)),
                 Err(_) => None,
             }
@@ -67,7 +53,7 @@ pub fn write<M: GuestMemory>(
 {
     match (ty, value, number) {
         (Some(ty), Some(value), Some(number)) => {
-            match memory.store(address(ty, base, number), byte_count(ty), word(value)) {
+            match memory.store(address(ty, base, number), ty.bytes(), word(value)) {
                 Ok(()) => BlockEnd::Next,
                 Err(_) => BlockEnd::Faulted,
             }

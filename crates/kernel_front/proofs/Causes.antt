@@ -21,13 +21,13 @@ explained : (v : Verdict) (r : Refusal) (fault : TypeFault) → v ≡ Refused r 
 explained v r typing.Memory p q = q
 explained v r other p q = (r, p, q)
 
-nothing : (v : Verdict) (fault : TypeFault) → IsCause None fault → Explains v (faults.Broken fault)
-nothing v typing.Memory q = q
-nothing v other q = absurd cc
+explains_no_cause : (v : Verdict) (fault : TypeFault) → IsCause None fault → Explains v (faults.Broken fault)
+explains_no_cause v typing.Memory q = q
+explains_no_cause v other q = absurd cc
 
 by_fault : (text : List ℕ) (k : Program) (v : Verdict) → limit_fault text ≡ None → IsReadFrom text k → IsVerdict text v → (r : Option Refusal) → check_fault k ≡ r → (fault : TypeFault) → IsCause r fault → Explains v (faults.Broken fault)
 by_fault text k v l read h (Some r) e fault q = explained v r fault (one_verdict text v (Refused r) h (l, record { kernel = k; read = read; fault = e })) q
-by_fault text k v l read h None e fault q = nothing v fault q
+by_fault text k v l read h None e fault q = explains_no_cause v fault q
 
 -- a kernel that was read and breaks a rule
 pub broken : (text : List ℕ) (k : Program) → limit_fault text ≡ None → IsReadFrom text k → (fault : KernelFault) → IsBroken (check_fault k) fault → (v : Verdict) → IsVerdict text v → Explains v fault

@@ -1,17 +1,16 @@
 -- A text has one verdict at most.
-use Rattle.std.proofs.Common.{◌≡◌, sym, ◌∙◌, ap, subst, Some, None, Result, Ok, List, ℕ}
+use Rattle.std.proofs.Common.{◌≡◌, sym, ◌∙◌, ap, subst, Some, None, List, ℕ}
 use Rattle.kernel_tree.specs.TextToken.{TextToken}
 use Rattle.kernel_tree.specs.Plain.{Program}
 use Rattle.kernel_tree.specs.Typing.{Refusal, check_fault}
 use Rattle.kernel_tree.specs.Grammar.{Tree}
 use Rattle.kernel_tree.proofs.OneTree.{tree_once}
+use Rattle.kernel_tree.proofs.Calls.{same_Ok}
 use Rattle.kernel_syntax.specs.declared.fault.ReadFault.{ReadFault}
 use Rattle.kernel_syntax.specs.Refusals.{IsReadFrom, HasNoTree}
 use Rattle.kernel_syntax.proofs.Place.{stops_once}
+use Rattle.kernel_syntax.proofs.Decided.{no_fault}
 use Rattle.kernel_front.specs.Verdict.{Verdict, Limited, NoKernel, Refused, Sound, IsVerdict}
-
-same_words : (u v : List TextToken) → ◌≡◌ {A = Result (List TextToken) ℕ} (Ok u) (Ok v) → u ≡ v
-same_words u v e = cc
 
 same_fault : (f g : ReadFault) → Some f ≡ Some g → f ≡ g
 same_fault f g e = cc
@@ -19,19 +18,16 @@ same_fault f g e = cc
 same_refusal : (f g : Refusal) → Some f ≡ Some g → f ≡ g
 same_refusal f g e = cc
 
-no_fault : (f : ReadFault) → Some f ≡ None → ⊥
-no_fault f e = cc
-
 no_refusal : (f : Refusal) → Some f ≡ None → ⊥
 no_refusal f e = cc
 
 -- a text is read as one kernel
 same_kernel : (text : List ℕ) (j k : Program) → IsReadFrom text j → IsReadFrom text k → j ≡ k
-same_kernel text j k a b = tree_once a.tree k (subst (λ (w : List TextToken). Tree w k) (same_words b.words a.words (sym b.tokens ∙ a.tokens)) b.tree)
+same_kernel text j k a b = tree_once a.tree k (subst (λ (w : List TextToken). Tree w k) (same_Ok b.words a.words (sym b.tokens ∙ a.tokens)) b.tree)
 
 -- what is read has a tree
 has_tree : (text : List ℕ) (k : Program) → HasNoTree text → IsReadFrom text k → ⊥
-has_tree text k n b = n.none k (subst (λ (w : List TextToken). Tree w k) (same_words b.words n.words (sym b.tokens ∙ n.tokens)) b.tree)
+has_tree text k n b = n.none k (subst (λ (w : List TextToken). Tree w k) (same_Ok b.words n.words (sym b.tokens ∙ n.tokens)) b.tree)
 
 pub one_verdict : (text : List ℕ) (v w : Verdict) → IsVerdict text v → IsVerdict text w → v ≡ w
 one_verdict text (Limited f) (Limited g) a b = ap Limited (same_fault f g (sym a ∙ b))

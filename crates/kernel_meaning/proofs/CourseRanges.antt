@@ -12,7 +12,7 @@ use Rattle.kernel_tree.specs.Typing.{Scope, Local, Value, Condition, local, look
 use Rattle.kernel_meaning.specs.Ends.{BlockEnd, Next, Broke, Faulted, LoopState, go_on}
 use Rattle.kernel_meaning.specs.Operators.{word, binary_value, operator_of}
 use Rattle.kernel_meaning.specs.TypeValues.{IsOf}
-use Rattle.kernel_meaning.specs.Eval.{Names, value_at, iteration, element_number, address, byte_count, value, holds}
+use Rattle.kernel_meaning.specs.Eval.{Names, value_at, iteration, element_number, address, value, holds}
 use Rattle.kernel_meaning.specs.Iterate.{with_name, cut, define, update, write, put, choose, leave, then_do, act, do_block, do_otherwise, iterate}
 use Rattle.kernel_meaning.specs.ScalarRun.{iterations}
 use Rattle.kernel_meaning.specs.Ranges.{AreRanged, LeavesRanged}
@@ -23,6 +23,7 @@ use Rattle.kernel_meaning.proofs.ValueRanges.{typed, value_range}
 use Rattle.kernel_tree.proofs.Faultless.{nil-left, nil-right}
 use Rattle.kernel_tree.proofs.NoFault.{update_some as no_update}
 use Rattle.kernel_tree.specs.declared.fault.Binding.TheVariants as binding
+use Rattle.kernel_tree.specs.Wrap.{byte_count}
 
 -- names that a statement leaves are in range: those that are visible after it, and after a `break` the outer ones
 abbrev pub RangedIteration : List Local → List Local → BlockEnd Names → Type 0

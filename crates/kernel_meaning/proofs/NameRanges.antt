@@ -15,11 +15,11 @@ use Rattle.kernel_meaning.specs.Ranges.{TypeRange, AreRanged}
 abbrev pub found_type : List Local → List ℕ → Option Ty
 found_type ls x = option_and_then value_type (option_map binding_of (find (has_name x) ls))
 
-found_step : (b : Bool) (l : Local) (n : Named) (ls : List Local) (ns : Names) (x : List ℕ) → has_name x l ≡ b → n.name ≡ l.name → TypeRange (value_type l.binding) n.value → TypeRange (found_type ls x) (value_at ns x) → TypeRange (found_type (l ∷ ls) x) (value_at (n ∷ ns) x)
-found_step true l n ls ns x e same here rest =
+range_found_of_cons : (b : Bool) (l : Local) (n : Named) (ls : List Local) (ns : Names) (x : List ℕ) → has_name x l ≡ b → n.name ≡ l.name → TypeRange (value_type l.binding) n.value → TypeRange (found_type ls x) (value_at ns x) → TypeRange (found_type (l ∷ ls) x) (value_at (n ∷ ns) x)
+range_found_of_cons true l n ls ns x e same here rest =
     let f : is_named x n ≡ true = ap (λ y. bytes_eq y x) same ∙ e in
     rw (e, f) here
-found_step false l n ls ns x e same here rest =
+range_found_of_cons false l n ls ns x e same here rest =
     let f : is_named x n ≡ false = ap (λ y. bytes_eq y x) same ∙ e in
     rw (e, f) rest
 
@@ -27,7 +27,7 @@ pub name_range : (ls : List Local) (ns : Names) (x : List ℕ) → AreRanged ls 
 name_range [] [] x h = tt
 name_range [] (n ∷ ns) x h = absurd h
 name_range (l ∷ ls) [] x h = absurd h
-name_range (l ∷ ls) (n ∷ ns) x h = found_step (has_name x l) l n ls ns x refl h.0 h.1 (name_range ls ns x h.2)
+name_range (l ∷ ls) (n ∷ ns) x h = range_found_of_cons (has_name x l) l n ls ns x refl h.0 h.1 (name_range ls ns x h.2)
 
 pub ranged_more : (ls : List Local) (ns : Names) (l : Local) (v : ℤ) → AreRanged ls ns → TypeRange (value_type l.binding) v → AreRanged (ls ++ l ∷ []) (ns ++ named l.name v ∷ [])
 ranged_more [] [] l v k e = (refl, e, tt)

@@ -1,6 +1,6 @@
 -- Integers modulo 2^64.
-use Rattle.std.proofs.Common.{◌≡◌, ℕ, ◌+◌, ◌-◌, ◌*◌, ◌%◌, ◌^◌, ◌<◌, Bool, true, false, Option, Some, None, refl, sym, ap, ap₂, ◌∙◌, arith, ltb}
-use Rattle.std.specs.Prelude.{ℤ, pos, negsuc, ◌+ℤ◌, ◌*ℤ◌, bit_or, FitsSigned}
+use Rattle.std.proofs.Common.{◌≡◌, ℕ, ◌+◌, ◌-◌, ◌*◌, ◌%◌, ◌^◌, ◌<◌, Bool, true, false, Option, Some, None, refl, sym, ap, ap₂, ◌∙◌, arith, ltb, suc, zero}
+use Rattle.std.specs.Prelude.{ℤ, pos, negsuc, ◌+ℤ◌, ◌*ℤ◌, bit_or, FitsSigned, neg_ℤ}
 use Rattle.std.specs.Int.{w64, w128, cast_signed, cast_unsigned, int_wrapping_mul, int_wrap}
 use Rattle.std.proofs.lemmas.Bool.{ltb-false}
 use Rattle.std.proofs.lemmas.Nat.{mul-mod_second}
@@ -102,3 +102,8 @@ pub word-small : (n : ℕ) → n < 2 ^ 64 → cast_signed w128 n ≡ pos n
 word-small n h = to_z_pos w128 n (omega arith)
 
 pub ruleset word_rules = (wrapped-word, word-wrapping_mul, word-or_below, word-shl)
+
+pub word-neg : (z : ℤ) → word (neg_ℤ z) ≡ (2 ^ 64 - word z) % 2 ^ 64
+word-neg (pos zero) = refl
+word-neg (pos (suc n)) = omega arith
+word-neg (negsuc n) = omega arith

@@ -16,13 +16,13 @@ pub data Ends (from last_use : ℕ) : LoopState Names → Type 0 where
   LeftAt : (m : Memory) (ns : Names) (i : ℕ) → from ≤ i → i < last_use → Ends from last_use (Left m ns i)
   FailedAt : (m : Memory) (i : ℕ) → from ≤ i → i < last_use → Ends from last_use (Failed m i)
 
-later : (from next last_use : ℕ) (st : LoopState Names) → from ≤ next → Ends next last_use st → Ends from last_use st
-later from next last_use _ le (GoesOn m ns) = GoesOn m ns
-later from next last_use _ le (LeftAt m ns i h g) = LeftAt m ns i (omega arith) g
-later from next last_use _ le (FailedAt m i h g) = FailedAt m i (omega arith) g
+ends_from_earlier : (from next last_use : ℕ) (st : LoopState Names) → from ≤ next → Ends next last_use st → Ends from last_use st
+ends_from_earlier from next last_use _ le (GoesOn m ns) = GoesOn m ns
+ends_from_earlier from next last_use _ le (LeftAt m ns i h g) = LeftAt m ns i (omega arith) g
+ends_from_earlier from next last_use _ le (FailedAt m i h g) = FailedAt m i (omega arith) g
 
 ends_step : (t : BlockEnd Names) (i last_use : ℕ) (rest : Memory → Names → LoopState Names) → i < last_use → ((m : Memory) (ns : Names) → Ends (i + 1) last_use (rest m ns)) → Ends i last_use (go_on t i rest)
-ends_step (Next m ns) i last_use rest lt next = later i (i + 1) last_use (rest m ns) (omega arith) (next m ns)
+ends_step (Next m ns) i last_use rest lt next = ends_from_earlier i (i + 1) last_use (rest m ns) (omega arith) (next m ns)
 ends_step (Broke m ns) i last_use rest lt next = LeftAt m ns i (omega arith) lt
 ends_step (Faulted m) i last_use rest lt next = FailedAt m i (omega arith) lt
 
@@ -64,13 +64,13 @@ iterations_on s l a b i m ns now names h = iterations-further s l b a i (a + b) 
 pub fails_on : (s : Scope) (l : PlainLoop) (a b i : ℕ) (m : Memory) (ns : Names) (now : Memory) (j : ℕ) → iterations s l a i m ns ≡ Failed now j → iterations s l (a + b) i m ns ≡ Failed now j
 fails_on s l a b i m ns now j h = iterations-further s l b a i (a + b) (i + a) m ns refl refl ∙ ap (further s l b (i + a)) h
 
-pub nothing : (s : Scope) (l : PlainLoop) (i : ℕ) (m : Memory) (ns : Names) → iterations s l 0 i m ns ≡ Going m ns
+pub no_iterations : (s : Scope) (l : PlainLoop) (i : ℕ) (m : Memory) (ns : Names) → iterations s l 0 i m ns ≡ Going m ns
 unfolding iterations
-nothing s l i m ns = refl
+no_iterations s l i m ns = refl
 
 -- no iteration is done by a course of none
 pub none_done : (s : Scope) (l : PlainLoop) (i : ℕ) (m : Memory) (ns : Names) (now : Memory) (names : Names) → iterations s l 0 i m ns ≡ Going now names → (now ≡ m) × (names ≡ ns)
-none_done s l i m ns now names h = let g : Going m ns ≡ Going now names = sym (nothing s l i m ns) ∙ h in (cc, cc)
+none_done s l i m ns now names h = let g : Going m ns ≡ Going now names = sym (no_iterations s l i m ns) ∙ h in (cc, cc)
 
 -- ---- the run from an iteration on
 
@@ -121,8 +121,8 @@ iteration_ended : (k : Program) (l : PlainLoop) (i : ℕ) (m : Memory) (names : 
 iteration_ended k l i m names t has lt e =
     for_loop_is k l i m names has ∙ one_on (var_scope k) l k.answer i m names lt ∙ ap (λ t. finish (var_scope k) l k.answer (bound_of l names) (go_on t i (iterations (var_scope k) l (bound_of l names - (i + 1)) (i + 1)))) e
 
-pub goes_on : (k : Program) (l : PlainLoop) (i : ℕ) (m now : Memory) (names next : Names) → k.for_loop ≡ Some l → i < bound_of l names → bound_of l next ≡ bound_of l names → iterate (var_scope k) l i m names ≡ Next now next → run_from k i m names ≡ run_from k (i + 1) now next
-goes_on k l i m now names next has lt same e =
+pub run_from_next_iteration : (k : Program) (l : PlainLoop) (i : ℕ) (m now : Memory) (names next : Names) → k.for_loop ≡ Some l → i < bound_of l names → bound_of l next ≡ bound_of l names → iterate (var_scope k) l i m names ≡ Next now next → run_from k i m names ≡ run_from k (i + 1) now next
+run_from_next_iteration k l i m now names next has lt same e =
     iteration_ended k l i m names (Next now next) has lt e
     ∙ ap (λ n. finish (var_scope k) l k.answer n (iterations (var_scope k) l (n - (i + 1)) (i + 1) now next)) (sym same) ∙ sym (for_loop_is k l (i + 1) now next has)
 
@@ -138,5 +138,5 @@ over k l i m names has e =
     let none : bound_of l names - i ≡ 0 = omega (arith, e) in
     for_loop_is k l i m names has
     ∙ ap (λ n. finish (var_scope k) l k.answer (bound_of l names) (iterations (var_scope k) l n i m names)) none
-    ∙ ap (finish (var_scope k) l k.answer (bound_of l names)) (nothing (var_scope k) l i m names)
+    ∙ ap (finish (var_scope k) l k.answer (bound_of l names)) (no_iterations (var_scope k) l i m names)
     ∙ ap (λ n. closed (var_scope k) l k.answer m names n n) (sym e)

@@ -7,7 +7,7 @@ use Rattle.kernel_tree.specs.Plain.{Parameter, Accumulator, PlainLoop, Program}
 use Rattle.kernel_tree.specs.Typing.{Scope, Local, local, has_name, binding_of, lookup, declared, binding_of_shape, param_scope, var_scope}
 use Rattle.kernel_tree.specs.Scopes.{locals_of, accs_of}
 use Rattle.kernel_tree.proofs.Scopes.{var_visible}
-use Rattle.kernel_tree.proofs.Names.{no_scalar}
+use Rattle.kernel_tree.proofs.Names.{accumulator_is_no_scalar}
 use Rattle.guest_types.specs.Memory.{Memory}
 use Rattle.kernel_meaning.specs.Operators.{word}
 use Rattle.kernel_meaning.specs.Eval.{Names, is_named, value_of, value_at, value}
@@ -58,7 +58,7 @@ visible_names k args m names e =
 -- ---- the bound of the loop is a parameter
 
 front_value : (ps : List Parameter) (vs : List Accumulator) (args : List ℕ) (more : Names) (x : List ℕ) (t : Ty) → option_map binding_of (find (has_name x) (locals_of ps ++ accs_of vs)) ≡ Some (binding.Scalar t) → value_at (argument_names ps args ++ more) x ≡ value_at (argument_names ps args) x
-front_value [] vs args more x t e = absurd (no_scalar vs x t e)
+front_value [] vs args more x t e = absurd (accumulator_is_no_scalar vs x t e)
 front_value (p ∷ ps) vs args more x t e = by_test (bytes_eq p.name x) e (front_value ps vs (drop 1 args) more x t)
   where
     by_test : (b : Bool) → option_map binding_of (cond b (Some (local p.name (binding_of_shape p.shape))) (find (has_name x) (locals_of ps ++ accs_of vs))) ≡ Some (binding.Scalar t)

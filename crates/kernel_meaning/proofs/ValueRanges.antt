@@ -5,11 +5,11 @@ use Rattle.guest_types.specs.declared.memory.AccessFault.{AccessFault}
 use Rattle.guest_types.specs.Memory.{Memory, loaded}
 use Rattle.kernel_tree.specs.declared.ops.Ty.{Ty}
 use Rattle.kernel_tree.specs.Plain.{Term, Literal, Variable, Element, Unary, Operation, Shift, Conversion, Choice, Comparison, Both, Either, Not}
-use Rattle.kernel_tree.specs.Wrap.{wrap}
+use Rattle.kernel_tree.specs.Wrap.{wrap, byte_count}
 use Rattle.kernel_tree.specs.Items.{stream_offset, term_size, index_items}
 use Rattle.kernel_tree.specs.Typing.{Scope, Value, Condition, lookup, own, element_type, value_type, index_type, side_type, faults, inner_faults, read_faults, mismatch}
 use Rattle.kernel_meaning.specs.TypeValues.{IsOf}
-use Rattle.kernel_meaning.specs.Eval.{Names, value_at, read_value, read_element, address, byte_count, on_both, chosen, value, holds}
+use Rattle.kernel_meaning.specs.Eval.{Names, value_at, read_value, read_element, address, on_both, chosen, value, holds}
 use Rattle.kernel_meaning.specs.Ranges.{TypeRange, AreRanged}
 use Rattle.kernel_meaning.proofs.TypeRanges.{wrap-is_of}
 use Rattle.kernel_meaning.proofs.NameRanges.{name_range}

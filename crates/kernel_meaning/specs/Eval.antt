@@ -2,9 +2,8 @@
 use Rattle.std.specs.Prelude.{ℕ, ℤ, pos, ◌+ℤ◌, ◌*ℤ◌, List, Option, Some, None, option_map, option_and_then, unwrap_or, Result, Ok, Err, Bool, true, false, not, bytes_eq}
 use Rattle.std.specs.List.{find}
 use Rattle.kernel_tree.specs.declared.ops.Ty.{Ty}
-use Rattle.kernel_tree.specs.declared.ops.Ty.TheVariants as ty
 use Rattle.kernel_tree.specs.Plain.{Term, Literal, Variable, Element, Unary, Operation, Shift, Conversion, Choice, Comparison, Both, Either, Not}
-use Rattle.kernel_tree.specs.Wrap.{wrap}
+use Rattle.kernel_tree.specs.Wrap.{wrap, byte_count}
 use Rattle.kernel_tree.specs.Items.{stream_offset}
 use Rattle.kernel_tree.specs.Typing.{Scope, lookup, own, element_type, index_type, side_type}
 use Rattle.guest_types.specs.declared.memory.AccessFault.{AccessFault}
@@ -33,17 +32,6 @@ abbrev pub value_at : Names → List ℕ → ℤ
 value_at names x = unwrap_or (option_map value_of (find (is_named x) names)) (pos 0)
 
 -- ---- elements of arrays
-
--- the bytes of an element
-abbrev pub byte_count : Ty → ℕ
-byte_count ty.I8 = 1
-byte_count ty.U8 = 1
-byte_count ty.I16 = 2
-byte_count ty.U16 = 2
-byte_count ty.I32 = 4
-byte_count ty.U32 = 4
-byte_count ty.I64 = 8
-byte_count ty.U64 = 8
 
 -- the address of element x of the array at an address
 abbrev pub address : Ty → ℤ → ℤ → ℕ

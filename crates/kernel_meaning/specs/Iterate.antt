@@ -5,11 +5,12 @@ use Rattle.kernel_tree.specs.declared.ops.UpdateOp.{UpdateOp}
 use Rattle.kernel_tree.specs.Plain.{Action, Define, Put, Update, Choose, Leave, Block, Done, Then, Otherwise, Nothing, Else, PlainLoop}
 use Rattle.kernel_tree.specs.Items.{stream_offset}
 use Rattle.kernel_tree.specs.Typing.{Scope, lookup, own, first, element_type, accumulator_type, index_type, after_action, after_block, left, in_loop}
+use Rattle.kernel_tree.specs.Wrap.{byte_count}
 use Rattle.guest_types.specs.declared.memory.AccessFault.{AccessFault}
 use Rattle.guest_types.specs.Memory.{Memory, stored}
 use Rattle.kernel_meaning.specs.Ends.{BlockEnd, Next, Broke, Faulted}
 use Rattle.kernel_meaning.specs.Operators.{word, binary_value, operator_of}
-use Rattle.kernel_meaning.specs.Eval.{Named, Names, is_named, value_at, byte_count, address, iteration, element_number, value, holds}
+use Rattle.kernel_meaning.specs.Eval.{Named, Names, is_named, value_at, address, iteration, element_number, value, holds}
 
 -- ---- names
 

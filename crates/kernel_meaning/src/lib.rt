@@ -7,5 +7,5 @@ mod types;
 mod words;
 
 pub use outcome::ScalarOutcome;
-pub use types::{binary_leaves, fits, greatest, is_signed, least, unary_leaves};
+pub use types::{binary_leaves, fits, greatest, least, unary_leaves};
 pub use words::{shift_count, word, wrap, wrapped};

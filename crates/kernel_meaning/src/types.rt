@@ -1,17 +1,9 @@
 //! The values of types, and which operators stay among them.
 
 ghost use Rattle.std.specs.Prelude.{◌≡◌};
-ghost use Rattle.kernel_tree.specs.Wrap as wraps;
 ghost use Rattle.kernel_meaning.specs.TypeValues as values;
 
 use kernel_tree::{BinaryOp, Ty, UnaryOp};
-
-/// Whether a type is signed.
-pub fn is_signed(ty: Ty) -> bool
-    ensures { result ≡ wraps.is_signed ty }
-{
-    matches!(ty, Ty::I8 | Ty::I16 | Ty::I32 | Ty::I64)
-}
 
 /// The least value of a type.
 pub fn least(ty: Ty) -> i128
@@ -57,8 +49,8 @@ pub fn unary_leaves(op: UnaryOp, ty: Ty) -> bool
 {
     match op {
         UnaryOp::Neg => true,
-        UnaryOp::Flip => !is_signed(ty),
-        UnaryOp::Abs => is_signed(ty),
+        UnaryOp::Flip => !ty.is_signed(),
+        UnaryOp::Abs => ty.is_signed(),
     }
 }
 

@@ -1,8 +1,7 @@
 -- One step of a walk over a list.
-use Rattle.std.proofs.Common.{◌≡◌, ℕ, ◌+◌, ◌<◌, List, [], ◌∷◌, ◌++◌, length, drop, get_or, refl, sym, ap, ap₂, ◌∙◌, add-one, drop-cons}
-use Rattle.kernel_tree.specs.declared.ast.Stmt.{Stmt}
+use Rattle.std.proofs.Common.{◌≡◌, ◌+◌, List, [], ◌∷◌, ◌++◌, length, refl, ap, ◌∙◌}
 use Rattle.kernel_tree.specs.Plain as plain
-use Rattle.kernel_tree.specs.Plain.{Accumulator, Action, Block, action_of, block_of}
+use Rattle.kernel_tree.specs.Plain.{Accumulator, Action, Block}
 use Rattle.std.specs.Prelude.{Some}
 use Rattle.kernel_tree.specs.declared.fault.Binding.TheVariants as binding
 use Rattle.kernel_tree.specs.Typing.{Scope, declared, after_action, after_block, after_vars}
@@ -10,12 +9,6 @@ use Rattle.kernel_plan.specs.declared.step.Step.{Step}
 use Rattle.kernel_plan.specs.Trees.{Set, Tasks, Done, Then, followed, task_of, tasks_of}
 use Rattle.kernel_plan.specs.Resolve.{resolved, resolved_action, resolved_block}
 use Rattle.kernel_plan.specs.Plans.{resolved_vars}
-
-pub next_item : {A : Type 0} (xs : List A) (i : ℕ) (x : A) → i < length xs → x ≡ get_or xs i x → drop i xs ≡ x ∷ drop (i + 1) xs
-next_item xs i x h g = drop-cons xs i x h ∙ ap₂ (λ y n. y ∷ drop n xs) (sym g) (sym (add-one i))
-
-pub next_statement : (xs : List Stmt) (i : ℕ) (x : Stmt) → i < length xs → x ≡ get_or xs i x → block_of (drop i xs) ≡ plain.Then (action_of x) (block_of (drop (i + 1) xs))
-next_statement xs i x h g = ap block_of (next_item xs i x h g)
 
 -- a step more
 pub followed-push : (xs : List Step) (s : Step) (rest : Tasks) → followed (tasks_of (xs ++ s ∷ [])) rest ≡ followed (tasks_of xs) (Then (task_of s) rest)
@@ -31,8 +24,8 @@ pub record GoesOn (s t : Scope) (xs ys : List Step) (b x : Block) : Type 0 where
   pub steps : followed (tasks_of ys) (resolved_block t b) ≡ followed (tasks_of xs) (resolved_block s x)
 
 -- after a statement the walk goes on at the next
-pub goes_on : (s t : Scope) (xs ys : List Step) (step : Step) (a : Action) (b x : Block) → x ≡ plain.Then a b → t ≡ after_action s a → ys ≡ xs ++ step ∷ [] → task_of step ≡ resolved_action s a → GoesOn s t xs ys b x
-goes_on s t xs ys step a b x e f g h = record {
+pub statement_goes_on : (s t : Scope) (xs ys : List Step) (step : Step) (a : Action) (b x : Block) → x ≡ plain.Then a b → t ≡ after_action s a → ys ≡ xs ++ step ∷ [] → task_of step ≡ resolved_action s a → GoesOn s t xs ys b x
+statement_goes_on s t xs ys step a b x e f g h = record {
   scope = rw (e, f) refl;
   steps = rw (e, f, g) (followed-push xs step (resolved_block (after_action s a) b) ∙ ap (λ task. followed (tasks_of xs) (Then task (resolved_block (after_action s a) b))) h);
 }

@@ -14,8 +14,8 @@ use Rattle.kernel_plan.specs.Resolve.{slot_of, stream_tree, read_tree, resolved}
 -- ---- an expression of a kind
 
 module _ (t : ℕ) (whole : Term) (falls : 4 * term_depth whole ≡ t) where
-  pub called : (e : Term) (n : ℕ) → whole ≡ e → term_depth e ≡ n + 1 → 4 * n + 3 < t
-  called e n is d = let deep = ap term_depth is in omega (arith, falls, deep, d)
+  pub four_3_called : (e : Term) (n : ℕ) → whole ≡ e → term_depth e ≡ n + 1 → 4 * n + 3 < t
+  four_3_called e n is d = let deep = ap term_depth is in omega (arith, falls, deep, d)
 
   pub operand_called : (e : Term) (n : ℕ) → whole ≡ e → term_depth e ≡ n + 1 → 4 * n + 1 < t
   operand_called e n is d = let deep = ap term_depth is in omega (arith, falls, deep, d)
@@ -25,26 +25,11 @@ as_whole r s want e whole is h = subst (λ (x : Term). IfOk r (λ n. tree_of n �
 
 -- ---- operands
 
-pub one_below : (t d : ℕ) → 4 * d + 1 ≡ t → 4 * d < t
-one_below t d h = omega arith
+pub four_3_to_first_1 : (t f d e : ℕ) → 4 * max f (max d e) + 3 ≡ t → 4 * f + 1 < t
+four_3_to_first_1 t f d e h = omega arith
 
-pub number_below : (t d : ℕ) → 4 * d + 2 ≡ t → 4 * d + 1 < t
-number_below t d h = omega arith
-
-pub pair_below : (t d : ℕ) → 4 * d + 3 ≡ t → 4 * d + 2 < t
-pair_below t d h = omega arith
-
-pub left_below : (t d e : ℕ) → 4 * max d e + 2 ≡ t → 4 * d + 1 < t
-left_below t d e h = omega arith
-
-pub right_below : (t d e : ℕ) → 4 * max d e + 2 ≡ t → 4 * e + 1 < t
-right_below t d e h = omega arith
-
-pub condition_below : (t f d e : ℕ) → 4 * max f (max d e) + 3 ≡ t → 4 * f + 1 < t
-condition_below t f d e h = omega arith
-
-pub values_below : (t f d e : ℕ) → 4 * max f (max d e) + 3 ≡ t → 4 * max d e + 2 < t
-values_below t f d e h = omega arith
+pub four_3_to_others_2 : (t f d e : ℕ) → 4 * max f (max d e) + 3 ≡ t → 4 * max d e + 2 < t
+four_3_to_others_2 t f d e h = omega arith
 
 -- ---- an element
 

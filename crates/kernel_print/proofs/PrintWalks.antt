@@ -10,8 +10,8 @@ use Rattle.kernel_tree.specs.Printing.{spaced, print_term, print_action}
 -- ---- an expression or a statement of a kind
 
 module _ (t : ℕ) (whole : Term) (falls : 4 * term_depth whole ≡ t) where
-  pub called : (e : Term) (n : ℕ) → whole ≡ e → term_depth e ≡ n + 1 → 4 * n + 2 < t
-  called e n is d = let deep = ap term_depth is in omega (arith, falls, deep, d)
+  pub four_2_called : (e : Term) (n : ℕ) → whole ≡ e → term_depth e ≡ n + 1 → 4 * n + 2 < t
+  four_2_called e n is d = let deep = ap term_depth is in omega (arith, falls, deep, d)
 
   pub operator_called : (e : Term) (n : ℕ) → whole ≡ e → term_depth e ≡ n + 1 → 4 * n + 3 < t
   operator_called e n is d = let deep = ap term_depth is in omega (arith, falls, deep, d)
@@ -24,35 +24,11 @@ as_statement r old new a whole is h = subst (λ (x : Action). IfOk r (λ _. (res
 
 -- ---- operands
 
-pub one_below : (t d : ℕ) → 4 * d + 1 ≡ t → 4 * d < t
-one_below t d h = omega arith
+pub four_2_to_first_1 : (t f d e : ℕ) → 4 * max f (max d e) + 2 ≡ t → 4 * f + 1 < t
+four_2_to_first_1 t f d e h = omega arith
 
-pub inside_below : (t d : ℕ) → 4 * d + 2 ≡ t → 4 * d < t
-inside_below t d h = omega arith
+pub four_2_to_second_1 : (t f d e : ℕ) → 4 * max f (max d e) + 2 ≡ t → 4 * d + 1 < t
+four_2_to_second_1 t f d e h = omega arith
 
-pub argument_below : (t d : ℕ) → 4 * d + 2 ≡ t → 4 * d + 1 < t
-argument_below t d h = omega arith
-
-pub kind_below : (t d : ℕ) → 4 * d + 3 ≡ t → 4 * d + 2 < t
-kind_below t d h = omega arith
-
-pub left_below : (t d e : ℕ) → 4 * max d e + 2 ≡ t → 4 * d < t
-left_below t d e h = omega arith
-
-pub right_below : (t d e : ℕ) → 4 * max d e + 2 ≡ t → 4 * e < t
-right_below t d e h = omega arith
-
-pub first_below : (t d e : ℕ) → 4 * max d e + 2 ≡ t → 4 * d + 1 < t
-first_below t d e h = omega arith
-
-pub second_below : (t d e : ℕ) → 4 * max d e + 2 ≡ t → 4 * e + 1 < t
-second_below t d e h = omega arith
-
-pub condition_below : (t f d e : ℕ) → 4 * max f (max d e) + 2 ≡ t → 4 * f + 1 < t
-condition_below t f d e h = omega arith
-
-pub yes_below : (t f d e : ℕ) → 4 * max f (max d e) + 2 ≡ t → 4 * d + 1 < t
-yes_below t f d e h = omega arith
-
-pub no_below : (t f d e : ℕ) → 4 * max f (max d e) + 2 ≡ t → 4 * e + 1 < t
-no_below t f d e h = omega arith
+pub four_2_to_third_1 : (t f d e : ℕ) → 4 * max f (max d e) + 2 ≡ t → 4 * e + 1 < t
+four_2_to_third_1 t f d e h = omega arith

@@ -15,8 +15,8 @@ use Rattle.kernel_print.proofs.Printed.{printed}
 use Rattle.kernel_print.proofs.PrintedTokens.{canonical_tokens}
 use Rattle.kernel_tree.proofs.Lexed.{tokens_of-joined_text}
 
-alone : (e : Term) → Well e → (rest : List TextToken) → Spells 10 (print_term e site.Alone rest) e rest
-alone e h rest = printed e h site.Alone rest
+spells_printed_term : (e : Term) → Well e → (rest : List TextToken) → Spells 10 (print_term e site.Alone rest) e rest
+spells_printed_term e h rest = printed e h site.Alone rest
 
 type_spells : (t : Option Ty) (rest : List TextToken) → SpellsType (print_type t rest) t rest
 type_spells None rest = untyped
@@ -24,12 +24,12 @@ type_spells (Some t) rest = typed
 
 mutual
   action_spells : (whole : Bool) (s : Action) → WellAction whole s → (rest : List TextToken) → SpellsAction whole (print_action s rest) s rest
-  action_spells whole (Define x t e) h rest = define (type_spells t _) (alone e h.1 _)
-  action_spells whole (Put a i e) h rest = put (alone i h.1.0 _) (alone e h.1.1 _)
-  action_spells whole (Update x op e) h rest = update (alone e h.1 _)
-  action_spells whole (Choose c b Nothing) h rest = choose (alone c h.0 _) (block_spells false b h.1.0 rest)
-  action_spells whole (Choose c b (Else d)) h rest = choose_else (alone c h.0 _) (block_spells false b h.1.0 _) (block_spells false d h.1.1 rest)
-  action_spells true (Leave c) h rest = leave (alone c h.1 _)
+  action_spells whole (Define x t e) h rest = define (type_spells t _) (spells_printed_term e h.1 _)
+  action_spells whole (Put a i e) h rest = put (spells_printed_term i h.1.0 _) (spells_printed_term e h.1.1 _)
+  action_spells whole (Update x op e) h rest = update (spells_printed_term e h.1 _)
+  action_spells whole (Choose c b Nothing) h rest = choose (spells_printed_term c h.0 _) (block_spells false b h.1.0 rest)
+  action_spells whole (Choose c b (Else d)) h rest = choose_else (spells_printed_term c h.0 _) (block_spells false b h.1.0 _) (block_spells false d h.1.1 rest)
+  action_spells true (Leave c) h rest = leave (spells_printed_term c h.1 _)
   action_spells false (Leave c) h rest = let e = h.0 in absurd cc
 
   block_spells : (whole : Bool) (b : Block) → WellBlock whole b → (rest : List TextToken) → SpellsBlock whole (print_block b rest) b rest
@@ -54,7 +54,7 @@ params_spells (p ∷ ps) rest h = some (some_spells 7 p ps rest (omega arith))
 
 vars_spells : (vs : List Accumulator) → WellVars vs → (rest : List TextToken) → SpellsVars (print_vars vs rest) vs rest
 vars_spells [] h rest = no_var
-vars_spells (v ∷ vs) h rest = var (alone v.init h.1.0 _) (vars_spells vs h.1.1 rest)
+vars_spells (v ∷ vs) h rest = var (spells_printed_term v.init h.1.0 _) (vars_spells vs h.1.1 rest)
 
 loop_spells : (l : Option PlainLoop) → WellForLoop l → (rest : List TextToken) → SpellsLoop (print_for_loop l rest) l rest
 loop_spells None h rest = no_loop
@@ -62,7 +62,7 @@ loop_spells (Some l) h rest = loop (block_spells true l.body h.1.1 rest)
 
 tree_at : (x : List ℕ) (ps : List Parameter) (vs : List Accumulator) (l : Option PlainLoop) (a : Option Returned) → let k : Program = record { name = x; params = ps; vars = vs; for_loop = l; answer = a } in WellProgram k → Tree (canonical_words k) k
 tree_at x ps vs l None h = procedure (params_spells ps _ h.few) (vars_spells vs h.vars _) (loop_spells l h.for_loop _)
-tree_at x ps vs l (Some a) h = function (params_spells ps _ h.few) (vars_spells vs h.vars _) (loop_spells l h.for_loop _) (alone a.value h.answer _)
+tree_at x ps vs l (Some a) h = function (params_spells ps _ h.few) (vars_spells vs h.vars _) (loop_spells l h.for_loop _) (spells_printed_term a.value h.answer _)
 
 pub canonical_tree : (k : Program) → WellProgram k → Tree (canonical_words k) k
 canonical_tree k h = tree_at k.name k.params k.vars k.for_loop k.answer h

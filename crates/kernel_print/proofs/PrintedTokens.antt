@@ -70,8 +70,8 @@ term_tokens (Either a b) h place rest t = between_tokens (print_term a) (print_t
 term_tokens (Not e) h place rest t = opened_tokens place _ (refl, term_tokens e h site.Operand _ (closed_tokens place rest t))
 
 -- an expression by itself, and tokens after it
-alone : (e : Term) → Well e → (rest : List TextToken) → Tokens rest → Tokens (print_term e site.Alone rest)
-alone e h rest t = term_tokens e h site.Alone rest t
+tokens_of_printed_term : (e : Term) → Well e → (rest : List TextToken) → Tokens rest → Tokens (print_term e site.Alone rest)
+tokens_of_printed_term e h rest t = term_tokens e h site.Alone rest t
 
 type_tokens : (y : Option Ty) (rest : List TextToken) → Tokens rest → Tokens (print_type y rest)
 type_tokens None rest t = t
@@ -79,11 +79,11 @@ type_tokens (Some y) rest t = (refl, (refl, t))
 
 mutual
   action_tokens : (whole : Bool) (s : Action) → WellAction whole s → (rest : List TextToken) → Tokens rest → Tokens (print_action s rest)
-  action_tokens whole (Define x y e) h rest t = (refl, (h.0, type_tokens y _ (refl, alone e h.1 _ (refl, t))))
-  action_tokens whole (Put a i e) h rest t = (h.0, (refl, alone i h.1.0 _ (refl, (refl, alone e h.1.1 _ (refl, t)))))
-  action_tokens whole (Update x op e) h rest t = (h.0, (refl, alone e h.1 _ (refl, t)))
-  action_tokens whole (Choose c b d) h rest t = (refl, alone c h.0 _ (refl, block_tokens false b h.1.0 _ (otherwise_tokens d h.1.1 rest t)))
-  action_tokens whole (Leave c) h rest t = (refl, (refl, alone c h.1 _ (refl, t)))
+  action_tokens whole (Define x y e) h rest t = (refl, (h.0, type_tokens y _ (refl, tokens_of_printed_term e h.1 _ (refl, t))))
+  action_tokens whole (Put a i e) h rest t = (h.0, (refl, tokens_of_printed_term i h.1.0 _ (refl, (refl, tokens_of_printed_term e h.1.1 _ (refl, t)))))
+  action_tokens whole (Update x op e) h rest t = (h.0, (refl, tokens_of_printed_term e h.1 _ (refl, t)))
+  action_tokens whole (Choose c b d) h rest t = (refl, tokens_of_printed_term c h.0 _ (refl, block_tokens false b h.1.0 _ (otherwise_tokens d h.1.1 rest t)))
+  action_tokens whole (Leave c) h rest t = (refl, (refl, tokens_of_printed_term c h.1 _ (refl, t)))
 
   pub block_tokens : (whole : Bool) (b : Block) → WellBlock whole b → (rest : List TextToken) → Tokens rest → Tokens (print_block b rest)
   block_tokens whole Done h rest t = (refl, t)
@@ -107,7 +107,7 @@ params_tokens (p ∷ ps) h rest t = (h.0, (refl, shape_tokens p.shape _ (others_
 
 vars_tokens : (vs : List Accumulator) → WellVars vs → (rest : List TextToken) → Tokens rest → Tokens (print_vars vs rest)
 vars_tokens [] h rest t = t
-vars_tokens (v ∷ vs) h rest t = (refl, (h.0, (refl, (refl, (refl, alone v.init h.1.0 _ (refl, vars_tokens vs h.1.1 rest t))))))
+vars_tokens (v ∷ vs) h rest t = (refl, (h.0, (refl, (refl, (refl, tokens_of_printed_term v.init h.1.0 _ (refl, vars_tokens vs h.1.1 rest t))))))
 
 for_loop_tokens : (l : Option PlainLoop) → WellForLoop l → (rest : List TextToken) → Tokens rest → Tokens (print_for_loop l rest)
 for_loop_tokens None h rest t = t
@@ -119,7 +119,7 @@ arrow_tokens (Some a) rest t = (refl, (refl, t))
 
 answer_tokens : (a : Option Returned) → WellAnswer a → (rest : List TextToken) → Tokens rest → Tokens (print_answer a rest)
 answer_tokens None h rest t = t
-answer_tokens (Some a) h rest t = (refl, alone a.value h _ (refl, t))
+answer_tokens (Some a) h rest t = (refl, tokens_of_printed_term a.value h _ (refl, t))
 
 pub canonical_tokens : (k : Program) → WellProgram k → Tokens (canonical_words k)
 canonical_tokens k h = (refl, (h.name, (refl, params_tokens k.params h.params _ (refl, arrow_tokens k.answer _ (refl, vars_tokens k.vars h.vars _ (for_loop_tokens k.for_loop h.for_loop _ (answer_tokens k.answer h.answer _ (refl, tt))))))))

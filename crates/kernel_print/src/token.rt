@@ -3,7 +3,7 @@
 ghost use Rattle.std.specs.Prelude.{◌≡◌, ◌∷◌, ◌++◌, ℕ, List, IfOk, string_bytes};
 ghost use Rattle.kernel_tree.specs.TextToken.{TextToken, IsName, IsNumber, IsType, IsCompare, IsUpdate, IsMark};
 ghost use Rattle.kernel_tree.specs.Plain.{name_of};
-ghost use Rattle.kernel_tree.specs.Printing.{spaced, type_text, reserved_text, mark_text, compare_text, update_text, opened, closed, number_opened, number_closed, print_literal, print_count};
+ghost use Rattle.kernel_tree.specs.Printing.{spaced, reserved_text, mark_text, compare_text, update_text, opened, closed, number_opened, number_closed, print_literal, print_count};
 
 use itoa::Buffer;
 use kernel_tree::mark::Mark;
@@ -37,28 +37,12 @@ pub fn put_number(out: &mut String, n: u128) -> Result<(), AllocError>
     put(out, buffer.format(n))
 }
 
-// The text of a type.
-pub fn type_str(ty: Ty) -> &'static str
-    ensures { result.now ≡ type_text ty }
-{
-    match ty {
-        Ty::I8 => "i8",
-        Ty::I16 => "i16",
-        Ty::I32 => "i32",
-        Ty::I64 => "i64",
-        Ty::U8 => "u8",
-        Ty::U16 => "u16",
-        Ty::U32 => "u32",
-        Ty::U64 => "u64",
-    }
-}
-
 #[tactic(auto, unfolding(kernel_tree::specs::Printing::spaced))]
 pub fn put_type(out: &mut String, ty: Ty) -> Result<(), AllocError>
     ensures { IfOk result (λ _. (rest : List TextToken)
         → string_bytes out.new ++ spaced rest ≡ string_bytes out.old ++ spaced (IsType ty ∷ rest)) }
 {
-    put(out, type_str(ty))
+    put(out, ty.word())
 }
 
 // The text of a mark that is a reserved word; of the others none.

@@ -29,23 +29,23 @@ further s t u g h = record {
   inside = h.inside ∙ g.inside;
 }
 
-following : (s t : Scope) → Grows s t → Grows s (left s t)
-following s t g = record { more = []; visible = sym (append-nil s.visible); names = g.names; taken = g.taken; index = refl; inside = refl }
+grows_left : (s t : Scope) → Grows s t → Grows s (left s t)
+grows_left s t g = record { more = []; visible = sym (append-nil s.visible); names = g.names; taken = g.taken; index = refl; inside = refl }
 
 -- a name that is declared again is no new one
-no_more : (b : Bool) (names : List (List ℕ)) (x : List ℕ) → (if b then names else names ++ x ∷ []) ≡ names ++ (if b then [] else x ∷ [])
-no_more true names x = sym (append-nil names)
-no_more false names x = refl
+taken_or_added : (b : Bool) (names : List (List ℕ)) (x : List ℕ) → (if b then names else names ++ x ∷ []) ≡ names ++ (if b then [] else x ∷ [])
+taken_or_added true names x = sym (append-nil names)
+taken_or_added false names x = refl
 
 abbrev new_name : Scope → List ℕ → List (List ℕ)
 new_name s x = if is_taken s x then [] else x ∷ []
 
-one_more : (s : Scope) (x : List ℕ) → insert_name s.taken x ≡ s.taken ++ new_name s x
-one_more s x = no_more (is_taken s x) s.taken x
+taken_with_name : (s : Scope) (x : List ℕ) → insert_name s.taken x ≡ s.taken ++ new_name s x
+taken_with_name s x = taken_or_added (is_taken s x) s.taken x
 
 define : (s : Scope) (x : List ℕ) (o : Option Ty) → Grows s (defined s x o)
-define s x None = record { more = []; visible = sym (append-nil s.visible); names = new_name s x; taken = one_more s x; index = refl; inside = refl }
-define s x (Some t) = record { more = local x (binding.Value t) ∷ []; visible = refl; names = new_name s x; taken = one_more s x; index = refl; inside = refl }
+define s x None = record { more = []; visible = sym (append-nil s.visible); names = new_name s x; taken = taken_with_name s x; index = refl; inside = refl }
+define s x (Some t) = record { more = local x (binding.Value t) ∷ []; visible = refl; names = new_name s x; taken = taken_with_name s x; index = refl; inside = refl }
 
 mutual
   pub grows_by_action : (a : Action) (s : Scope) → Grows s (after_action s a)
@@ -55,7 +55,7 @@ mutual
   grows_by_action (Choose c b d) s =
       let t = left s (after_block s b) in
       let u = after_otherwise t d in
-      following s u (further s t u (following s (after_block s b) (grows_by_block b s)) (grows_by_otherwise d t))
+      grows_left s u (further s t u (grows_left s (after_block s b) (grows_by_block b s)) (grows_by_otherwise d t))
   grows_by_action (Leave c) s = stays s
 
   pub grows_by_block : (b : Block) (s : Scope) → Grows s (after_block s b)
@@ -66,10 +66,7 @@ mutual
   grows_by_otherwise Nothing s = stays s
   grows_by_otherwise (Else b) s = grows_by_block b s
 
-pub index_after_action : (s : Scope) (a : Action) → (after_action s a).index ≡ s.index
-index_after_action s a = (grows_by_action a s).index
-
-back : {A : Type 0} (n : ℕ) (xs ys zs : List A) → n ≡ length xs → ys ≡ xs ++ zs → take n ys ≡ xs
+pub back : {A : Type 0} (n : ℕ) (xs ys zs : List A) → n ≡ length xs → ys ≡ xs ++ zs → take n ys ≡ xs
 back n xs ys zs e q = rw (e, q) (take-append_seam xs zs)
 
 scope_is : (s : Scope) (ls : List Local) (i : Option (List ℕ)) (b : Bool) (names : List (List ℕ)) → ls ≡ s.visible → i ≡ s.index → b ≡ s.inside → record { visible = ls; taken = names; index = i; inside = b } ≡ record s { taken = names }

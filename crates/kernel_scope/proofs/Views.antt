@@ -13,13 +13,13 @@ use Rattle.kernel_scope.specs.Scopes.{lent_text, local_of, named, binding_among}
 abbrev found : List Local → List ℕ → Option Binding
 found ls x = option_map typing.binding_of (find (typing.has_name x) (map local_of ls))
 
-one : (b : Bool) (l : Local) (ls : List Local) (x : List ℕ) → named x l ≡ b → found ls x ≡ binding_among ls x → found (l ∷ ls) x ≡ binding_among (l ∷ ls) x
-one true l ls x e h = rw e refl
-one false l ls x e h = rw e h
+found_of_cons : (b : Bool) (l : Local) (ls : List Local) (x : List ℕ) → named x l ≡ b → found ls x ≡ binding_among ls x → found (l ∷ ls) x ≡ binding_among (l ∷ ls) x
+found_of_cons true l ls x e h = rw e refl
+found_of_cons false l ls x e h = rw e h
 
 pub binding-among : (ls : List Local) (x : List ℕ) → option_map typing.binding_of (find (typing.has_name x) (map local_of ls)) ≡ binding_among ls x
 binding-among [] x = refl
-binding-among (l ∷ ls) x = one (named x l) l ls x refl (binding-among ls x)
+binding-among (l ∷ ls) x = found_of_cons (named x l) l ls x refl (binding-among ls x)
 
 abbrev pub is_text : List ℕ → Bor (List ℕ) → Bool
 is_text x t = bytes_eq x (lent_text t)
@@ -31,15 +31,15 @@ pub is-among : (ts : List (Bor (List ℕ))) (x : List ℕ) → list_any (bytes_e
 is-among [] x = refl
 is-among (t ∷ ts) x = ap (λ (b : Bool). is_text x t || b) (is-among ts x)
 
-one_more : (b : Bool) (ts : List (Bor (List ℕ))) (t : Bor (List ℕ)) → map lent_text (if b then ts else ts ++ t ∷ []) ≡ (if b then map lent_text ts else map lent_text ts ++ lent_text t ∷ [])
-one_more true ts t = refl
-one_more false ts t = map_push lent_text ts t
+lent_texts_of_push : (b : Bool) (ts : List (Bor (List ℕ))) (t : Bor (List ℕ)) → map lent_text (if b then ts else ts ++ t ∷ []) ≡ (if b then map lent_text ts else map lent_text ts ++ lent_text t ∷ [])
+lent_texts_of_push true ts t = refl
+lent_texts_of_push false ts t = map_push lent_text ts t
 
 -- a text goes into a set as its bytes go among the names
 pub insert-text : (ts : List (Bor (List ℕ))) (t : Bor (List ℕ)) → map lent_text (insert_key same_text ts t) ≡ typing.insert_name (map lent_text ts) (lent_text t)
 insert-text ts t =
     let among = λ (b : Bool). if b then map lent_text ts else map lent_text ts ++ lent_text t ∷ [] in
-    one_more (list_any (same_text t) ts) ts t ∙ ap among (sym (is-among ts (lent_text t)))
+    lent_texts_of_push (list_any (same_text t) ts) ts t ∙ ap among (sym (is-among ts (lent_text t)))
 
 pub take_locals : (n : ℕ) (ls : List Local) → take n (map local_of ls) ≡ map local_of (take n ls)
 take_locals n ls = take-map local_of n ls

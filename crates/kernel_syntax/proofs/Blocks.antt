@@ -39,8 +39,8 @@ bind_ok_id : (r : Statements) → (r >>= in_front []) ≡ r
 bind_ok_id (Ok x) = refl
 bind_ok_id (Err e) = refl
 
-pub starts : (statement : List TextToken → Statement) (words : List TextToken) → Follows statement (block_by statement (suc (length words)) words) [] words
-starts statement words = record { room = length words; enough = omega arith; same = bind_ok_id (block_by statement (suc (length words)) words) }
+pub block_follows : (statement : List TextToken → Statement) (words : List TextToken) → Follows statement (block_by statement (suc (length words)) words) [] words
+block_follows statement words = record { room = length words; enough = omega arith; same = bind_ok_id (block_by statement (suc (length words)) words) }
 
 pub bind_assoc : {A B C : Type 0} (r : Result A ℕ) (f : A → Result B ℕ) (g : B → Result C ℕ) → ((r >>= f) >>= g) ≡ (r >>= (λ x. f x >>= g))
 bind_assoc (Ok x) f g = refl
@@ -80,9 +80,9 @@ block-some whole (suc room) words h = let e : suc room - 1 ≡ room = omega arit
 
 -- ---- what a mark begins
 
-pub begins : (whole : Bool) (block : List TextToken → Statements) (words : List TextToken) (m : Mark) (rest : List TextToken) (o : Option Beginning) → mark_at words ≡ Some (m, rest) → beginning_of_mark m ≡ o → statement_by whole block words ≡ begun_by whole block o rest
+pub block_begins_with_mark : (whole : Bool) (block : List TextToken → Statements) (words : List TextToken) (m : Mark) (rest : List TextToken) (o : Option Beginning) → mark_at words ≡ Some (m, rest) → beginning_of_mark m ≡ o → statement_by whole block words ≡ begun_by whole block o rest
 unfolding statement_by
-begins whole block words m rest o e k = rw (mark-is words (m, rest) e, k) refl
+block_begins_with_mark whole block words m rest o e k = rw (mark-is words (m, rest) e, k) refl
 
 pub unbegun : (whole : Bool) (block : List TextToken → Statements) (words : List TextToken) (m : Mark) (rest : List TextToken) → mark_at words ≡ Some (m, rest) → beginning_of_mark m ≡ None → statement_by whole block words ≡ Err (length words)
 unfolding statement_by

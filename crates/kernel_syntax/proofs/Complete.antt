@@ -12,7 +12,7 @@ use Rattle.kernel_tree.specs.TextToken.{TextToken, IsNumber, IsType, IsMark}
 use Rattle.kernel_tree.specs.Plain.{Term}
 use Rattle.kernel_tree.specs.Grammar.{Spells, number, name, element, group, pair, absolute, choice, negative, prefix, up, conversion, shift, operation, comparison, operator_of, operator_of_mark, level_of}
 use Rattle.expression_syntax.specs.Reading.{following, past, type_at, count_at, operator_at, chain_at, term_before, name_by, pair_by, absolute_by, choice_by, signed_by, unary_at}
-use Rattle.expression_syntax.proofs.Chain.{Goes, begins, ends, goes_joined, goes_shifted, goes_as, ends_compared}
+use Rattle.expression_syntax.proofs.Chain.{Goes, chain_begins_below, chain_without_operator, goes_joined, goes_shifted, goes_as, ends_compared}
 use Rattle.expression_syntax.proofs.Sound.{joined_is_no_8, other_is_no_8}
 
 -- nothing at the front goes on with an expression of a level
@@ -57,7 +57,7 @@ Reads room (suc level) words e rest = Stops level rest → Goes (unary_at room) 
 pub finish : (room level : ℕ) (words : List TextToken) (e : Term) (rest : List TextToken) → Reads room level words e rest → Stops level rest → chain_at (unary_at room) level words ≡ Ok (e, rest)
 unfolding chain_at
 finish room zero words e rest r s = r s
-finish room (suc level) words e rest r s = elim (r (stops_lower level rest s)) [ inl g ↦ ends (unary_at room) (suc level) words e rest g (sym (s.operators (suc level) (omega arith))) | inr c ↦ c.1 ]
+finish room (suc level) words e rest r s = elim (r (stops_lower level rest s)) [ inl g ↦ chain_without_operator (unary_at room) (suc level) words e rest g (sym (s.operators (suc level) (omega arith))) | inr c ↦ c.1 ]
 
 pub goes_of : (room level : ℕ) (words : List TextToken) (e : Term) (rest : List TextToken) → (suc level ≡ 8 → ⊥) → Goes (unary_at room) (suc level) words e rest ⊎ ((suc level ≡ 8) × (chain_at (unary_at room) (suc level) words ≡ Ok (e, rest))) → Goes (unary_at room) (suc level) words e rest
 goes_of room level words e rest n (inl g) = g
@@ -89,7 +89,7 @@ reads negative (suc room) h = λ s. refl
 reads (prefix {e = e} {from = from} {rest = rest} o n d) (suc room) h = λ s. rw (o, n, reads d room (omega arith) s) refl
 reads (up {level = level} {e = e} {from = from} {rest = rest} d) room h = λ s.
     let p : suc level - 1 ≡ level = omega arith in
-    inl (begins (unary_at room) (suc level) from e rest (omega arith) (rw p (finish room level from e rest (reads d room h) s)))
+    inl (chain_begins_below (unary_at room) (suc level) from e rest (omega arith) (rw p (finish room level from e rest (reads d room h) s)))
 reads (conversion {level = level} {e = e} {t = t} {w = w} {from = from} {rest = rest} d o l) room h = λ s.
     let g = goes_of room level from e (w ∷ IsType t ∷ rest) (other_is_no_8 1 level (omega arith) l) (reads d room h (stops_before level w As (IsType t ∷ rest) o l)) in
     inl (goes_as (unary_at room) (suc level) from e (w ∷ IsType t ∷ rest) g (IsType t ∷ rest) t rest (sym (operator_there (suc level) w As (IsType t ∷ rest) o l)) (type_there t rest) (omega arith))
@@ -105,7 +105,7 @@ reads (comparison {level = level} {op = op} {w = w} {a = a} {b = b} {from = from
     let p : suc level - 1 ≡ level = omega arith in
     let left = finish room level from a (w ∷ next) (reads d1 room h) (stops_before level w (Compared op) next o l) in
     let right = finish room level next b rest (reads d2 room (omega (arith, shorter d1))) s in
-    let g = begins (unary_at room) (suc level) from a (w ∷ next) (omega arith) (rw p left) in
+    let g = chain_begins_below (unary_at room) (suc level) from a (w ∷ next) (omega arith) (rw p left) in
     inr (sym l, ends_compared (unary_at room) (suc level) from a (w ∷ next) g op next b rest (sym (operator_there (suc level) w (Compared op) next o l)) (rw p right))
 reads other zero h = λ s. absurd (omega arith)
 

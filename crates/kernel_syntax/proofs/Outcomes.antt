@@ -25,14 +25,14 @@ deep_words ts o h e = cond-false _ _ _ (within_is 4096 (length (words_of ts)) (o
 pub short_text : (text : List ℕ) (r : Result (List TextToken) ℕ) → length text ≤ 65536 → tokens_of text ≡ r → limit_fault text ≡ tokens_fault r
 short_text text r h e = cond-false _ _ _ (within_is 65536 (length text) h) ∙ ap tokens_fault e
 
-pub few_words : (words : List TextToken) → words_fault words ≡ None → length words ≤ 4096
-few_words words h = elim (leb_tells (suc 4096) (length words)) [ inl t ↦ absurd (some_none (sym (cond-true _ _ _ t.0) ∙ h)) | inr f ↦ omega (arith, f.1) ]
+pub words_within_4096 : (words : List TextToken) → words_fault words ≡ None → length words ≤ 4096
+words_within_4096 words h = elim (leb_tells (suc 4096) (length words)) [ inl t ↦ absurd (some_none (sym (cond-true _ _ _ t.0) ∙ h)) | inr f ↦ omega (arith, f.1) ]
   where
     some_none : Some faults.TooLong ≡ None → ⊥
     some_none e = cc
 
 pub words_give_text : (text : List ℕ) (ts : List Token) (r : Result Kernel ReadFault) → length text ≤ 65536 → tokens_of text ≡ Ok (words_of ts) → WordsGive (words_of ts) r → TextGives text r
-words_give_text text ts (Ok k) h e g = (short_text text (Ok (words_of ts)) h e ∙ g.0, record { words = words_of ts; tokens = e; few = few_words (words_of ts) g.0; spelled = tokens_are ts; tree = g.1 })
+words_give_text text ts (Ok k) h e g = (short_text text (Ok (words_of ts)) h e ∙ g.0, record { words = words_of ts; tokens = e; few = words_within_4096 (words_of ts) g.0; spelled = tokens_are ts; tree = g.1 })
 words_give_text text ts (Err faults.TooLong) h e g = short_text text (Ok (words_of ts)) h e ∙ g
 words_give_text text ts (Err (faults.BadByte at)) h e g = absurd g
 words_give_text text ts (Err (faults.TooDeep token)) h e g = short_text text (Ok (words_of ts)) h e ∙ g

@@ -14,9 +14,9 @@ use Rattle.kernel_syntax.proofs.Blocks.{bind_assoc}
 abbrev pub in_list : {A : Type 0} → List A → List A × List TextToken → Read (List A)
 in_list xs r = Ok (xs ++ r.0, r.1)
 
-one_more : {A : Type 0} (xs : List A) (x : A) (r : Read (List A)) → (r >>= (λ b. in_list xs (x ∷ b.0, b.1))) ≡ (r >>= in_list (xs ++ x ∷ []))
-one_more xs x (Ok b) = ap (λ l. Ok (l, b.1)) (sym (append_assoc xs (x ∷ []) b.0))
-one_more xs x (Err e) = refl
+in_list_of_push : {A : Type 0} (xs : List A) (x : A) (r : Read (List A)) → (r >>= (λ b. in_list xs (x ∷ b.0, b.1))) ≡ (r >>= in_list (xs ++ x ∷ []))
+in_list_of_push xs x (Ok b) = ap (λ l. Ok (l, b.1)) (sym (append_assoc xs (x ∷ []) b.0))
+in_list_of_push xs x (Err e) = refl
 
 nothing_before : {A : Type 0} (r : Read (List A)) → (r >>= in_list []) ≡ r
 nothing_before (Ok b) = refl
@@ -51,17 +51,17 @@ module _ (whole : Read (List Parameter)) (others : ℕ) (ps : List Parameter) (r
   pub fails_param : (e : Stop) → Fails e (param_at rest) → Fails e whole
   fails_param e h = fails_on e (param_at rest) (λ p. by_param others p >>= in_list ps) whole first h
 
-  step : (p : Parameter) (next : List TextToken) (o : Option (List TextToken)) → param_at rest ≡ Ok (p, next) → o ≡ following mark.CloseParen next → whole ≡ (given o (λ r. Ok (p ∷ [], r)) (others_next others (p, next)) >>= in_list ps)
-  step p next o h e = first ∙ ap (λ r. r >>= (λ p. by_param others p >>= in_list ps)) h ∙ ap (λ o. given o (λ r. Ok (p ∷ [], r)) (others_next others (p, next)) >>= in_list ps) (sym e)
+  params_go_by_one : (p : Parameter) (next : List TextToken) (o : Option (List TextToken)) → param_at rest ≡ Ok (p, next) → o ≡ following mark.CloseParen next → whole ≡ (given o (λ r. Ok (p ∷ [], r)) (others_next others (p, next)) >>= in_list ps)
+  params_go_by_one p next o h e = first ∙ ap (λ r. r >>= (λ p. by_param others p >>= in_list ps)) h ∙ ap (λ o. given o (λ r. Ok (p ∷ [], r)) (others_next others (p, next)) >>= in_list ps) (sym e)
 
   pub ends_params : (p : Parameter) (next end : List TextToken) → param_at rest ≡ Ok (p, next) → Some end ≡ following mark.CloseParen next → whole ≡ Ok (ps ++ p ∷ [], end)
-  ends_params p next end h e = step p next (Some end) h e
+  ends_params p next end h e = params_go_by_one p next (Some end) h e
 
   pub full_params : (p : Parameter) (next : List TextToken) → others ≡ 0 → param_at rest ≡ Ok (p, next) → None ≡ following mark.CloseParen next → whole ≡ Err (length next)
-  full_params p next z h e = step p next None h e ∙ ap (λ k. others_next k (p, next) >>= in_list ps) z
+  full_params p next z h e = params_go_by_one p next None h e ∙ ap (λ k. others_next k (p, next) >>= in_list ps) z
 
   comma : (p : Parameter) (next : List TextToken) (k : ℕ) → others ≡ suc k → param_at rest ≡ Ok (p, next) → None ≡ following mark.CloseParen next → whole ≡ (past mark.Comma next >>= (λ to. (some_at k to >>= (λ ps. Ok (p ∷ ps.0, ps.1))) >>= in_list ps))
-  comma p next k z h e = step p next None h e ∙ ap (λ k. others_next k (p, next) >>= in_list ps) z ∙ bind_assoc (past mark.Comma next) (λ to. some_at k to >>= (λ ps. Ok (p ∷ ps.0, ps.1))) (in_list ps)
+  comma p next k z h e = params_go_by_one p next None h e ∙ ap (λ k. others_next k (p, next) >>= in_list ps) z ∙ bind_assoc (past mark.Comma next) (λ to. some_at k to >>= (λ ps. Ok (p ∷ ps.0, ps.1))) (in_list ps)
 
   pub fails_comma : (p : Parameter) (next : List TextToken) (e : Stop) → 0 < others → param_at rest ≡ Ok (p, next) → None ≡ following mark.CloseParen next → Misses e (past mark.Comma next) → Fails e whole
   fails_comma p next e z h n q =
@@ -72,7 +72,7 @@ module _ (whole : Read (List Parameter)) (others : ℕ) (ps : List Parameter) (r
   takes_param p next to z h n q =
       let k : others ≡ suc (others - 1) = omega arith in
       let went = comma p next (others - 1) k h n ∙ ap (λ r. r >>= (λ to. (some_at (others - 1) to >>= (λ ps. Ok (p ∷ ps.0, ps.1))) >>= in_list ps)) q in
-      record { same = sym (went ∙ bind_assoc (some_at (others - 1) to) (λ ps. Ok (p ∷ ps.0, ps.1)) (in_list ps) ∙ one_more ps p (some_at (others - 1) to)) }
+      record { same = sym (went ∙ bind_assoc (some_at (others - 1) to) (λ ps. Ok (p ∷ ps.0, ps.1)) (in_list ps) ∙ in_list_of_push ps p (some_at (others - 1) to)) }
 
 -- ---- accumulators
 
@@ -86,21 +86,21 @@ unfolding vars_at
 vars_start words = record { room = length words; enough = omega arith; same = nothing_before (vars_by (suc (length words)) words) }
 
 module _ (whole : Read (List Accumulator)) (vs : List Accumulator) (rest : List TextToken) (f : VarsFollow whole vs rest) where
-  on : (o : Option (List TextToken)) → o ≡ following mark.Var rest → whole ≡ (given o (λ rest. var_at rest >>= (λ v. vars_by f.room v.1 >>= (λ vs. Ok (v.0 ∷ vs.0, vs.1)))) (Ok ([], rest)) >>= in_list vs)
+  vars_follow_on : (o : Option (List TextToken)) → o ≡ following mark.Var rest → whole ≡ (given o (λ rest. var_at rest >>= (λ v. vars_by f.room v.1 >>= (λ vs. Ok (v.0 ∷ vs.0, vs.1)))) (Ok ([], rest)) >>= in_list vs)
   unfolding vars_by
-  on o e = sym f.same ∙ ap (λ o. given o (λ rest. var_at rest >>= (λ v. vars_by f.room v.1 >>= (λ vs. Ok (v.0 ∷ vs.0, vs.1)))) (Ok ([], rest)) >>= in_list vs) (sym e)
+  vars_follow_on o e = sym f.same ∙ ap (λ o. given o (λ rest. var_at rest >>= (λ v. vars_by f.room v.1 >>= (λ vs. Ok (v.0 ∷ vs.0, vs.1)))) (Ok ([], rest)) >>= in_list vs) (sym e)
 
   pub ends_accumulators : None ≡ following mark.Var rest → whole ≡ Ok (vs, rest)
-  ends_accumulators e = on None e ∙ ap (λ l. Ok (l, rest)) (append-nil vs)
+  ends_accumulators e = vars_follow_on None e ∙ ap (λ l. Ok (l, rest)) (append-nil vs)
 
-  taken : (from : List TextToken) → Some from ≡ following mark.Var rest → whole ≡ (var_at from >>= (λ v. (vars_by f.room v.1 >>= (λ vs. Ok (v.0 ∷ vs.0, vs.1))) >>= in_list vs))
-  taken from e = on (Some from) e ∙ bind_assoc (var_at from) (λ v. vars_by f.room v.1 >>= (λ vs. Ok (v.0 ∷ vs.0, vs.1))) (in_list vs)
+  vars_follow_mark : (from : List TextToken) → Some from ≡ following mark.Var rest → whole ≡ (var_at from >>= (λ v. (vars_by f.room v.1 >>= (λ vs. Ok (v.0 ∷ vs.0, vs.1))) >>= in_list vs))
+  vars_follow_mark from e = vars_follow_on (Some from) e ∙ bind_assoc (var_at from) (λ v. vars_by f.room v.1 >>= (λ vs. Ok (v.0 ∷ vs.0, vs.1))) (in_list vs)
 
   pub fails_accumulator : (from : List TextToken) (e : Stop) → Some from ≡ following mark.Var rest → Fails e (var_at from) → Fails e whole
-  fails_accumulator from e n h = fails_on e (var_at from) (λ v. (vars_by f.room v.1 >>= (λ vs. Ok (v.0 ∷ vs.0, vs.1))) >>= in_list vs) whole (taken from n) h
+  fails_accumulator from e n h = fails_on e (var_at from) (λ v. (vars_by f.room v.1 >>= (λ vs. Ok (v.0 ∷ vs.0, vs.1))) >>= in_list vs) whole (vars_follow_mark from n) h
 
   pub takes_accumulator : (from : List TextToken) (v : Accumulator) (next : List TextToken) → Some from ≡ following mark.Var rest → var_at from ≡ Ok (v, next) → length next < length rest → VarsFollow whole (vs ++ v ∷ []) next
   takes_accumulator from v next n h lt =
-      let went = taken from n ∙ ap (λ r. r >>= (λ v. (vars_by f.room v.1 >>= (λ vs. Ok (v.0 ∷ vs.0, vs.1))) >>= in_list vs)) h ∙ bind_assoc (vars_by f.room next) (λ vs. Ok (v ∷ vs.0, vs.1)) (in_list vs) ∙ one_more vs v (vars_by f.room next) in
+      let went = vars_follow_mark from n ∙ ap (λ r. r >>= (λ v. (vars_by f.room v.1 >>= (λ vs. Ok (v.0 ∷ vs.0, vs.1))) >>= in_list vs)) h ∙ bind_assoc (vars_by f.room next) (λ vs. Ok (v ∷ vs.0, vs.1)) (in_list vs) ∙ in_list_of_push vs v (vars_by f.room next) in
       let positive : f.room ≡ suc (f.room - 1) = omega (arith, f.enough) in
       record { room = f.room - 1; enough = omega (arith, f.enough); same = rw (← positive) (sym went) }

@@ -6,6 +6,7 @@ use Rattle.kernel_tree.specs.declared.token.Token.{Token}
 use Rattle.kernel_tree.specs.TextToken.{TextToken}
 use Rattle.kernel_tree.specs.Plain.{Program, word_of, words_of}
 use Rattle.kernel_tree.specs.Front.{KernelFronts, Viable}
+use Rattle.kernel_tree.proofs.Calls.{same_Ok}
 use Rattle.kernel_syntax.specs.Headers.{kernel_at}
 use Rattle.kernel_syntax.specs.Refusals.{HasNoTree, IsPlace, StopsAt}
 use Rattle.kernel_syntax.proofs.KernelSound.{kernel_spells}
@@ -37,12 +38,9 @@ place_of ts left q = subst (λ (k : ℕ). IsPlace (words_of ts) (k - left)) (len
 pub one_place : (words : List TextToken) (a b : ℕ) → IsPlace words a → IsPlace words b → a ≡ b
 one_place words a b p q = omega (arith, p.longest b q.within q.viable, q.longest a p.within p.viable)
 
-ok_same : (a b : List TextToken) → ◌≡◌ {A = Result (List TextToken) ℕ} (Ok a) (Ok b) → a ≡ b
-ok_same a b e = cc
-
 -- a text stops at one token
 pub stops_once : (text : List ℕ) (a b : ℕ) → StopsAt text a → StopsAt text b → a ≡ b
-stops_once text a b p q = one_place p.words a b p.place (subst (λ (z : List TextToken). IsPlace z b) (ok_same q.words p.words (sym q.tokens ∙ p.tokens)) q.place)
+stops_once text a b p q = one_place p.words a b p.place (subst (λ (z : List TextToken). IsPlace z b) (same_Ok q.words p.words (sym q.tokens ∙ p.tokens)) q.place)
 
 by_reading : (text : List ℕ) (n : HasNoTree text) (r : Result Program ℕ) → kernel_at n.words ≡ r → (token : ℕ) × StopsAt text token
 by_reading text n (Ok k) e = absurd (n.none k (kernel_spells n.words k e))

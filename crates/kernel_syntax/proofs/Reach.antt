@@ -18,7 +18,7 @@ use Rattle.kernel_tree.specs.Grammar.{Spells, number, name, element, group, pair
 use Rattle.kernel_tree.specs.Front.{Fronts, nothing, above, in_element, end_element, in_group, end_group, at_pair, first_pair, comma_pair, second_pair, end_pair, at_absolute, in_absolute, end_absolute, at_choice, first_choice, comma_choice, second_choice, next_choice, third_choice, end_choice, in_sign, at_operator, at_type, at_count, in_operation, in_comparison}
 use Rattle.kernel_tree.proofs.OneTerm.{shorter}
 use Rattle.expression_syntax.specs.Reading.{◌>>=◌, given, Outcome, following, past, type_at, count_at, by_operator, more, chain_at, term_before, name_by, pair_by, absolute_by, choice_by, signed_by, unary_at}
-use Rattle.expression_syntax.proofs.Chain.{Goes, begins, step}
+use Rattle.expression_syntax.proofs.Chain.{Goes, chain_begins_below, chain_goes_by_operator}
 use Rattle.expression_syntax.proofs.Sound.{joined_is_no_8, other_is_no_8, number-is}
 use Rattle.kernel_syntax.proofs.Complete.{finish, goes_of, before_reads, reads, stops_before, operator_there, type_there, count_there}
 use Rattle.expression_syntax.proofs.Within.{Passes, passes_bind, passes_is, passes_same, term_passes, type_passes, count_passes, more_passes, name_goes, pair_goes, absolute_goes, choice_goes, unary_goes, reads_go}
@@ -29,10 +29,10 @@ any room words = chain_at (unary_at room) 10 words
 -- ---- after an operator
 
 module _ (room level : ℕ) (from : List TextToken) (n : ℕ) (e : Term) (w : TextToken) (next : List TextToken) where
-  taken : (o : Operator) → Goes (unary_at room) (suc level) from e (w ∷ next) → operator_of w ≡ Some o → level_of o ≡ suc level → (k : ℕ) × (chain_at (unary_at room) (suc level) from ≡ by_operator (chain_at (unary_at room) level) (more (chain_at (unary_at room) level) (suc level) k) e o next)
-  taken o g p l =
+  operator_is_taken : (o : Operator) → Goes (unary_at room) (suc level) from e (w ∷ next) → operator_of w ≡ Some o → level_of o ≡ suc level → (k : ℕ) × (chain_at (unary_at room) (suc level) from ≡ by_operator (chain_at (unary_at room) level) (more (chain_at (unary_at room) level) (suc level) k) e o next)
+  operator_is_taken o g p l =
       let same : suc level - 1 ≡ level = omega arith in
-      let whole = step (unary_at room) (suc level) from e (w ∷ next) g o next (sym (operator_there (suc level) w o next p l)) in
+      let whole = chain_goes_by_operator (unary_at room) (suc level) from e (w ∷ next) g o next (sym (operator_there (suc level) w o next p l)) in
       (g.room, subst (λ (k : ℕ). chain_at (unary_at room) (suc level) from ≡ by_operator (chain_at (unary_at room) k) (more (chain_at (unary_at room) k) (suc level) g.room) e o next) same whole)
 
   go_on : (k : ℕ) (left : Term) (words : List TextToken) → length words ≤ n → Passes (more (chain_at (unary_at room) level) (suc level) k left words) n
@@ -41,27 +41,27 @@ module _ (room level : ℕ) (from : List TextToken) (n : ℕ) (e : Term) (w : Te
   joined_reaches : (j : Joint) → Spells (suc level) from e (w ∷ next) → operator_of w ≡ Some (Joined j) → level_of (Joined j) ≡ suc level → length from ≤ room → Passes (chain_at (unary_at room) level next) n → Passes (chain_at (unary_at room) (suc level) from) n
   joined_reaches j d o l h p =
       let g = goes_of room level from e (w ∷ next) (joined_is_no_8 j level l) (reads d room h (stops_before level w (Joined j) next o l)) in
-      let t = taken (Joined j) g o l in
+      let t = operator_is_taken (Joined j) g o l in
       passes_same _ _ n t.1 (passes_bind (chain_at (unary_at room) level next) (λ r. more (chain_at (unary_at room) level) (suc level) t.0 (joined j e r.0) r.1) n p (λ r k. go_on t.0 (joined j e r.0) r.1 k))
 
   compared_reaches : (op : CompareOp) → Spells level from e (w ∷ next) → operator_of w ≡ Some (Compared op) → level_of (Compared op) ≡ suc level → length from ≤ room → Passes (chain_at (unary_at room) level next) n → Passes (chain_at (unary_at room) (suc level) from) n
   compared_reaches op d o l h p =
       let same : suc level - 1 ≡ level = omega arith in
       let left = finish room level from e (w ∷ next) (reads d room h) (stops_before level w (Compared op) next o l) in
-      let g = begins (unary_at room) (suc level) from e (w ∷ next) (omega arith) (rw same left) in
-      let t = taken (Compared op) g o l in
+      let g = chain_begins_below (unary_at room) (suc level) from e (w ∷ next) (omega arith) (rw same left) in
+      let t = operator_is_taken (Compared op) g o l in
       passes_same _ _ n t.1 (passes_bind (chain_at (unary_at room) level next) (λ r. Ok (Comparison op e r.0, r.1)) n p (λ r k. k))
 
   counted_reaches : (to_left : Bool) → Spells (suc level) from e (w ∷ next) → operator_of w ≡ Some (Shifted to_left) → level_of (Shifted to_left) ≡ suc level → length from ≤ room → Passes (count_at next) n → Passes (chain_at (unary_at room) (suc level) from) n
   counted_reaches to_left d o l h p =
       let g = goes_of room level from e (w ∷ next) (other_is_no_8 4 level (omega arith) l) (reads d room h (stops_before level w (Shifted to_left) next o l)) in
-      let t = taken (Shifted to_left) g o l in
+      let t = operator_is_taken (Shifted to_left) g o l in
       passes_same _ _ n t.1 (passes_bind (count_at next) (λ c. more (chain_at (unary_at room) level) (suc level) t.0 (Shift to_left e (pos c.0)) c.1) n p (λ c k. go_on t.0 (Shift to_left e (pos c.0)) c.1 k))
 
   typed_reaches : Spells (suc level) from e (w ∷ next) → operator_of w ≡ Some As → level_of As ≡ suc level → length from ≤ room → Passes (type_at next) n → Passes (chain_at (unary_at room) (suc level) from) n
   typed_reaches d o l h p =
       let g = goes_of room level from e (w ∷ next) (other_is_no_8 1 level (omega arith) l) (reads d room h (stops_before level w As next o l)) in
-      let t = taken As g o l in
+      let t = operator_is_taken As g o l in
       passes_same _ _ n t.1 (passes_bind (type_at next) (λ t0. more (chain_at (unary_at room) level) (suc level) t.0 (Conversion e t0.0) t0.1) n p (λ t0 k. go_on t.0 (Conversion e t0.0) t0.1 k))
 
 above_reaches : (room level : ℕ) (from : List TextToken) (n : ℕ) → Passes (chain_at (unary_at room) level from) n → Passes (chain_at (unary_at room) (suc level) from) n
@@ -155,15 +155,15 @@ module _ (room : ℕ) (n : ℕ) where
   number_reaches zero k rest h p = absurd (omega (arith, h))
   number_reaches (suc r) k rest h p = p
 
-  number_is : (s : Sign) (words : List TextToken) (x : ℕ × List TextToken) → number_following s words ≡ Some x → words ≡ IsNumber x.0 ∷ x.1
-  number_is sign.Minus words x e = number-is words x e
-  number_is sign.Flip words x e = absurd cc
-  number_is sign.Not words x e = absurd cc
+  number_follows : (s : Sign) (words : List TextToken) (x : ℕ × List TextToken) → number_following s words ≡ Some x → words ≡ IsNumber x.0 ∷ x.1
+  number_follows sign.Minus words x e = number-is words x e
+  number_follows sign.Flip words x e = absurd cc
+  number_follows sign.Not words x e = absurd cc
 
   by_number : (s : Sign) (words : List TextToken) → length words ≤ room → Passes (unary_at room words) n → (o : Option (ℕ × List TextToken)) → number_following s words ≡ o → Passes (given {B = Outcome} o (λ x. Ok (Literal (neg_ℤ (pos x.0)), x.1)) (unary_at room words >>= (λ e. Ok (signed s e.0, e.1)))) n
   by_number s words h p None e = passes_bind (unary_at room words) (λ e. Ok (signed s e.0, e.1)) n p (λ e k. k)
   by_number s words h p (Some x) e =
-      let w = number_is s words x e in
+      let w = number_follows s words x e in
       number_reaches room x.0 x.1 (omega (arith, ap length w, h)) (subst (λ (z : List TextToken). Passes (unary_at room z) n) w p)
 
   sign_by : (s : Sign) (words : List TextToken) → length words ≤ room → Passes (unary_at room words) n → Passes (signed_by (unary_at room) s words) n

@@ -13,8 +13,8 @@ use Rattle.kernel_tree.specs.Tokens.{is_letter, is_name_byte, is_run, run_piece,
 use Rattle.number_text.specs.Numbers.{is_digit, is_hex_digit, value_of}
 use Rattle.kernel_tokens.specs.Fronts.{at_front, at_letter, run_front_of}
 
-pub within : {X : Type 0} (p : X → Bool) (xs : List X) → prefix_len p xs ≤ length xs
-within p xs = prefix_len-le-length p xs
+pub run_within : {X : Type 0} (p : X → Bool) (xs : List X) → prefix_len p xs ≤ length xs
+run_within p xs = prefix_len-le-length p xs
 
 name_byte_low : (b : ℕ) → is_name_byte b ≡ true → b < 128
 name_byte_low b h = grind (arith, nat_tests)

@@ -76,9 +76,9 @@ piece_within b rest =
     (either_within (is_letter b) (run_from b rest k) last n (run_within (b ∷ take k rest) (drop k rest) k n r)
     (either_within (is_digit b) (number_piece b rest) (symbol_piece b rest) n (number_within b rest) (symbol_within b rest))))
 
-pub ends_within : (text : List ℕ) → 0 < length text → following_of (at_front piece text) < length text
-ends_within [] h = absurd (omega arith)
-ends_within (b ∷ rest) h = omega (arith, (piece_within b rest).fits)
+pub piece_ends_within : (text : List ℕ) → 0 < length text → following_of (at_front piece text) < length text
+piece_ends_within [] h = absurd (omega arith)
+piece_ends_within (b ∷ rest) h = omega (arith, (piece_within b rest).fits)
 
 -- the rest of a text as a part of it
 pub tail_is : (text : List ℕ) (at : ℕ) → take (length text - at) (drop at text) ≡ drop at text
@@ -144,7 +144,7 @@ left_over text at h = omega (arith, length-drop at text)
 
 piece_ends : (text : List ℕ) (at to k : ℕ) (p : Piece) → at < length text → at_front piece (drop at text) ≡ p → following_of p ≡ k → to ≡ at + (k + 1) → to ≤ length text
 piece_ends text at to k p h e l t =
-    let w : following_of p < length (drop at text) = subst (λ q. following_of q < length (drop at text)) e (ends_within (drop at text) (left_over text at h)) in
+    let w : following_of p < length (drop at text) = subst (λ q. following_of q < length (drop at text)) e (piece_ends_within (drop at text) (left_over text at h)) in
     omega (arith, w, length-drop at text)
 
 -- a piece and its place fit in the text

@@ -11,6 +11,7 @@ use Rattle.kernel_tree.specs.declared.mark.Mark.TheVariants as mark
 use Rattle.kernel_tree.specs.TextToken.{TextToken, IsNumber, IsCompare, IsUpdate, IsMark}
 use Rattle.kernel_tree.specs.Tokens.{Piece, Gap, Token, NoToken, piece, before, by_piece, scan, tokens_of, begins, begins_hex, by_reserved, reserved_type, reserved_mark, run_word, is_run, is_token, are_tokens, is_blank, is_letter, is_name_byte, is_in_line, literal, hex_from, decimal_from, number_piece, pair, single, symbol_of, symbol_piece, run_piece, run_from}
 use Rattle.number_text.specs.Numbers.{is_digit, is_hex_digit, value_of}
+use Rattle.kernel_tree.proofs.Calls.{same_Ok}
 use Rattle.kernel_tokens.proofs.Runs.{front_all}
 
 -- what stands at the front of a text is no token, or one that some text has
@@ -22,9 +23,9 @@ IsSpelled NoToken = Unit {0}
 record Spelled (p : Piece) : Type 0 where
   is : IsSpelled p
 
-either : (t : Bool) (p q : Piece) → Spelled p → Spelled q → Spelled (cond t p q)
-either true p q h k = h
-either false p q h k = k
+spelled_of_either : (t : Bool) (p q : Piece) → Spelled p → Spelled q → Spelled (cond t p q)
+spelled_of_either true p q h k = h
+spelled_of_either false p q h k = k
 
 token : (w : TextToken) (k : ℕ) → IsTrue (is_token w) → Spelled (Token w k)
 token w k h = record { is = h }
@@ -42,9 +43,9 @@ run_by w None None r e f = rw (r, e, f) refl
 run_spelled : (w after : List ℕ) (k : ℕ) → is_run w ≡ true → Spelled (run_piece w after k)
 run_spelled w after k r =
     let last = Token (run_word w) k in
-    either (begins 61 after && bytes_eq w (codes "min")) (Token (IsUpdate update.Min) (k + 1)) (cond (begins 61 after && bytes_eq w (codes "max")) (Token (IsUpdate update.Max) (k + 1)) last)
+    spelled_of_either (begins 61 after && bytes_eq w (codes "min")) (Token (IsUpdate update.Min) (k + 1)) (cond (begins 61 after && bytes_eq w (codes "max")) (Token (IsUpdate update.Max) (k + 1)) last)
     (token (IsUpdate update.Min) (k + 1) refl)
-    (either (begins 61 after && bytes_eq w (codes "max")) (Token (IsUpdate update.Max) (k + 1)) last
+    (spelled_of_either (begins 61 after && bytes_eq w (codes "max")) (Token (IsUpdate update.Max) (k + 1)) last
     (token (IsUpdate update.Max) (k + 1) refl)
     (token (run_word w) k (run_by w (reserved_type w) (reserved_mark w) r refl refl)))
 
@@ -65,7 +66,7 @@ literal_spelled n k = literal_by n k (nat_lt n (2 ^ 127)) refl
 
 number_spelled : (b : ℕ) (rest : List ℕ) → Spelled (number_piece b rest)
 number_spelled b rest =
-    either (begins_hex b rest) (hex_from (drop 1 rest) (prefix_len is_hex_digit (drop 1 rest))) (decimal_from b rest (prefix_len is_digit rest))
+    spelled_of_either (begins_hex b rest) (hex_from (drop 1 rest) (prefix_len is_hex_digit (drop 1 rest))) (decimal_from b rest (prefix_len is_digit rest))
     (literal_spelled (value_of 16 (take (prefix_len is_hex_digit (drop 1 rest)) (drop 1 rest))) (prefix_len is_hex_digit (drop 1 rest) + 1))
     (literal_spelled (value_of 10 (b ∷ take (prefix_len is_digit rest) rest)) (prefix_len is_digit rest))
 
@@ -141,20 +142,17 @@ piece_spelled b rest =
     let last = cond (is_digit b) (number_piece b rest) (symbol_piece b rest) in
     let third = cond (is_letter b) (run_from b rest (prefix_len is_name_byte rest)) last in
     let second = cond ((b == 47) && begins 47 rest) (Gap (prefix_len is_in_line rest)) third in
-    either (is_blank b) (Gap 0) second (gap 0)
-    (either ((b == 47) && begins 47 rest) (Gap (prefix_len is_in_line rest)) third (gap (prefix_len is_in_line rest))
+    spelled_of_either (is_blank b) (Gap 0) second (gap 0)
+    (spelled_of_either ((b == 47) && begins 47 rest) (Gap (prefix_len is_in_line rest)) third (gap (prefix_len is_in_line rest))
     (letter_spelled b rest (is_letter b) last refl
-    (either (is_digit b) (number_piece b rest) (symbol_piece b rest) (number_spelled b rest) (symbol_spelled b rest))))
-
-same_words : (u v : List TextToken) → ◌≡◌ {A = Result (List TextToken) ℕ} (Ok u) (Ok v) → u ≡ v
-same_words u v e = cc
+    (spelled_of_either (is_digit b) (number_piece b rest) (symbol_piece b rest) (number_spelled b rest) (symbol_spelled b rest))))
 
 no_words : (at : ℕ) (v : List TextToken) → ◌≡◌ {A = Result (List TextToken) ℕ} (Err at) (Ok v) → ⊥
 no_words at v e = cc
 
 before_spelled : (w : TextToken) (r : Result (List TextToken) ℕ) (words : List TextToken) → IsTrue (is_token w) → ((vs : List TextToken) → r ≡ Ok vs → IsTrue (are_tokens vs)) → before w r ≡ Ok words → IsTrue (are_tokens words)
 before_spelled w (Ok vs) words h all e =
-    subst (λ (l : List TextToken). IsTrue (are_tokens l)) (same_words (w ∷ vs) words e) (and_from (is_token w) (are_tokens vs) h (all vs refl))
+    subst (λ (l : List TextToken). IsTrue (are_tokens l)) (same_Ok (w ∷ vs) words e) (and_from (is_token w) (are_tokens vs) h (all vs refl))
 before_spelled w (Err at) words h all e = absurd (no_words at words e)
 
 by_piece_spelled : (p : Piece) (next : ℕ → Result (List TextToken) ℕ) (at : ℕ) (words : List TextToken) → IsSpelled p → ((k : ℕ) (vs : List TextToken) → next k ≡ Ok vs → IsTrue (are_tokens vs)) → by_piece p next at ≡ Ok words → IsTrue (are_tokens words)
@@ -164,7 +162,7 @@ by_piece_spelled NoToken next at words h all e = absurd (no_words at words e)
 
 scan_spelled : (skip at : ℕ) (bytes : List ℕ) (words : List TextToken) → scan skip at bytes ≡ Ok words → IsTrue (are_tokens words)
 unfolding scan
-scan_spelled skip at [] words e = subst (λ (l : List TextToken). IsTrue (are_tokens l)) (same_words [] words e) refl
+scan_spelled skip at [] words e = subst (λ (l : List TextToken). IsTrue (are_tokens l)) (same_Ok [] words e) refl
 scan_spelled zero at (b ∷ rest) words e = by_piece_spelled (piece b rest) (λ k. scan k (at + 1) rest) at words (piece_spelled b rest).is (λ k vs h. scan_spelled k (at + 1) rest vs h) e
 scan_spelled (suc skip) at (b ∷ rest) words e = scan_spelled skip (at + 1) rest words e
 

@@ -39,7 +39,7 @@ fn begins_with(bytes: &[u8], b: u8) -> bool
     }
 }
 
-#[tactic(auto, using(crate::proofs::Runs::within))]
+#[tactic(auto, using(crate::proofs::Runs::run_within))]
 fn rest_of_line(bytes: &[u8]) -> usize
     ensures value { result ≡ prefix_len is_in_line bytes.now }
     ensures within { result ≤ length bytes.now }
@@ -47,7 +47,7 @@ fn rest_of_line(bytes: &[u8]) -> usize
     bytes.iter().take_while(|b| **b != b'\n').count()
 }
 
-#[tactic(auto, using(crate::proofs::Runs::within))]
+#[tactic(auto, using(crate::proofs::Runs::run_within))]
 fn rest_of_name(bytes: &[u8]) -> usize
     ensures value { result ≡ prefix_len is_name_byte bytes.now }
     ensures within { result ≤ length bytes.now }

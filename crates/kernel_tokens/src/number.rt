@@ -12,7 +12,7 @@ use number_text::{digit, is_digit_byte, is_hex_byte};
 
 const LIMIT: u128 = 170141183460469231731687303715884105728;
 
-#[tactic(auto, using(crate::proofs::Runs::within))]
+#[tactic(auto, using(crate::proofs::Runs::run_within))]
 fn digit_count(bytes: &[u8]) -> usize
     ensures value { result ≡ prefix_len is_digit bytes.now }
     ensures within { result ≤ length bytes.now }
@@ -20,7 +20,7 @@ fn digit_count(bytes: &[u8]) -> usize
     bytes.iter().take_while(|b| is_digit_byte(**b)).count()
 }
 
-#[tactic(auto, using(crate::proofs::Runs::within))]
+#[tactic(auto, using(crate::proofs::Runs::run_within))]
 fn hex_count(bytes: &[u8]) -> usize
     ensures value { result ≡ prefix_len is_hex_digit bytes.now }
     ensures within { result ≤ length bytes.now }

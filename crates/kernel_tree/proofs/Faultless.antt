@@ -22,9 +22,9 @@ never e = cc
 
 -- ---- no rule fails
 
-none : (fs : List Found) → option_map Fails (least fs) ≡ None → fs ≡ []
-none [] e = refl
-none (f ∷ fs) e = some-first (least fs) e
+no_faults_of_no_least : (fs : List Found) → option_map Fails (least fs) ≡ None → fs ≡ []
+no_faults_of_no_least [] e = refl
+no_faults_of_no_least (f ∷ fs) e = some-first (least fs) e
   where
     some-first : (o : Option Found) → option_map Fails (sooner (Some f) o) ≡ None → f ∷ fs ≡ []
     some-first None e = absurd cc
@@ -37,7 +37,7 @@ unrefused false x o e = e
 pub faultless : (k : Program) → check_fault k ≡ None → kernel_faults k ≡ []
 faultless k e =
     let inner : _ ≡ None = unrefused (nat_lt most_items (size_of k)) (TooLarge (size_of k)) _ e in
-    none (kernel_faults k) (unrefused (nat_lt most_depth (depth_of k)) (TooDeep (depth_of k)) _ inner)
+    no_faults_of_no_least (kernel_faults k) (unrefused (nat_lt most_depth (depth_of k)) (TooDeep (depth_of k)) _ inner)
 
 -- ---- in the parts of a kernel
 

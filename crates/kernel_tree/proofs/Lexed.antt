@@ -1,13 +1,11 @@
 -- The tokens of tokens joined by single spaces are these tokens.
-use Rattle.std.proofs.Common.{◌≡◌, ℕ, zero, suc, ◌+◌, ◌*◌, ◌-◌, ◌≤◌, ◌<◌, ◌^◌, List, [], ◌∷◌, ◌++◌, length, Bool, true, false, Option, Some, None, Ok, refl, sym, ap, ap₂, ◌∙◌, arith, eqb, ltb}
+use Rattle.std.proofs.Common.{◌≡◌, ℕ, zero, suc, ◌+◌, ◌-◌, ◌≤◌, ◌<◌, ◌^◌, List, [], ◌∷◌, ◌++◌, length, Bool, true, false, Option, Some, None, Ok, refl, sym, ap, ap₂, ◌∙◌, arith, eqb, ltb}
 use Rattle.std.specs.Prelude.{IsTrue, ◌&&◌, is_none, decimal}
-use Rattle.std.specs.List.{prefix_len, list_all, fold}
-use Rattle.std.specs.Char.{digit_value as std_value}
-use Rattle.std.specs.Str.Parse.{AllDigits, digits_value_after}
+use Rattle.std.specs.List.{prefix_len, list_all}
+use Rattle.std.specs.Str.Parse.{AllDigits}
 use Rattle.std.proofs.lemmas.Bool.{ltb-true, and_parts}
 use Rattle.std.proofs.lemmas.Bool.Decides.{nat_tests}
 use Rattle.std.proofs.lemmas.Fmt.{decimal_is_IsNumeral_wide}
-use Rattle.std.proofs.lemmas.Str.Parse.{tells_digits}
 use Rattle.std.proofs.Math.Seq.{take-append_seam, drop-append_seam}
 use Rattle.kernel_tree.specs.declared.ops.Ty.{Ty}
 use Rattle.kernel_tree.specs.declared.ops.Ty.TheVariants as ty
@@ -19,7 +17,8 @@ use Rattle.kernel_tree.specs.declared.mark.Mark.{Mark}
 use Rattle.kernel_tree.specs.declared.mark.Mark.TheVariants as mark
 use Rattle.kernel_tree.specs.TextToken.{TextToken, IsName, IsNumber, IsType, IsCompare, IsUpdate, IsMark}
 use Rattle.kernel_tree.specs.Tokens.{is_letter, is_name_byte, is_blank, is_run, is_name, reserved_type, reserved_mark, by_reserved, begins_hex, Piece, Token, piece, run_from, run_piece, literal, decimal_from, number_piece, before, by_piece, scan, tokens_of, is_token}
-use Rattle.number_text.specs.Numbers.{is_digit, is_hex_digit, digit_value, appended, value_of}
+use Rattle.number_text.specs.Numbers.{is_digit, is_hex_digit, value_of}
+use Rattle.number_text.proofs.DecimalDigits.{all_digits, digits_value-is}
 use Rattle.kernel_tree.specs.Printing.{type_text, compare_text, update_text, mark_text, word_text, spaced, joined_text}
 use Rattle.kernel_tree.proofs.Well.{Tokens}
 
@@ -110,9 +109,9 @@ none_is : {A : Type 0} (o : Option A) → is_none o ≡ true → o ≡ None
 none_is None h = refl
 none_is (Some x) h = absurd cc
 
-run_ends : (x : List ℕ) (o : Option (List ℕ)) (k : ℕ) → is_none (reserved_type x) ≡ true → is_none (reserved_mark x) ≡ true → run_piece x (tail_of o) k ≡ Token (IsName x) k
-run_ends x None k p q = ap₂ (λ (t : Option Ty) (m : Option Mark). Token (by_reserved t m x) k) (none_is (reserved_type x) p) (none_is (reserved_mark x) q)
-run_ends x (Some s) k p q = ap₂ (λ (t : Option Ty) (m : Option Mark). Token (by_reserved t m x) k) (none_is (reserved_type x) p) (none_is (reserved_mark x) q)
+run_piece_of_name : (x : List ℕ) (o : Option (List ℕ)) (k : ℕ) → is_none (reserved_type x) ≡ true → is_none (reserved_mark x) ≡ true → run_piece x (tail_of o) k ≡ Token (IsName x) k
+run_piece_of_name x None k p q = ap₂ (λ (t : Option Ty) (m : Option Mark). Token (by_reserved t m x) k) (none_is (reserved_type x) p) (none_is (reserved_mark x) q)
+run_piece_of_name x (Some s) k p q = ap₂ (λ (t : Option Ty) (m : Option Mark). Token (by_reserved t m x) k) (none_is (reserved_type x) p) (none_is (reserved_mark x) q)
 
 name_stops : (o : Option (List ℕ)) → prefix_len is_name_byte (tail_of o) ≡ 0
 name_stops None = refl
@@ -126,16 +125,13 @@ name_piece b t o h =
     letter_piece b (t ++ tail_of o) r.0
     ∙ ap (run_from b (t ++ tail_of o)) (prefix_len-all is_name_byte t (tail_of o) r.1 (name_stops o))
     ∙ ap₂ (λ (x s : List ℕ). run_piece (b ∷ x) s (length t)) (take-append_seam t (tail_of o)) (drop-append_seam t (tail_of o))
-    ∙ run_ends (b ∷ t) o (length t) n.0 n.1
+    ∙ run_piece_of_name (b ∷ t) o (length t) n.0 n.1
 
 name_scans : (x : List ℕ) → IsTrue (is_name x) → Scans (IsName x) x
 name_scans [] h at o = absurd cc
 name_scans (b ∷ t) h at o = scans-from (IsName (b ∷ t)) b t (λ o. name_piece b t o h) at o
 
 -- ---- numbers
-
-pub digit_is : (d : ℕ) → 48 ≤ d → d ≤ 57 → is_digit d ≡ true
-digit_is d l u = grind (arith, nat_tests)
 
 pub digit_least : (d : ℕ) → is_digit d ≡ true → 48 ≤ d
 digit_least d h = grind (arith, nat_tests, h)
@@ -148,23 +144,6 @@ no_letter d h = grind (arith, nat_tests)
 
 pub no_x : (d : ℕ) → d ≤ 57 → eqb d 120 ≡ false
 no_x d h = grind (arith, nat_tests)
-
-pub value_here : (d : ℕ) → 48 ≤ d → d ≤ 57 → digit_value d ≡ d - 48
-value_here d l u = rw (digit_is d l u) refl
-
-pub value_there : (d : ℕ) → 48 ≤ d → d ≤ 57 → std_value d ≡ d - 48
-value_there d l u = grind (arith, nat_tests)
-
-pub all_digits : (ds : List ℕ) → AllDigits 10 ds → list_all is_digit ds ≡ true
-all_digits [] h = refl
-all_digits (d ∷ ds) h = let p = tells_digits.parts d ds h in let i = all_digits ds p.1 in rw (digit_is d p.0.0 p.0.1) i
-
-pub value_is : (n : ℕ) (ds : List ℕ) → AllDigits 10 ds → fold (appended 10) n ds ≡ digits_value_after 10 n ds
-value_is n [] h = refl
-value_is n (d ∷ ds) h =
-    let p = tells_digits.parts d ds h in
-    let e : 10 * n + digit_value d ≡ n * 10 + std_value d = omega (arith, value_here d p.0.0 p.0.1, value_there d p.0.0 p.0.1) in
-    value_is (10 * n + digit_value d) ds p.1 ∙ ap (λ m. digits_value_after 10 m ds) e
 
 digit_stops : (o : Option (List ℕ)) → prefix_len is_digit (tail_of o) ≡ 0
 digit_stops None = refl
@@ -205,7 +184,7 @@ number_scans : (n : ℕ) → IsTrue (ltb n (2 ^ 127)) → Scans (IsNumber n) (de
 number_scans n h =
     let b : n < 10 ^ 64 = omega (arith, ltb-true n (2 ^ 127) h) in
     let d = decimal_is_IsNumeral_wide n b in
-    digits_scan n (decimal n) d.0.0 d.0.1 (value_is 0 (decimal n) d.0.1 ∙ d.1) h
+    digits_scan n (decimal n) d.0.0 d.0.1 (digits_value-is 0 (decimal n) d.0.1 ∙ d.1) h
 
 -- ---- lists
 

@@ -13,3 +13,6 @@ pub mod Scopes
 pub mod Names
 pub mod RightKinds
 pub mod Spelled
+pub mod Calls
+pub mod Walks
+pub mod Measures

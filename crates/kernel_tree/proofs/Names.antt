@@ -17,17 +17,12 @@ use Rattle.kernel_tree.specs.Scopes.{param_local, var_local, locals_of, accs_of}
 use Rattle.kernel_tree.proofs.Faultless.{nil-left, nil-right, vars_faultless, index_faultless}
 use Rattle.kernel_tree.proofs.NoFault.{not_added, bound_scalar}
 use Rattle.kernel_tree.proofs.Scopes.{var_visible}
+pub use Rattle.number_text.proofs.Bytes.{bytes_eq-told, bytes_eq-refl}
 
 -- ---- names that are the same
 
-pub bytes_same : (x : List ℕ) → bytes_eq x x ≡ true
-bytes_same x = grind (arith, bytes_eq-Decides)
-
 pub bytes_swap : (x y : List ℕ) → bytes_eq x y ≡ false → bytes_eq y x ≡ false
 bytes_swap x y h = grind (arith, bytes_eq-Decides)
-
-pub bytes_told : (x y : List ℕ) → bytes_eq x y ≡ true → x ≡ y
-bytes_told x y h = grind (arith, bytes_eq-Decides)
 
 -- ---- names that are declared before
 
@@ -59,7 +54,7 @@ pub untaken_before : (x y : List ℕ) (names : List (List ℕ)) → Untaken x (i
 untaken_before x y names e = by_test (list_any (bytes_eq y) names) refl e
   where
     other : (b : Bool) → bytes_eq y x ≡ b → list_any (bytes_eq y) names ≡ true → Untaken x names → bytes_eq y x ≡ false
-    other true f g h = let same : y ≡ x = bytes_told y x f in let there : list_any (bytes_eq x) names ≡ true = ap (λ z. list_any (bytes_eq z) names) (sym same) ∙ g in absurd cc
+    other true f g h = let same : y ≡ x = bytes_eq-told y x f in let there : list_any (bytes_eq x) names ≡ true = ap (λ z. list_any (bytes_eq z) names) (sym same) ∙ g in absurd cc
     other false f g h = f
 
     by_test : (b : Bool) → list_any (bytes_eq y) names ≡ b → list_any (bytes_eq x) (cond b names (names ++ y ∷ [])) ≡ false → Untaken x names × (bytes_eq y x ≡ false)
@@ -165,7 +160,7 @@ array_other (p ∷ ps) vs index a y t e h = by_test (bytes_eq p.name a) refl e (
   where
     by_test : (b : Bool) → bytes_eq p.name a ≡ b → option_and_then element_type (option_map binding_of (cond b (Some (param_local p)) (find (has_name a) ((locals_of ps ++ accs_of vs) ++ local index binding.Index ∷ [])))) ≡ Some t
         → (array_of ((locals_of ps ++ accs_of vs) ++ local index binding.Index ∷ []) a ≡ Some t → bytes_eq y a ≡ false) → bytes_eq y a ≡ false
-    by_test true f e more = subst (λ z. bytes_eq y z ≡ false) (bytes_told p.name a f) (bytes_swap p.name y h.0)
+    by_test true f e more = subst (λ z. bytes_eq y z ≡ false) (bytes_eq-told p.name a f) (bytes_swap p.name y h.0)
     by_test false f e more = more e
 
 -- an array that is visible in the loop has no accumulator's name
@@ -195,9 +190,9 @@ array_before (v ∷ vs) x a u t e = by_test (bytes_eq v.name a) e (array_before 
 -- ---- the loop's bound is a parameter
 
 -- what stands for an accumulator is no scalar
-pub no_scalar : (vs : List Accumulator) (x : List ℕ) (t : Ty) → option_map binding_of (find (has_name x) (accs_of vs)) ≡ Some (binding.Scalar t) → ⊥
-no_scalar [] x t e = cc
-no_scalar (v ∷ vs) x t e = by_test (bytes_eq v.name x) e (no_scalar vs x t)
+pub accumulator_is_no_scalar : (vs : List Accumulator) (x : List ℕ) (t : Ty) → option_map binding_of (find (has_name x) (accs_of vs)) ≡ Some (binding.Scalar t) → ⊥
+accumulator_is_no_scalar [] x t e = cc
+accumulator_is_no_scalar (v ∷ vs) x t e = by_test (bytes_eq v.name x) e (accumulator_is_no_scalar vs x t)
   where
     by_test : (b : Bool) → option_map binding_of (cond b (Some (var_local v)) (find (has_name x) (accs_of vs))) ≡ Some (binding.Scalar t) → (option_map binding_of (find (has_name x) (accs_of vs)) ≡ Some (binding.Scalar t) → ⊥) → ⊥
     by_test true e h = cc
@@ -208,14 +203,14 @@ scalar_shape (shape.Array u) t e = absurd cc
 scalar_shape (shape.Scalar u) t e = let same : u ≡ t = cc in ap shape.Scalar same
 
 scalar_param : (ps : List Parameter) (vs : List Accumulator) (x : List ℕ) (t : Ty) → option_map binding_of (find (has_name x) (locals_of ps ++ accs_of vs)) ≡ Some (binding.Scalar t) → (n : ℕ) × (slice_get ps n ≡ Some (record { name = x; shape = shape.Scalar t }))
-scalar_param [] vs x t e = absurd (no_scalar vs x t e)
+scalar_param [] vs x t e = absurd (accumulator_is_no_scalar vs x t e)
 scalar_param (p ∷ ps) vs x t e = by_test (bytes_eq p.name x) refl e (scalar_param ps vs x t)
   where
     by_test : (b : Bool) → bytes_eq p.name x ≡ b → option_map binding_of (cond b (Some (param_local p)) (find (has_name x) (locals_of ps ++ accs_of vs))) ≡ Some (binding.Scalar t)
         → (option_map binding_of (find (has_name x) (locals_of ps ++ accs_of vs)) ≡ Some (binding.Scalar t) → (n : ℕ) × (slice_get ps n ≡ Some (record { name = x; shape = shape.Scalar t }))) → (n : ℕ) × (slice_get (p ∷ ps) n ≡ Some (record { name = x; shape = shape.Scalar t }))
     by_test true f e h =
         let kind = scalar_shape p.shape t e in
-        let named = bytes_told p.name x f in
+        let named = bytes_eq-told p.name x f in
         (0, ap (λ (s : Shape). Some (record { name = p.name; shape = s })) kind ∙ ap (λ y. Some (record { name = y; shape = shape.Scalar t })) named)
     by_test false f e h = let r = h e in (suc r.0, r.1)
 

@@ -1,6 +1,7 @@
 -- A list of tokens is an expression in one way, up to where an operator or an index could go on.
 use Rattle.std.proofs.Common.{◌≡◌, ℕ, zero, suc, ◌≤◌, ◌<◌, List, [], ◌∷◌, length, Bool, false, Option, Some, None, ◌⊎◌, inl, inr, refl, sym, ap, ap₂, subst, ◌∙◌, arith}
 use Rattle.std.specs.Prelude.{pos, neg_ℤ}
+use Rattle.std.proofs.lemmas.Option.{same_Some}
 use Rattle.kernel_tree.specs.declared.ops.Ty.{Ty}
 use Rattle.kernel_tree.specs.declared.ops.UnaryOp.TheVariants as unary
 use Rattle.kernel_tree.specs.declared.ops.BinaryOp.{BinaryOp}
@@ -32,16 +33,13 @@ abbrev pub Closed : ℕ → List TextToken → Type 0
 Closed level [] = Unit {0}
 Closed level (w ∷ rest) = (opens_index w ≡ false) × Looser level (operator_of w)
 
-pub some_is : {A : Type 0} (x y : A) → Some x ≡ Some y → x ≡ y
-some_is x y e = cc
-
 no_index_mark : (m : Mark) (o : Operator) → operator_of_mark m ≡ Some o → same m mark.OpenBracket ≡ false
 no_index_mark mark.OpenBracket o e = absurd cc
 no_index_mark _ o e = refl
 
-no_index : (w : TextToken) (o : Operator) → operator_of w ≡ Some o → opens_index w ≡ false
-no_index (IsMark m) o e = no_index_mark m o e
-no_index other o e = refl
+operator_opens_no_index : (w : TextToken) (o : Operator) → operator_of w ≡ Some o → opens_index w ≡ false
+operator_opens_no_index (IsMark m) o e = no_index_mark m o e
+operator_opens_no_index other o e = refl
 
 weaker : (level : ℕ) (o : Option Operator) → Looser (suc level) o → Looser level o
 weaker level None h = tt
@@ -208,12 +206,12 @@ Once level words = (e : Term) (r : List TextToken) (f : Term) (s : List TextToke
 from_words : {level : ℕ} {v w : List TextToken} {e : Term} {r : List TextToken} → v ≡ w → Spells level v e r → Spells level w e r
 from_words {level} {v} {w} {e} {r} p d = subst (λ (z : List TextToken). Spells level z e r) p d
 
-tail_is : (v w : TextToken) (xs ys : List TextToken) → v ∷ xs ≡ w ∷ ys → xs ≡ ys
+pub tail_is : (v w : TextToken) (xs ys : List TextToken) → v ∷ xs ≡ w ∷ ys → xs ≡ ys
 tail_is v w xs ys p = cc
 
 -- the tokens after a step do not go on at its level
 step_closed : (level : ℕ) (a : Term) (mid : List TextToken) (e : Term) (rest : List TextToken) → Step level a mid e rest → Closed level mid
-step_closed level a mid e rest s = subst (Closed level) (sym s.at) (no_index s.word s.op s.is_op, subst (Looser level) (sym s.is_op) (omega (arith, s.of_level)))
+step_closed level a mid e rest s = subst (Closed level) (sym s.at) (operator_opens_no_index s.word s.op s.is_op, subst (Looser level) (sym s.is_op) (omega (arith, s.of_level)))
 
 chain_closed : {level : ℕ} {a : Term} {mid : List TextToken} {e : Term} {rest : List TextToken} → Chain level a mid e rest → Closed (suc level) rest → Closed level mid
 chain_closed {level} {a} {mid} stop c = closed_below level mid c
@@ -247,7 +245,7 @@ step_once level a mid once e r f s m n c d =
     let p : m.word ∷ m.next ≡ n.word ∷ n.next = sym m.at ∙ n.at in
     let w : m.word ≡ n.word = cc in
     let x : m.next ≡ n.next = tail_is m.word n.word m.next n.next p in
-    let o : m.op ≡ n.op = some_is m.op n.op (sym m.is_op ∙ ap operator_of w ∙ n.is_op) in
+    let o : m.op ≡ n.op = same_Some m.op n.op (sym m.is_op ∙ ap operator_of w ∙ n.is_op) in
     let there : Made m.op level m.next a f s = subst (λ (z : Operator). Made z level m.next a f s) (sym o) (subst (λ (z : List TextToken). Made n.op level z a f s) (sym x) n.made) in
     made_once m.op level m.next a e r f s (once m.next (omega (arith, ap length m.at))) m.made there c d
 
@@ -304,7 +302,7 @@ module _ (most : ℕ) (once : (next : List TextToken) → length next < most →
 
   sign_once : (t : Sign) (from : List TextToken) (e : Term) (r : List TextToken) (f : Term) (s : List TextToken) → length from < most → NegativeView t from e r ⊎ OperandView t from e r → NegativeView t from f s ⊎ OperandView t from f s → Closed 0 r → Closed 0 s → Same e r f s
   sign_once t from e r f s h (inl m) (inl n) c d =
-      let p : (m.n, r) ≡ (n.n, s) = some_is (m.n, r) (n.n, s) (sym m.at ∙ n.at) in
+      let p : (m.n, r) ≡ (n.n, s) = same_Some (m.n, r) (n.n, s) (sym m.at ∙ n.at) in
       (m.is ∙ ap (λ (x : ℕ × List TextToken). Literal (neg_ℤ (pos x.0))) p ∙ sym n.is, ap (λ (x : ℕ × List TextToken). x.1) p)
   sign_once t from e r f s h (inl m) (inr n) c d = let p = sym m.at ∙ n.free in absurd cc
   sign_once t from e r f s h (inr m) (inl n) c d = let p = sym n.at ∙ m.free in absurd cc
@@ -321,7 +319,7 @@ module _ (most : ℕ) (once : (next : List TextToken) → length next < most →
 
   mark_once : (m : Mark) (from : List TextToken) (e : Term) (r : List TextToken) (f : Term) (s : List TextToken) → length from < most → MarkView m from e r → MarkView m from f s → Closed 0 r → Closed 0 s → Same e r f s
   mark_once m from e r f s h v w c d =
-      let o : v.opened ≡ w.opened = some_is v.opened w.opened (sym v.is ∙ w.is) in
+      let o : v.opened ≡ w.opened = same_Some v.opened w.opened (sym v.is ∙ w.is) in
       opened_once v.opened from e r f s h v.inside (subst (λ (z : Opening). Opened z from f s) (sym o) w.inside) c d
 
   name_once : (x : List ℕ) (from : List TextToken) (e : Term) (r : List TextToken) (f : Term) (s : List TextToken) → length from < most → ((e ≡ Variable x) × (r ≡ from)) ⊎ ElementView x from e r → ((f ≡ Variable x) × (s ≡ from)) ⊎ ElementView x from f s → Closed 0 r → Closed 0 s → Same e r f s

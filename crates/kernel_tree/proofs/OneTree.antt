@@ -6,16 +6,13 @@ use Rattle.kernel_tree.specs.declared.mark.Mark.TheVariants as mark
 use Rattle.kernel_tree.specs.TextToken.{TextToken, IsType, IsMark}
 use Rattle.kernel_tree.specs.Plain.{Term, Action, Define, Put, Update, Choose, Leave, Block, Then, Nothing, Else, Parameter, Accumulator, PlainLoop, Returned, Program, same}
 use Rattle.kernel_tree.specs.Grammar.{Spells, SpellsType, untyped, typed, SpellsAction, define, put, update, choose, choose_else, leave, SpellsBlock, done, then, SpellsParam, scalar, array, SpellsSome, last, more, SpellsParams, none, some, SpellsVars, no_var, var, SpellsLoop, no_loop, loop, Tree, procedure, function}
-use Rattle.kernel_tree.proofs.OneTerm.{one_term}
+use Rattle.kernel_tree.proofs.OneTerm.{one_term, tail_is}
 
 -- the tokens at the front begin with a mark or not
 abbrev begins_with : Mark → List TextToken → Bool
 begins_with m [] = false
 begins_with m (IsMark k ∷ rest) = same k m
 begins_with m other = false
-
-tail_is : (v w : TextToken) (xs ys : List TextToken) → v ∷ xs ≡ w ∷ ys → xs ≡ ys
-tail_is v w xs ys p = cc
 
 type_is : (t u : Ty) (xs ys : List TextToken) → IsType t ∷ xs ≡ IsType u ∷ ys → t ≡ u
 type_is t u xs ys p = cc

@@ -7,9 +7,9 @@ use Rattle.kernel_tree.specs.declared.token.Token.TheVariants as token
 use Rattle.kernel_tree.specs.Tokens.{is_token, are_tokens}
 use Rattle.kernel_tree.specs.Plain.{word_of, words_of}
 
-both : (a b : Bool) → IsTrue a → IsTrue b → IsTrue (a && b)
-both true b p q = q
-both false b p q = absurd cc
+is_true_and : (a b : Bool) → IsTrue a → IsTrue b → IsTrue (a && b)
+is_true_and true b p q = q
+is_true_and false b p q = absurd cc
 
 token_is : (t : Token) → IsTrue (is_token (word_of t))
 token_is (token.Name x) = x.is_name
@@ -18,4 +18,4 @@ token_is other = refl
 
 pub tokens_are : (ts : List Token) → IsTrue (are_tokens (words_of ts))
 tokens_are [] = refl
-tokens_are (t ∷ ts) = both (is_token (word_of t)) (are_tokens (words_of ts)) (token_is t) (tokens_are ts)
+tokens_are (t ∷ ts) = is_true_and (is_token (word_of t)) (are_tokens (words_of ts)) (token_is t) (tokens_are ts)

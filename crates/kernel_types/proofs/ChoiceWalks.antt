@@ -4,7 +4,7 @@ use Rattle.std.proofs.lemmas.List.{append-nil}
 use Rattle.kernel_tree.specs.declared.fault.Found.{Found}
 use Rattle.kernel_tree.specs.Plain.{Term, Block, Choose, Nothing, Else}
 use Rattle.kernel_tree.specs.Items.{term_size, action_size, block_size}
-use Rattle.kernel_tree.specs.Typing.{Scope, Condition, left, after_action, after_block, faults, action_faults, block_faults, term_types, action_types, block_types, sooner, least}
+use Rattle.kernel_tree.specs.Typing.{Scope, Condition, left, after_block, faults, action_faults, block_faults, term_types, action_types, block_types, sooner, least}
 use Rattle.kernel_types.specs.declared.notes.Notes.{Notes}
 use Rattle.kernel_types.specs.Parts.{Adds}
 use Rattle.kernel_types.proofs.ListWalks.{two_parts}
@@ -26,9 +26,6 @@ pub one_types : {m n o : Notes} (s : Scope) (c : Term) (b : Block) → Adds m n 
 one_types s c b e f = after_mark (term_types s Condition c) e f
 
 -- ---- with two blocks
-
-pub two_scope : (s t u : Scope) (c : Term) (b d : Block) → t ≡ left s (after_block s b) → u ≡ left t (after_block t d) → u ≡ after_action s (Choose c b (Else d))
-two_scope s t u c b d e f = f ∙ ap (λ (x : Scope). left x (after_block x d)) e
 
 pub two_next : (s t : Scope) (n m l k : ℕ) (c : Term) (b d : Block) → t ≡ left s (after_block s b) → m ≡ n + (term_size s.index c + 1) → l ≡ m + (block_size s.index b + 1) → k ≡ l + (block_size t.index d + 1) → k ≡ n + action_size s.index (Choose c b (Else d))
 two_next s t n m l k c b d g e f h =

@@ -10,13 +10,13 @@ use Rattle.kernel_tree.specs.Typing.{Refusal, TooLarge, TooDeep, Fails, kernel_f
 use Rattle.kernel_types.specs.declared.fault.TypeFault.{TypeFault}
 use Rattle.kernel_types.specs.Causes.{IsCause}
 
-within : (k : Program) (large deep : Bool) → large ≡ false → deep ≡ false → cond large (Some (TooLarge (size_of k))) (cond deep (Some (TooDeep (depth_of k))) (option_map Fails (least (kernel_faults k)))) ≡ option_map Fails (least (kernel_faults k))
-within k large deep e f = rw (e, f) refl
+first_fault_within_limits : (k : Program) (large deep : Bool) → large ≡ false → deep ≡ false → cond large (Some (TooLarge (size_of k))) (cond deep (Some (TooDeep (depth_of k))) (option_map Fails (least (kernel_faults k)))) ≡ option_map Fails (least (kernel_faults k))
+first_fault_within_limits k large deep e f = rw (e, f) refl
 
 pub fails_first : (k : Program) (o : Option Found) (f : Found) (answer : TypeFault) → size_of k ≤ most_items → depth_of k ≤ most_depth → o ≡ least (kernel_faults k) → o ≡ Some f → IsCause (Some (Fails f)) answer → IsCause (check_fault k) answer
 fails_first k o f answer small flat e g h =
     let first : option_map Fails (least (kernel_faults k)) ≡ Some (Fails f) = ap (option_map Fails) (sym e ∙ g) in
-    let is : check_fault k ≡ Some (Fails f) = within k _ _ (le-ltb most_items (size_of k) small) (le-ltb most_depth (depth_of k) flat) ∙ first in
+    let is : check_fault k ≡ Some (Fails f) = first_fault_within_limits k _ _ (le-ltb most_items (size_of k) small) (le-ltb most_depth (depth_of k) flat) ∙ first in
     subst (λ (r : Option Refusal). IsCause r answer) (sym is) h
 
 pub too_large : (k : Program) (size : ℕ) → size ≡ size_of k → most_items < size → check_fault k ≡ Some (TooLarge size)
@@ -31,4 +31,4 @@ too_deep k size depth d g e h =
     rw (small, deep, e) refl
 
 pub fails_never : (k : Program) (o : Option Found) → size_of k ≤ most_items → depth_of k ≤ most_depth → o ≡ least (kernel_faults k) → o ≡ None → check_fault k ≡ None
-fails_never k o small flat e g = within k _ _ (le-ltb most_items (size_of k) small) (le-ltb most_depth (depth_of k) flat) ∙ ap (option_map Fails) (sym e ∙ g)
+fails_never k o small flat e g = first_fault_within_limits k _ _ (le-ltb most_items (size_of k) small) (le-ltb most_depth (depth_of k) flat) ∙ ap (option_map Fails) (sym e ∙ g)

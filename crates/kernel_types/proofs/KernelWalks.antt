@@ -12,7 +12,7 @@ use Rattle.kernel_tree.specs.Typing.{Scope, empty, after_for_loop, param_scope, 
 use Rattle.kernel_scope.specs.Scopes.{in_body}
 use Rattle.kernel_types.specs.declared.notes.Notes.{Notes}
 use Rattle.kernel_types.specs.Parts.{Adds}
-use Rattle.kernel_tree.proofs.Scopes.{param_index, scope_index, last_index, scope_outside}
+use Rattle.kernel_tree.proofs.Scopes.{param_index, last_index, scope_outside}
 use Rattle.kernel_types.proofs.LeastFault.{sooner-assoc, least-append, both_rules}
 use Rattle.kernel_types.proofs.ListWalks.{two_parts}
 use Rattle.kernel_types.proofs.TypeLists.{then_types}
@@ -25,9 +25,6 @@ count_params ps xs e = omega (arith, ap length e, length-map ps parameter_of)
 
 pub params_room : (k : Program) (ps xs : List Param) (n : ℕ) → n ≡ 0 → xs ≡ ps → parameters_of ps ≡ k.params → size_of k < 2 ^ 32 → n + length xs < 2 ^ 32
 params_room k ps xs n e f g h = omega (arith, count_params ps xs f, ap length g, e, h)
-
-pub vars_index : (k : Program) (s : Scope) → s ≡ var_scope k → s.index ≡ loop_index k
-vars_index k s e = rw e (scope_index k)
 
 pub vars_outside : (k : Program) (s : Scope) → s ≡ var_scope k → s.inside ≡ false
 vars_outside k s e = rw e (scope_outside k)

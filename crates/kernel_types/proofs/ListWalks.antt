@@ -1,22 +1,15 @@
 -- One step of a walk over a list.
-use Rattle.std.proofs.Common.{◌≡◌, ℕ, ◌+◌, ◌<◌, List, [], ◌∷◌, ◌++◌, Option, Some, None, length, drop, get_or, refl, sym, ap, ap₂, ◌∙◌, append_assoc, add-one, drop-cons, arith}
-use Rattle.kernel_tree.specs.declared.ast.Stmt.{Stmt}
+use Rattle.std.proofs.Common.{◌≡◌, ◌+◌, List, [], ◌∷◌, ◌++◌, Option, Some, None, refl, sym, ap, ◌∙◌, append_assoc, arith}
 use Rattle.kernel_tree.specs.declared.fault.Found.{Found}
-use Rattle.kernel_tree.specs.Plain.{Action, Block, Then, Parameter, Accumulator, action_of, block_of}
+use Rattle.kernel_tree.specs.Plain.{Action, Block, Then, Parameter, Accumulator}
 use Rattle.kernel_tree.specs.Items.{term_size, action_size, block_size, vars_size}
 use Rattle.kernel_tree.specs.Typing.{Scope, Value, after_action, after_block, after_params, after_vars, twice, faults, action_faults, block_faults, params_faults, vars_faults, term_types, action_types, block_types, params_types, vars_types, sooner, least}
+use Rattle.kernel_tree.proofs.Scopes.{index_after}
 use Rattle.kernel_scope.specs.Scopes.{after_param, after_var}
 use Rattle.kernel_types.specs.declared.notes.Notes.{Notes}
 use Rattle.kernel_types.specs.Parts.{Adds, var_faults, var_types}
 use Rattle.kernel_types.proofs.LeastFault.{sooner-assoc, least-append}
 use Rattle.kernel_types.proofs.TypeLists.{then_types, after_mark}
-use Rattle.kernel_scope.proofs.Growth.{index_after_action}
-
-pub next_item : {A : Type 0} (xs : List A) (i : ℕ) (x : A) → i < length xs → x ≡ get_or xs i x → drop i xs ≡ x ∷ drop (i + 1) xs
-next_item xs i x h g = drop-cons xs i x h ∙ ap₂ (λ y n. y ∷ drop n xs) (sym g) (sym (add-one i))
-
-pub next_statement : (xs : List Stmt) (i : ℕ) (x : Stmt) → i < length xs → x ≡ get_or xs i x → block_of (drop i xs) ≡ Then (action_of x) (block_of (drop (i + 1) xs))
-next_statement xs i x h g = ap block_of (next_item xs i x h g)
 
 -- the first fault of a part, and then of what follows it
 pub two_parts : (o p : Option Found) (xs ys : List Found) → p ≡ sooner o (least xs) → sooner p (least ys) ≡ sooner o (least (xs ++ ys))
@@ -29,10 +22,10 @@ pub record GoesOn (s t : Scope) (old new : Notes) (b x : Block) : Type 0 where
   pub types : (last : Notes) → Adds new last (block_types t b) → Adds old last (block_types s x)
 
 -- after a statement the walk goes on at the next
-pub goes_on : (s t : Scope) (old new : Notes) (a : Action) (b x : Block) → x ≡ Then a b → t ≡ after_action s a → new.next ≡ old.next + action_size s.index a → new.found ≡ sooner old.found (least (action_faults s old.next a)) → Adds old new (action_types s a) → GoesOn s t old new b x
-goes_on s t old new a b x e f g h i = record {
+pub statement_notes_go_on : (s t : Scope) (old new : Notes) (a : Action) (b x : Block) → x ≡ Then a b → t ≡ after_action s a → new.next ≡ old.next + action_size s.index a → new.found ≡ sooner old.found (least (action_faults s old.next a)) → Adds old new (action_types s a) → GoesOn s t old new b x
+statement_notes_go_on s t old new a b x e f g h i = record {
   scope = rw (e, f) refl;
-  next = rw (e, f, g) (rw (index_after_action s a) (omega arith));
+  next = rw (e, f, g) (rw (index_after s a) (omega arith));
   found = rw (e, f, g) (two_parts old.found new.found (action_faults s old.next a) _ h);
   types = λ last k. rw e (then_types i (rw f at k));
 }

@@ -2,14 +2,14 @@
 use Rattle.std.proofs.Common.{◌≡◌, ℕ, ◌+◌, ◌*◌, ◌<◌, ◌^◌, arith}
 use Rattle.std.specs.Prelude.{max}
 
-pub one_below : (t d : ℕ) → 3 * d + 1 ≡ t → 3 * d < t
-one_below t d h = omega arith
+pub three_1_to_0 : (t d : ℕ) → 3 * d + 1 ≡ t → 3 * d < t
+three_1_to_0 t d h = omega arith
 
-pub left_below : (t d e : ℕ) → 3 * max d e + 1 ≡ t → 3 * d < t
-left_below t d e h = omega arith
+pub three_1_to_left_0 : (t d e : ℕ) → 3 * max d e + 1 ≡ t → 3 * d < t
+three_1_to_left_0 t d e h = omega arith
 
-pub right_below : (t d e : ℕ) → 3 * max d e + 1 ≡ t → 3 * e < t
-right_below t d e h = omega arith
+pub three_1_to_right_0 : (t d e : ℕ) → 3 * max d e + 1 ≡ t → 3 * e < t
+three_1_to_right_0 t d e h = omega arith
 
 pub middle_below : (t f d e : ℕ) → 3 * max f (max d e) + 1 ≡ t → 3 * d < t
 middle_below t f d e h = omega arith
@@ -18,9 +18,6 @@ pub last_below : (t f d e : ℕ) → 3 * max f (max d e) + 1 ≡ t → 3 * e < t
 last_below t f d e h = omega arith
 
 -- ---- one operand, which begins at a number and ends at another
-
-pub one_room : (n a : ℕ) → n + (a + 1) < 2 ^ 32 → n + a < 2 ^ 32
-one_room n a h = omega arith
 
 pub one_end : (n a m : ℕ) → n + (a + 1) < 2 ^ 32 → m ≡ n + a → m + 1 < 2 ^ 32
 one_end n a m h e = omega arith

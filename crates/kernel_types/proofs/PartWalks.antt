@@ -1,14 +1,11 @@
 -- The walks over the parts of a kernel: what they ask of their calls, and what these leave.
-use Rattle.std.proofs.Common.{◌≡◌, ℕ, ◌+◌, ◌<◌, ◌≤◌, ◌^◌, List, [], ◌∷◌, ◌++◌, Bool, Option, Some, None, if◌then◌else◌, length, drop, refl, sym, ap, ap₂, subst, ◌∙◌, arith}
-use Rattle.std.proofs.lemmas.List.{drop_all}
-use Rattle.std.specs.Prelude.{Result, Ok, Err, IfOk, OnOk}
-use Rattle.kernel_tree.specs.declared.ast.Param.{Param}
-use Rattle.kernel_tree.specs.declared.ast.Var.{Var}
+use Rattle.std.proofs.Common.{◌≡◌, ℕ, ◌+◌, ◌<◌, ◌^◌, List, [], ◌∷◌, ◌++◌, Bool, Option, Some, None, if◌then◌else◌, refl, sym, ap, ap₂, subst, ◌∙◌, arith}
+use Rattle.std.specs.Prelude.{Result, IfOk}
 use Rattle.kernel_tree.specs.declared.ops.Ty.{Ty}
 use Rattle.kernel_tree.specs.declared.fault.Found.{Found}
 use Rattle.kernel_tree.specs.declared.fault.Binding.TheVariants as binding
 use Rattle.kernel_tree.specs.declared.fault.Fault.TheVariants as fault
-use Rattle.kernel_tree.specs.Plain.{Term, Define, Block, Parameter, Accumulator, PlainLoop, Returned, parameters_of, accumulators_of}
+use Rattle.kernel_tree.specs.Plain.{Term, Define, Block, Parameter, Accumulator, PlainLoop, Returned}
 use Rattle.kernel_tree.specs.Items.{term_size, block_size, vars_size, for_loop_size, answer_size}
 use Rattle.kernel_tree.specs.Typing.{Scope, Value, first, own, declared, after_params, after_vars, after_for_loop, found_at, twice, is_taken, untyped, faults, action_faults, params_faults, vars_faults, for_loop_faults, answer_faults, params_types, vars_types, for_loop_types, answer_types, sooner, least}
 use Rattle.kernel_types.specs.declared.notes.Notes.{Notes}
@@ -17,11 +14,6 @@ use Rattle.kernel_types.proofs.LeastFault.{sooner-none, then_item, both_rules}
 use Rattle.kernel_types.proofs.KindWalks.{Walked}
 use Rattle.kernel_types.proofs.OperandWalks.{past_item}
 use Rattle.kernel_types.proofs.TypeLists.{no_types, then_types}
-
--- what is known at once is known after any call
-pub on_any : {T E P : Type 0} (r : Result T E) → P → OnOk r P
-on_any (Ok x) p = p
-on_any (Err e) p = tt
 
 -- ---- a `let` and an accumulator: the value, and then the name
 
@@ -56,9 +48,6 @@ param_found s n o p again taken x e f g = g ∙ ap (sooner o) (f ∙ ap (λ (y :
 pub var_room : (i j : Option (List ℕ)) (whole xs more : List Accumulator) (x : Accumulator) (from at : ℕ) → xs ≡ x ∷ more → at + vars_size i xs ≡ from + vars_size j whole → from + vars_size j whole < 2 ^ 32 → at + term_size i x.init + 1 < 2 ^ 32
 var_room i j whole xs more x from at e f h = omega (arith, ap (vars_size i) e, f, h)
 
-pub no_var : (vs : List Var) (i : ℕ) → length vs ≤ i → accumulators_of (drop i vs) ≡ []
-no_var vs i h = ap accumulators_of (drop_all i vs h)
-
 pub record VarsWalked (s t : Scope) (old new : Notes) (vs : List Accumulator) : Type 0 where
   pub scope : t ≡ after_vars s vs
   pub next : new.next ≡ old.next + vars_size s.index vs
@@ -75,9 +64,6 @@ vars_end s t old new xs whole e f g h k = record {
 }
 
 -- ---- the parameters
-
-pub no_param : (ps : List Param) (i : ℕ) → length ps ≤ i → parameters_of (drop i ps) ≡ []
-no_param ps i h = ap parameters_of (drop_all i ps h)
 
 pub record ParamsWalked (s t : Scope) (old new : Notes) (ps : List Parameter) : Type 0 where
   pub scope : t ≡ after_params s ps

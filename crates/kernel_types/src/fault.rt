@@ -40,8 +40,8 @@ fn write_mismatch<W: fmt::Write>(
     want: Ty,
     found: Ty,
 ) -> fmt::Result {
-    let want = type_name(want);
-    let found = type_name(found);
+    let want = want.word();
+    let found = found.word();
     write!(f, "want {want} found {found} at item {item}")
 }
 
@@ -80,19 +80,5 @@ impl From<AllocError> for TypeFault {
 
     fn from(_e: AllocError) -> TypeFault {
         TypeFault::Memory
-    }
-}
-
-// The reserved word that a type is.
-fn type_name(ty: Ty) -> &'static str {
-    match ty {
-        Ty::I8 => "i8",
-        Ty::I16 => "i16",
-        Ty::I32 => "i32",
-        Ty::I64 => "i64",
-        Ty::U8 => "u8",
-        Ty::U16 => "u16",
-        Ty::U32 => "u32",
-        Ty::U64 => "u64",
     }
 }

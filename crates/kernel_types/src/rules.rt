@@ -1,8 +1,8 @@
 //! The rules at one item. Each function gives the first fault of its rules there.
 
-ghost use Rattle.std.specs.Prelude.{◌≡◌, [], ℤ, pos, unsigned_abs, Option, option_and_then, if◌then◌else◌};
+ghost use Rattle.std.specs.Prelude.{◌≡◌, [], ℤ, unsigned_abs, Option, option_and_then, if◌then◌else◌};
 ghost use Rattle.kernel_tree.specs.declared.fault.Fault.TheVariants as fault;
-ghost use Rattle.kernel_tree.specs.Wrap.{bits_of, is_signed};
+ghost use Rattle.kernel_tree.specs.Wrap.{bits_of};
 ghost use Rattle.kernel_tree.specs.Typing as typing;
 ghost use Rattle.kernel_types.specs.Parts.{role_of};
 ghost use Rattle.kernel_size.specs.Distances.{distance_of};
@@ -173,21 +173,10 @@ pub fn literal_fault(item: u32, want: Option<Ty>, value: i128) -> Option<Found>
     }
 }
 
-fn bits(ty: Ty) -> i128
-    ensures { result ≡ pos (bits_of ty) }
-{
-    match ty {
-        Ty::I8 | Ty::U8 => 8,
-        Ty::I16 | Ty::U16 => 16,
-        Ty::I32 | Ty::U32 => 32,
-        Ty::I64 | Ty::U64 => 64,
-    }
-}
-
 fn is_count(ty: Ty, count: i128) -> bool
     ensures { result ≡ typing.is_below count (bits_of ty) }
 {
-    0 <= count && count < bits(ty)
+    0 <= count && count < i128::from(ty.bits())
 }
 
 /// The count of a shift in a place that wants this type.
@@ -226,19 +215,13 @@ fn offset_fault(item: u32, distance: u128) -> Option<Found>
     }
 }
 
-fn is_signed(ty: Ty) -> bool
-    ensures { result ≡ is_signed ty }
-{
-    matches!(ty, Ty::I8 | Ty::I16 | Ty::I32 | Ty::I64)
-}
-
 fn signed_fault(item: u32, found: Option<Ty>) -> Option<Found>
     ensures { result ≡ typing.least (typing.signed_faults item found) }
 {
     match found {
         None => None,
         Some(found) => {
-            if is_signed(found) {
+            if found.is_signed() {
                 fault_at(
                     item,
                     Fault::Mismatch {

@@ -20,26 +20,26 @@ placed_length (Branch k m ∷ rest) places n = placed_length rest places (n + 1)
 placed_length (Place m ∷ rest) places n = placed_length rest _ n ∙ length-set places m _
 
 -- the least of what was known and of the place among the entries that follow
-found : (es : List DraftEntry) (places : List ℕ) (n l : ℕ) → l < length places → slice_index places l ≤ n + size es → slice_index (placed_from places n es) l ≡ min (slice_index places l) (n + place_of es l)
-found [] places n l lt le = omega arith
-found (Put i ∷ rest) places n l lt le =
+placed_from_min : (es : List DraftEntry) (places : List ℕ) (n l : ℕ) → l < length places → slice_index places l ≤ n + size es → slice_index (placed_from places n es) l ≡ min (slice_index places l) (n + place_of es l)
+placed_from_min [] places n l lt le = omega arith
+placed_from_min (Put i ∷ rest) places n l lt le =
     let e : n + 1 + place_of rest l ≡ n + suc (place_of rest l) = omega arith in
-    found rest places (n + 1) l lt (omega (arith, le)) ∙ ap (min (slice_index places l)) e
-found (Branch k m ∷ rest) places n l lt le =
+    placed_from_min rest places (n + 1) l lt (omega (arith, le)) ∙ ap (min (slice_index places l)) e
+placed_from_min (Branch k m ∷ rest) places n l lt le =
     let e : n + 1 + place_of rest l ≡ n + suc (place_of rest l) = omega arith in
-    found rest places (n + 1) l lt (omega (arith, le)) ∙ ap (min (slice_index places l)) e
-found (Place m ∷ rest) places n l lt le =
+    placed_from_min rest places (n + 1) l lt (omega (arith, le)) ∙ ap (min (slice_index places l)) e
+placed_from_min (Place m ∷ rest) places n l lt le =
     let low = min (slice_index places m) n in
     let sized : l < length (slice_set places m low) = omega (arith, length-set places m low) in
     ⊎_elim
     (λ (t : (nat_eq m l ≡ true) × (m ≡ l)).
     let here : slice_index (slice_set places m low) l ≡ min (slice_index places l) n = ap (λ j. slice_index (slice_set places j (min (slice_index places j) n)) l) t.1 ∙ get_or-set_same places l (min (slice_index places l) n) 0 lt in
-    let ih = found rest (slice_set places m low) n l sized (omega (arith, here)) in
+    let ih = placed_from_min rest (slice_set places m low) n l sized (omega (arith, here)) in
     let c : n + (if nat_eq m l then 0 else place_of rest l) ≡ n + 0 = ap (λ b. n + (if b then 0 else place_of rest l)) t.0 in
     omega (arith, ih, here, c))
     (λ (f : (nat_eq m l ≡ false) × (m ≢ l)).
     let there : slice_index (slice_set places m low) l ≡ slice_index places l = get_or-set_other places m l low 0 (λ e. f.1 (sym e)) in
-    let ih = found rest (slice_set places m low) n l sized (omega (arith, there, le)) in
+    let ih = placed_from_min rest (slice_set places m low) n l sized (omega (arith, there, le)) in
     let c : n + (if nat_eq m l then 0 else place_of rest l) ≡ n + place_of rest l = ap (λ b. n + (if b then 0 else place_of rest l)) f.0 in
     omega (arith, ih, there, c))
     (eqb_tells m l)
@@ -49,7 +49,7 @@ pub places_found : (labels : ℕ) (es : List DraftEntry) (places : List ℕ) →
 places_found labels es places e l lt =
     let many : length places ≡ labels = ap length e ∙ placed_length es (replicate labels (size es)) 0 ∙ length-replicate labels (size es) in
     let begun : slice_index (replicate labels (size es)) l ≡ size es = get_or-replicate labels l (size es) 0 (omega (arith, many, lt)) in
-    let f = found es (replicate labels (size es)) 0 l (omega (arith, length-replicate {A = ℕ} labels (size es), many, lt)) (omega (arith, begun)) in
+    let f = placed_from_min es (replicate labels (size es)) 0 l (omega (arith, length-replicate {A = ℕ} labels (size es), many, lt)) (omega (arith, begun)) in
     let small = place_within es l in
     ap (λ ps. slice_index ps l) e ∙ omega (arith, f, begun, small)
 

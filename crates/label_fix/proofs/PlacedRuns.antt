@@ -21,6 +21,7 @@ use Rattle.machine_model.proofs.ListedWords.{step_does, step_cuts}
 use Rattle.label_fix.specs.DraftRun.{Kind, Always, If, Zero, NotZero, DraftEntry, Put, Branch, Place, Laid, is_taken, after_label, following, place_of, address_of, walk, draft_run}
 use Rattle.label_fix.specs.Suppressions.{count_on, walk_cuts, cuts}
 use Rattle.label_fix.specs.Finished.{size, offset, branch_of, is_plain, IsBranch, AreFit, words_from, words_of}
+use Rattle.label_fix.proofs.Collected.{place_within}
 
 -- ---- branches
 
@@ -69,22 +70,19 @@ before (Put i ∷ rest) l = Put i ∷ before rest l
 before (Branch k m ∷ rest) l = Branch k m ∷ before rest l
 before (Place m ∷ rest) l = Place m ∷ (if nat_eq m l then [] else before rest l)
 
-parts : (es : List DraftEntry) (l : ℕ) → es ≡ before es l ++ after_label es l
-parts [] l = refl
-parts (Put i ∷ rest) l = ap (λ es. Put i ∷ es) (parts rest l)
-parts (Branch k m ∷ rest) l = ap (λ es. Branch k m ∷ es) (parts rest l)
-parts (Place m ∷ rest) l =
-    elim (nat_eq m l) as (λ c. Place m ∷ rest ≡ (Place m ∷ (if c then [] else before rest l)) ++ (if c then rest else after_label rest l)) [ true ↦ refl | false ↦ ap (λ es. Place m ∷ es) (parts rest l) ]
+entries_around_label : (es : List DraftEntry) (l : ℕ) → es ≡ before es l ++ after_label es l
+entries_around_label [] l = refl
+entries_around_label (Put i ∷ rest) l = ap (λ es. Put i ∷ es) (entries_around_label rest l)
+entries_around_label (Branch k m ∷ rest) l = ap (λ es. Branch k m ∷ es) (entries_around_label rest l)
+entries_around_label (Place m ∷ rest) l =
+    elim (nat_eq m l) as (λ c. Place m ∷ rest ≡ (Place m ∷ (if c then [] else before rest l)) ++ (if c then rest else after_label rest l)) [ true ↦ refl | false ↦ ap (λ es. Place m ∷ es) (entries_around_label rest l) ]
 
-placed : (es : List DraftEntry) (l : ℕ) → place_of es l ≡ size (before es l)
-placed [] l = refl
-placed (Put i ∷ rest) l = ap suc (placed rest l)
-placed (Branch k m ∷ rest) l = ap suc (placed rest l)
-placed (Place m ∷ rest) l =
-    elim (nat_eq m l) as (λ c. (if c then 0 else place_of rest l) ≡ size (if c then [] else before rest l)) [ true ↦ refl | false ↦ placed rest l ]
-
-place-small : (es : List DraftEntry) (l : ℕ) → place_of es l ≤ size es
-place-small es l = let e = ap size (parts es l) ∙ size-append (before es l) (after_label es l) in omega (arith, placed es l, e)
+place_is_size_before : (es : List DraftEntry) (l : ℕ) → place_of es l ≡ size (before es l)
+place_is_size_before [] l = refl
+place_is_size_before (Put i ∷ rest) l = ap suc (place_is_size_before rest l)
+place_is_size_before (Branch k m ∷ rest) l = ap suc (place_is_size_before rest l)
+place_is_size_before (Place m ∷ rest) l =
+    elim (nat_eq m l) as (λ c. (if c then 0 else place_of rest l) ≡ size (if c then [] else before rest l)) [ true ↦ refl | false ↦ place_is_size_before rest l ]
 
 -- ---- the words of a draft in memory
 
@@ -98,13 +96,13 @@ Stands d m n (Put i ∷ rest) = (fetched m (address_at d n) ≡ Some (spell i)) 
 Stands d m n (Branch k l ∷ rest) = (fetched m (address_at d n) ≡ Some (spells row (branch_of k n (place_of d.entries l)))) × IsInstruction row a64_names (branch_of k n (place_of d.entries l)) × Stands d m (suc n) rest
 Stands d m n (Place l ∷ rest) = Stands d m n rest
 
-low : (d : Laid) (n : ℕ) → address_at d n < 2 ^ 64
-low d n = omega arith
+address_below_2_64 : (d : Laid) (n : ℕ) → address_at d n < 2 ^ 64
+address_below_2_64 d n = omega arith
 
 stands_keep : (d : Laid) (m w : Memory) (n : ℕ) (rest : List DraftEntry) → ((a : ℕ) → a < 2 ^ 64 → fetched w a ≡ fetched m a) → Stands d m n rest → Stands d w n rest
 stands_keep d m w n [] f h = tt
-stands_keep d m w n (Put i ∷ rest) f h = (f _ (low d n) ∙ h.0, h.1, h.2, stands_keep d m w (suc n) rest f h.3)
-stands_keep d m w n (Branch k l ∷ rest) f h = (f _ (low d n) ∙ h.0, h.1, stands_keep d m w (suc n) rest f h.2)
+stands_keep d m w n (Put i ∷ rest) f h = (f _ (address_below_2_64 d n) ∙ h.0, h.1, h.2, stands_keep d m w (suc n) rest f h.3)
+stands_keep d m w n (Branch k l ∷ rest) f h = (f _ (address_below_2_64 d n) ∙ h.0, h.1, stands_keep d m w (suc n) rest f h.2)
 stands_keep d m w n (Place l ∷ rest) f h = stands_keep d m w n rest f h
 
 stands_at : (d : Laid) (m : Memory) (n : ℕ) (pre rest : List DraftEntry) → Stands d m n (pre ++ rest) → Stands d m (n + size pre) rest
@@ -118,8 +116,8 @@ stands_at d m n (Place l ∷ pre) rest h = stands_at d m n pre rest h
 onward : (d : Laid) (x : DraftEntry) (pre rest : List DraftEntry) → d.entries ≡ pre ++ x ∷ rest → d.entries ≡ (pre ++ x ∷ []) ++ rest
 onward d x pre rest e = e ∙ sym (append_assoc pre (x ∷ []) rest)
 
-here : (d : Laid) (pre rest : List DraftEntry) (s : State) → d.entries ≡ pre ++ rest → Stands d s.memory 0 d.entries → Stands d s.memory (size pre) rest
-here d pre rest s e h = let z : 0 + size pre ≡ size pre = omega arith in subst (λ k. Stands d s.memory k rest) z (stands_at d s.memory 0 pre rest (subst (λ es. Stands d s.memory 0 es) e h))
+stands_at_rest : (d : Laid) (pre rest : List DraftEntry) (s : State) → d.entries ≡ pre ++ rest → Stands d s.memory 0 d.entries → Stands d s.memory (size pre) rest
+stands_at_rest d pre rest s e h = let z : 0 + size pre ≡ size pre = omega arith in subst (λ k. Stands d s.memory k rest) z (stands_at d s.memory 0 pre rest (subst (λ es. Stands d s.memory 0 es) e h))
 
 next_place : (d : Laid) (pc k : ℕ) → pc ≡ address_at d k → (pc + 4) % 2 ^ 64 ≡ address_at d (k + 1)
 next_place d pc k e = omega (arith, e)
@@ -129,15 +127,15 @@ record Passes (s t : State) : Type 0 where
   pub pc : t.pc ≡ (s.pc + 4) % 2 ^ 64
   pub code : (a : ℕ) → a < 2 ^ 64 → fetched t.memory a ≡ fetched s.memory a
 
-passes : (i : Listed) (s t : State) → is_plain i ≡ true → does i s ≡ Went t → Passes s t
-passes (Scalar i) s t plain e =
+plain_step_passes : (i : Listed) (s t : State) → is_plain i ≡ true → does i s ≡ Went t → Passes s t
+plain_step_passes (Scalar i) s t plain e =
     let k = scalar_leaves i.name i.numbers s t e in
     record { pc = straight (is_branch i.name) plain k.pc; code = k.code }
   where
     straight : (b : Bool) → not b ≡ true → SameUnless b ((s.pc + 4) % 2 ^ 64) t.pc → t.pc ≡ (s.pc + 4) % 2 ^ 64
     straight false h same = same
     straight true h same = absurd cc
-passes (Vector v) s t plain e =
+plain_step_passes (Vector v) s t plain e =
     let k = went_leaves v.name (field_of v.name v.numbers) s t e in
     record { pc = k.pc; code = k.code }
 
@@ -154,16 +152,16 @@ abbrev Same : Laid → ℕ → Type 0
 Same d n = (taken : ℕ) (pre rest : List DraftEntry) (s : State) → d.entries ≡ pre ++ rest → s.pc ≡ address_at d (size pre) → Stands d s.memory 0 d.entries → run n taken s ≡ draft_run d n taken rest s
 
 module _ (d : Laid) (few : size d.entries ≤ 65536) (n : ℕ) (ih : Same d n) where
-  went_on : (i : Listed) (o : Step) (taken : ℕ) (pre rest : List DraftEntry) (s : State) → does i s ≡ o → is_plain i ≡ true → d.entries ≡ pre ++ Put i ∷ rest → s.pc ≡ address_at d (size pre) → Stands d s.memory 0 d.entries → go_on o s taken (run n taken) ≡ go_on o s taken (draft_run d n taken rest)
-  went_on i (Went t) taken pre rest s is plain e p h =
-      let k = passes i s t plain is in
+  laid_step_went_on : (i : Listed) (o : Step) (taken : ℕ) (pre rest : List DraftEntry) (s : State) → does i s ≡ o → is_plain i ≡ true → d.entries ≡ pre ++ Put i ∷ rest → s.pc ≡ address_at d (size pre) → Stands d s.memory 0 d.entries → go_on o s taken (run n taken) ≡ go_on o s taken (draft_run d n taken rest)
+  laid_step_went_on i (Went t) taken pre rest s is plain e p h =
+      let k = plain_step_passes i s t plain is in
       let z : size (pre ++ Put i ∷ []) ≡ size pre + 1 = size-append pre (Put i ∷ []) in
       ih taken (pre ++ Put i ∷ []) rest t (onward d (Put i) pre rest e) (k.pc ∙ next_place d s.pc (size pre) p ∙ ap (address_at d) (sym z)) (stands_keep d s.memory t.memory 0 d.entries k.code h)
-  went_on i (Ended r) taken pre rest s is plain e p h = refl
-  went_on i (Stopped kind pc at m) taken pre rest s is plain e p h = refl
+  laid_step_went_on i (Ended r) taken pre rest s is plain e p h = refl
+  laid_step_went_on i (Stopped kind pc at m) taken pre rest s is plain e p h = refl
 
   branched : (c : Bool) (k : Kind) (l taken : ℕ) (pre rest : List DraftEntry) (s : State) → d.entries ≡ pre ++ Branch k l ∷ rest → s.pc ≡ address_at d (size pre) → Stands d s.memory 0 d.entries → run n taken (if c then jump s (address_of d l) else next s) ≡ (if c then draft_run d n taken (following d l) (jump s (address_of d l)) else draft_run d n taken rest (next s))
-  branched true k l taken pre rest s e p h = ih taken (before d.entries l) (following d l) (jump s (address_of d l)) (parts d.entries l) (ap (address_at d) (placed d.entries l)) h
+  branched true k l taken pre rest s e p h = ih taken (before d.entries l) (following d l) (jump s (address_of d l)) (entries_around_label d.entries l) (ap (address_at d) (place_is_size_before d.entries l)) h
   branched false k l taken pre rest s e p h =
       let z : size (pre ++ Branch k l ∷ []) ≡ size pre + 1 = size-append pre (Branch k l ∷ []) in
       ih taken (pre ++ Branch k l ∷ []) rest (next s) (onward d (Branch k l) pre rest e) (next_place d s.pc (size pre) p ∙ ap (address_at d) (sym z)) h
@@ -171,13 +169,13 @@ module _ (d : Laid) (few : size d.entries ≤ 65536) (n : ℕ) (ih : Same d n) w
   same_walk : (rest pre : List DraftEntry) (taken : ℕ) (s : State) → d.entries ≡ pre ++ rest → s.pc ≡ address_at d (size pre) → Stands d s.memory 0 d.entries → run (suc n) taken s ≡ walk d (draft_run d n (taken + 1)) (run (suc n) taken) (taken + 1) rest s
   same_walk [] pre taken s e p h = refl
   same_walk (Put i ∷ rest) pre taken s e p h =
-      let at = here d pre _ s e h in
+      let at = stands_at_rest d pre _ s e h in
       ap (λ o. go_on o s (taken + 1) (run n (taken + 1))) (step_does s i at.1 (ap (fetched s.memory) p ∙ at.0))
-      ∙ went_on i (does i s) (taken + 1) pre rest s refl at.2 e p h
+      ∙ laid_step_went_on i (does i s) (taken + 1) pre rest s refl at.2 e p h
   same_walk (Branch k l ∷ rest) pre taken s e p h =
-      let at = here d pre _ s e h in
+      let at = stands_at_rest d pre _ s e h in
       let z = ap size e ∙ size-append pre (Branch k l ∷ rest) in
-      let to = place-small d.entries l in
+      let to = place_within d.entries l in
       ap (λ o. go_on o s (taken + 1) (run n (taken + 1))) (step_does s (Scalar (branch_of k (size pre) (place_of d.entries l))) at.1 (ap (fetched s.memory) p ∙ at.0) ∙ branch_does d k (size pre) (place_of d.entries l) s (omega (arith, few, z)) (omega (arith, few, to)) p)
       ∙ branched (is_taken k s) k l (taken + 1) pre rest s e p h
   same_walk (Place l ∷ rest) pre taken s e p h =
@@ -246,7 +244,7 @@ step_counts s i n h at = ap (λ o. counted_by o (suppresses s) n) (step_does s i
 module _ (d : Laid) (few : size d.entries ≤ 65536) (n : ℕ) (ih : Fewer d n) where
   fewer_on : (i : Listed) (o : Step) (cut : Bool) (pre rest : List DraftEntry) (s : State) → does i s ≡ o → is_plain i ≡ true → d.entries ≡ pre ++ Put i ∷ rest → s.pc ≡ address_at d (size pre) → Stands d s.memory 0 d.entries → count_on o cut (cuts d n rest) ≤ counted_by o cut n
   fewer_on i (Went t) cut pre rest s is plain e p h =
-      let k = passes i s t plain is in
+      let k = plain_step_passes i s t plain is in
       let z : size (pre ++ Put i ∷ []) ≡ size pre + 1 = size-append pre (Put i ∷ []) in
       let r = ih (pre ++ Put i ∷ []) rest t (onward d (Put i) pre rest e) (k.pc ∙ next_place d s.pc (size pre) p ∙ ap (address_at d) (sym z)) (stands_keep d s.memory t.memory 0 d.entries k.code h) in
       omega (arith, r)
@@ -254,7 +252,7 @@ module _ (d : Laid) (few : size d.entries ≤ 65536) (n : ℕ) (ih : Fewer d n) 
   fewer_on i (Stopped kind pc at m) cut pre rest s is plain e p h = omega arith
 
   fewer_branch : (c : Bool) (k : Kind) (l : ℕ) (pre rest : List DraftEntry) (s : State) → d.entries ≡ pre ++ Branch k l ∷ rest → s.pc ≡ address_at d (size pre) → Stands d s.memory 0 d.entries → (if c then cuts d n (following d l) (jump s (address_of d l)) else cuts d n rest (next s)) ≤ suppressed n (if c then jump s (address_of d l) else next s)
-  fewer_branch true k l pre rest s e p h = ih (before d.entries l) (following d l) (jump s (address_of d l)) (parts d.entries l) (ap (address_at d) (placed d.entries l)) h
+  fewer_branch true k l pre rest s e p h = ih (before d.entries l) (following d l) (jump s (address_of d l)) (entries_around_label d.entries l) (ap (address_at d) (place_is_size_before d.entries l)) h
   fewer_branch false k l pre rest s e p h =
       let z : size (pre ++ Branch k l ∷ []) ≡ size pre + 1 = size-append pre (Branch k l ∷ []) in
       ih (pre ++ Branch k l ∷ []) rest (next s) (onward d (Branch k l) pre rest e) (next_place d s.pc (size pre) p ∙ ap (address_at d) (sym z)) h
@@ -262,14 +260,14 @@ module _ (d : Laid) (few : size d.entries ≤ 65536) (n : ℕ) (ih : Fewer d n) 
   fewer_walk : (rest pre : List DraftEntry) (s : State) → d.entries ≡ pre ++ rest → s.pc ≡ address_at d (size pre) → Stands d s.memory 0 d.entries → walk_cuts d (cuts d n) rest s ≤ suppressed (suc n) s
   fewer_walk [] pre s e p h = omega arith
   fewer_walk (Put i ∷ rest) pre s e p h =
-      let at = here d pre _ s e h in
+      let at = stands_at_rest d pre _ s e h in
       let is = step_counts s i n at.1 (ap (fetched s.memory) p ∙ at.0) in
       let le = fewer_on i (does i s) (cuts_in i s) pre rest s refl at.2 e p h in
       subst (λ m. count_on (does i s) (cuts_in i s) (cuts d n rest) ≤ m) (sym is) le
   fewer_walk (Branch k l ∷ rest) pre s e p h =
-      let at = here d pre _ s e h in
+      let at = stands_at_rest d pre _ s e h in
       let z = ap size e ∙ size-append pre (Branch k l ∷ rest) in
-      let to = place-small d.entries l in
+      let to = place_within d.entries l in
       let i = branch_of k (size pre) (place_of d.entries l) in
       let is = step_counts s (Scalar i) n at.1 (ap (fetched s.memory) p ∙ at.0) ∙ ap (λ o. counted_by o false n) (branch_does d k (size pre) (place_of d.entries l) s (omega (arith, few, z)) (omega (arith, few, to)) p) in
       let le = fewer_branch (is_taken k s) k l pre rest s e p h in

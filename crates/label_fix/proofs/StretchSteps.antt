@@ -10,7 +10,7 @@ use Rattle.machine_model.specs.Machine.{State, Step, Went, Ended, Stopped, jump,
 use Rattle.machine_model.specs.OneStep.{cuts_in}
 use Rattle.machine_model.specs.Run.{Outcome, End, Stop, go_on, run}
 use Rattle.machine_model.specs.States.{IsState}
-use Rattle.machine_model.proofs.StateSteps.{moved, jumped}
+use Rattle.machine_model.proofs.StateSteps.{next_is_state, jumped}
 use Rattle.machine_model.proofs.ScalarStates.{scalar_keeps}
 use Rattle.machine_model.proofs.StateLaws.{vector_keeps}
 pub use Rattle.label_fix.specs.Stretches.{Resolves, Goes, Leads, Stops, Ends}
@@ -43,9 +43,9 @@ stay {d = d} {c = c} {s = s} most = record {
 }
 
 -- one word: the run, the free elements that are suppressed, and the shape
-one : {d : Laid} {c e : List DraftEntry} {s t : State} → ((on : List DraftEntry → State → Outcome) (past : State → Outcome) (taken : ℕ) → walk d on past taken c s ≡ on e t) → ((on : List DraftEntry → State → ℕ) → on e t ≤ walk_cuts d on c s)
+no_cut_of_equal_walk : {d : Laid} {c e : List DraftEntry} {s t : State} → ((on : List DraftEntry → State → Outcome) (past : State → Outcome) (taken : ℕ) → walk d on past taken c s ≡ on e t) → ((on : List DraftEntry → State → ℕ) → on e t ≤ walk_cuts d on c s)
     → ((labels : ℕ) → AreFit labels d.entries → AreFit labels c → IsState s → IsState t × AreFit labels e) → Goes d c s e t 1
-one {d = d} {c = c} {e = e} {s = s} {t = t} h more shape = record {
+no_cut_of_equal_walk {d = d} {c = c} {e = e} {s = s} {t = t} h more shape = record {
   count = 1;
   within = omega arith;
   by = λ k taken. let e : 1 + k ≡ suc k = omega arith in ap (λ j. draft_run d j taken c s) e ∙ h (draft_run d k (taken + 1)) (run (suc k) taken) (taken + 1);
@@ -53,12 +53,12 @@ one {d = d} {c = c} {e = e} {s = s} {t = t} h more shape = record {
   keeps = shape;
 }
 
-counted : (o : Step) (b : Bool) (more : State → ℕ) (t : State) → o ≡ Went t → more t ≤ count_on o b more
-counted o b more t h = rw h (omega arith)
+cuts_le_count_on : (o : Step) (b : Bool) (more : State → ℕ) (t : State) → o ≡ Went t → more t ≤ count_on o b more
+cuts_le_count_on o b more t h = rw h (omega arith)
 
 pub put_goes : {d : Laid} {i : Listed} {rest : List DraftEntry} {s t : State} → effect i s ≡ Went t → Goes d (Put i ∷ rest) s rest t 1
 put_goes {i = i} {rest = rest} {s = s} {t = t} h =
-    one (λ on past taken. ap (λ o. go_on o s taken (on rest)) h) (λ on. counted (effect i s) (cuts_in i s) (on rest) t h) (λ labels all fit is. (word_keeps i s t fit.0 is h, fit.1))
+    no_cut_of_equal_walk (λ on past taken. ap (λ o. go_on o s taken (on rest)) h) (λ on. cuts_le_count_on (effect i s) (cuts_in i s) (on rest) t h) (λ labels all fit is. (word_keeps i s t fit.0 is h, fit.1))
 
 pub put_stops : {d : Laid} {i : Listed} {rest : List DraftEntry} {s : State} {kind : StopKind} {m : Memory} (pc at : ℕ) → effect i s ≡ Stopped kind pc at m → Stops d (Put i ∷ rest) s kind m 1
 put_stops {d = d} {i = i} {rest = rest} {s = s} pc at h = record {
@@ -81,15 +81,15 @@ same_number h = omega (arith, h)
 
 pub taken_goes : {d : Laid} {k : Kind} {l : ℕ} {rest : List DraftEntry} {s : State} → is_taken k s ≡ true → Goes d (Branch k l ∷ rest) s (following d l) (jump s (address_of d l)) 1
 taken_goes {d = d} {l = l} {rest = rest} {s = s} h =
-    one (λ on past taken. ap (λ b. if b then on (following d l) (jump s (address_of d l)) else on rest (next s)) h)
+    no_cut_of_equal_walk (λ on past taken. ap (λ b. if b then on (following d l) (jump s (address_of d l)) else on rest (next s)) h)
     (λ on. same_number (ap (λ b. if b then on (following d l) (jump s (address_of d l)) else on rest (next s)) h))
     (λ labels all fit is. (jumped s (address_of d l) is (mod-lt (d.base + 4 * place_of d.entries l) (pow_pos 64)), fit_after labels d.entries l all))
 
 pub passed_goes : {d : Laid} {k : Kind} {l : ℕ} {rest : List DraftEntry} {s : State} → is_taken k s ≡ false → Goes d (Branch k l ∷ rest) s rest (next s) 1
 passed_goes {d = d} {l = l} {rest = rest} {s = s} h =
-    one (λ on past taken. ap (λ b. if b then on (following d l) (jump s (address_of d l)) else on rest (next s)) h)
+    no_cut_of_equal_walk (λ on past taken. ap (λ b. if b then on (following d l) (jump s (address_of d l)) else on rest (next s)) h)
     (λ on. same_number (ap (λ b. if b then on (following d l) (jump s (address_of d l)) else on rest (next s)) h))
-    (λ labels all fit is. (moved s is, fit.2))
+    (λ labels all fit is. (next_is_state s is, fit.2))
 
 pub chain : {d : Laid} {c e g : List DraftEntry} {s t u : State} {m n : ℕ} (most : ℕ) → m + n ≤ most → Goes d c s e t m → Goes d e t g u n → Goes d c s g u most
 chain {d = d} {c = c} {g = g} {s = s} {u = u} most le a b = record {

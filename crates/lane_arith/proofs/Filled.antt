@@ -25,8 +25,8 @@ elements-same w f g n same =
     sym (elements-mod w f n) ∙ elements-ext (width_bytes w) (λ e. f e % modulus w) (λ e. g e % modulus w) n same ∙ elements-mod w g n
 
 -- the element of a vector that counts
-pub counted : (m from by e : ℕ) → (e * (by % m) % m + from % m) % m ≡ (from + e * by) % m
-counted m from by e =
+pub ramp_residue : (m from by e : ℕ) → (e * (by % m) % m + from % m) % m ≡ (from + e * by) % m
+ramp_residue m from by e =
     let product : e * (by % m) % m ≡ e * by % m = mul-mod e (by % m) m ∙ ap (λ b. e % m * b % m) (mod-mod by m) ∙ sym (mul-mod e by m) in
     ap (λ n. (n + from % m) % m) product ∙ sym (add-mod (e * by) from m) ∙ ap (λ n. n % m) (add_comm (e * by) from)
 

@@ -84,8 +84,8 @@ half-1 : IsHalf B 1
 half-1 = record { whole = refl; twice = refl; inside = omega arith }
 
 module _ (op : ReduceOp) (w : Width) (join : LaneOp) (same : (m a b : ℕ) → joined op m a b ≡ lane join m a b) (element : (m : ℕ) → fold_limit op m ≡ m) where
-  small : (x : List ℕ) → Each1 (λ b. b < 256) x → (e : ℕ) → at w x e < fold_limit op (modulus w)
-  small x sx e = element-joins op w (at w x e) (element-small w x e sx)
+  lane_below_fold_limit : (x : List ℕ) → Each1 (λ b. b < 256) x → (e : ℕ) → at w x e < fold_limit op (modulus w)
+  lane_below_fold_limit x sx e = element-joins op w (at w x e) (element-small w x e sx)
 
   -- the elements of n bytes, joined with those of the next n, fold to the same
   halved : (n : ℕ) (x now : List ℕ) → IsHalf w n → length x ≡ 32 → Each1 (λ b. b < 256) x → now ≡ binary_block_of join w x (from_byte n x) → bytes_fold op w n now ≡ bytes_fold op w (n + n) x
@@ -100,10 +100,10 @@ module _ (op : ReduceOp) (w : Width) (join : LaneOp) (same : (m a b : ℕ) → j
       let l2 : h + e < block_lanes w = omega (arith, half.inside) in
       let l1 : e < block_lanes w = omega (arith, half.inside) in
       let value : binary_at join w x (from_byte n x) e ≡ both e = ap (lane join m (at w x e)) (at-above w x n h e long half.whole l2) ∙ sym (same m (at w x e) (at w x (h + e))) in
-      let below : both e < m = subst (λ b. both e < b) (element m) ((joins-of op w).closed (at w x e) (at w x (h + e)) (small x sx e) (small x sx (h + e))) in
+      let below : both e < m = subst (λ b. both e < b) (element m) ((joins-of op w).closed (at w x e) (at w x (h + e)) (lane_below_fold_limit x sx e) (lane_below_fold_limit x sx (h + e))) in
       ap (λ z. at w z e) is ∙ at-elements w (binary_at join w x (from_byte n x)) (block_lanes w) e l1 (subst (λ v. v < m) (sym value) below) ∙ value)
-      ∙ folded-zip j id (fold_limit op m) (joins-of op w) (at w x) (λ e. at w x (h + e)) h (small x sx) (λ e. small x sx (h + e))
-      ∙ sym (folded-split j id (fold_limit op m) (joins-of op w) (at w x) h h (small x sx)) ∙ ap (folded j id (at w x)) (sym half.twice)
+      ∙ folded-zip j id (fold_limit op m) (joins-of op w) (at w x) (λ e. at w x (h + e)) h (lane_below_fold_limit x sx) (λ e. lane_below_fold_limit x sx (h + e))
+      ∙ sym (folded-split j id (fold_limit op m) (joins-of op w) (at w x) h h (lane_below_fold_limit x sx)) ∙ ap (folded j id (at w x)) (sym half.twice)
 
   pub halved-16 : (x now : List ℕ) → length x ≡ 32 → Each1 (λ b. b < 256) x → now ≡ binary_block_of join w x (from_byte 16 x) → bytes_fold op w 16 now ≡ bytes_fold op w 32 x
   halved-16 x now long sx is = halved 16 x now (half-16 w) long sx is

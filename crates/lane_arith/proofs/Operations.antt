@@ -5,13 +5,13 @@ use Rattle.std.proofs.lemmas.Nat.{and_le_l}
 use Rattle.std.proofs.Math.Nat.{mod-lt}
 use lib.Lanes.{Each1}
 use Rattle.guest_types.specs.declared.length.Width.{Width}
-use Rattle.guest_types.specs.declared.length.Width.TheVariants.{B}
 use Rattle.guest_types.specs.declared.operation.LaneOp.{LaneOp}
 use Rattle.guest_types.specs.declared.operation.LaneOp.TheVariants.{Add, Sub, Mul, And, Or, Xor, Bic, SMin, SMax, UMin, UMax}
 use Rattle.guest_types.specs.Length.{modulus}
 use Rattle.guest_types.specs.Elements.{at}
 use Rattle.guest_types.specs.Lanes.{lane, signed_lt, binary_at}
 use Rattle.guest_types.proofs.Shifts.{or-below, xor-below}
+use Rattle.guest_types.proofs.Widths.{modulus_pos}
 use Rattle.lane_blocks.proofs.Lanes.{IsLanes}
 use Rattle.lane_blocks.proofs.Masks.{element-small}
 
@@ -19,15 +19,11 @@ use Rattle.lane_blocks.proofs.Masks.{element-small}
 pub by-op : {n : ℕ} {xs : List ℕ} {op known : LaneOp} (w : Width) (a b : List ℕ) → op ≡ known → IsLanes n (binary_at known w a b) xs → IsLanes n (binary_at op w a b) xs
 by-op {n} {xs} w a b is h = subst (λ o. IsLanes n (binary_at o w a b) xs) (sym is) h
 
-pub some-values : (w : Width) → 0 < modulus w
-some-values B = omega arith
-some-values other = omega arith
-
 -- an operation of elements is an element
 pub lane-below : (op : LaneOp) (w : Width) (a b : ℕ) → a < modulus w → b < modulus w → lane op (modulus w) a b < modulus w
-lane-below Add w a b p q = mod-lt (a + b) (some-values w)
-lane-below Sub w a b p q = mod-lt (a + (modulus w - b)) (some-values w)
-lane-below Mul w a b p q = mod-lt (a * b) (some-values w)
+lane-below Add w a b p q = mod-lt (a + b) (modulus_pos w)
+lane-below Sub w a b p q = mod-lt (a + (modulus w - b)) (modulus_pos w)
+lane-below Mul w a b p q = mod-lt (a * b) (modulus_pos w)
 lane-below And w a b p q = omega (arith, and_le_l a b)
 lane-below Or w a b p q = or-below w a b p q
 lane-below Xor w a b p q = xor-below w a b p q

@@ -11,9 +11,9 @@ use Rattle.guest_types.specs.declared.operation.LaneUnary.TheVariants.{Abs, Neg,
 use Rattle.guest_types.specs.Length.{width_bits, modulus}
 use Rattle.guest_types.specs.Lanes.{sign_extended, unary, source_bits, shifted, shift_at}
 use Rattle.guest_types.proofs.Shifts.{modulus-power, ones-above}
+use Rattle.guest_types.proofs.Widths.{modulus_pos}
 use Rattle.lane_blocks.proofs.Lanes.{IsLanes}
 use Rattle.lane_arith.specs.Blocks.{unary_at}
-use Rattle.lane_arith.proofs.Operations.{some-values}
 
 pub by-shift : {n : ℕ} {xs : List ℕ} {op known : ShiftOp} (w : Width) (a : List ℕ) (count : ℕ) → op ≡ known → IsLanes n (shift_at known w a count) xs → IsLanes n (shift_at op w a count) xs
 by-shift {n} {xs} w a count is h = subst (λ o. IsLanes n (shift_at o w a count) xs) (sym is) h
@@ -30,9 +30,9 @@ two-steps x c some =
     div-div-eq-div-mul x (2 ^ (c - 1)) (2 ^ 1) ∙ ap (λ n. x / n) (sym (pow-add 2 (c - 1) 1) ∙ ap (λ n. 2 ^ n) whole)
 
 -- a shift down that fills with the top bit
-pub filled : (w : Width) (x c top low fill : ℕ) → x < modulus w → top + 1 ≡ modulus w → 1 ≤ c → c ≤ width_bits w → low ≡ top / 2 ^ c → fill ≡ top - low
+pub shifted_with_fill : (w : Width) (x c top low fill : ℕ) → x < modulus w → top + 1 ≡ modulus w → 1 ≤ c → c ≤ width_bits w → low ≡ top / 2 ^ c → fill ≡ top - low
     → (x / 2 ^ (c - 1) / 2 ^ 1 + cond (ltb x (modulus w / 2)) 0 fill) % modulus w ≡ shifted Asr (modulus w) x c
-filled w x c top low fill inside is_top some short is_low is_fill =
+shifted_with_fill w x c top low fill inside is_top some short is_low is_fill =
     let ones = ones-above w c top short is_top in
     let made : fill ≡ modulus w - modulus w / 2 ^ c = is_fill ∙ ap (λ n. top - n) is_low ∙ ones.1 in
     let some_power : 0 < 2 ^ c = omega (arith, one-le-pow c 2 (omega arith)) in
@@ -75,9 +75,9 @@ rest-below k m x fits =
     omega arith
 
 pub unary-below : (op : LaneUnary) (w : Width) (x : ℕ) → source_bits op < width_bits w → x < modulus w → unary op (modulus w) x < modulus w
-unary-below Abs w x h l = cond_both (ltb x (modulus w / 2)) x ((modulus w - x) % modulus w) (λ n. n < modulus w) (λ _. l) (λ _. mod-lt (modulus w - x) (some-values w))
-unary-below Neg w x h l = mod-lt (modulus w - x) (some-values w)
-unary-below Not w x h l = omega (arith, some-values w)
+unary-below Abs w x h l = cond_both (ltb x (modulus w / 2)) x ((modulus w - x) % modulus w) (λ n. n < modulus w) (λ _. l) (λ _. mod-lt (modulus w - x) (modulus_pos w))
+unary-below Neg w x h l = mod-lt (modulus w - x) (modulus_pos w)
+unary-below Not w x h l = omega (arith, modulus_pos w)
 unary-below SxtB w x h l = sign-below 8 (modulus w) x (power-fits 8 w h)
 unary-below UxtB w x h l = rest-below 8 (modulus w) x (power-fits 8 w h)
 unary-below SxtH w x h l = sign-below 16 (modulus w) x (power-fits 16 w h)

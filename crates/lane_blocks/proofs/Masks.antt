@@ -15,7 +15,7 @@ use Rattle.guest_types.specs.declared.length.Width.{Width}
 use Rattle.guest_types.specs.declared.length.Width.TheVariants.{B}
 use Rattle.guest_types.specs.Length.{width_bytes, modulus}
 use Rattle.guest_types.specs.Elements.{number_of_bytes, element, at, bit, bits_of}
-use Rattle.guest_types.proofs.Predicates.{range-at, bits-ext, bit-bits_of, length-bits_of}
+use Rattle.guest_types.proofs.Predicates.{range-at, bits-ext, bit-bits_of, length-bits_of, eqb-cond}
 use Rattle.guest_types.proofs.AtWidths.{bits_of-ext}
 use Rattle.guest_types.proofs.Widths.{modulus-is, element-below}
 use Rattle.lane_blocks.specs.Blocks.{block_lanes, bit_byte, spread_of, choose_at, choose_of, is_below, bit_below, below_of}
@@ -69,9 +69,9 @@ spread-is p four =
 pub lanes-bits : (p s : List ℕ) → s ≡ spread_of p → IsLanes 32 (bit_byte p) s
 lanes-bits p s is = lanes-is is (lanes-made (bit_byte p) 32 (λ e l. bit_byte-small p e))
 
-low : (k : ℕ) (v : List ℕ) (e : ℕ) → 0 < k → k * e < length v → element k v e % 2 ≡ get_or v (k * e) 0 % 2
-low zero v e some l = absurd (omega arith)
-low (suc k) v e some l =
+low_bit_of_element : (k : ℕ) (v : List ℕ) (e : ℕ) → 0 < k → k * e < length v → element k v e % 2 ≡ get_or v (k * e) 0 % 2
+low_bit_of_element zero v e some l = absurd (omega arith)
+low_bit_of_element (suc k) v e some l =
     ap (λ r. number_of_bytes (take (suc k) r) % 2) (drop_more v (suc k * e) 0 l) ∙ mod-two (get_or v (suc k * e) 0) (number_l 256 (take k (drop (suc k * e + 1) v)))
   where
     mod-two : (x r : ℕ) → (x + 256 * r) % 2 ≡ x % 2
@@ -86,7 +86,7 @@ pub spread-active : (w : Width) (p s : List ℕ) (e : ℕ) → s ≡ spread_of p
 spread-active w p s e is l =
     let inside = lane-inside w e l in
     let h = lanes-bits p s is in
-    ap (λ b. eqb b 1) (and_mask (at w s e) 1 ∙ low (width_bytes w) s e inside.0 (omega (arith, h.long, inside.1)))
+    ap (λ b. eqb b 1) (and_mask (at w s e) 1 ∙ low_bit_of_element (width_bytes w) s e inside.0 (omega (arith, h.long, inside.1)))
     ∙ ap (λ b. eqb (b % 2) 1) (h.lane (width_bytes w * e) inside.1) ∙ one-cond (bit p (width_bytes w * e))
 
 -- ---- the choice by a mask
@@ -150,17 +150,13 @@ four-small n (suc (suc zero)) = omega arith
 four-small n (suc (suc (suc zero))) = omega arith
 four-small n (suc (suc (suc (suc i)))) = omega arith
 
-bit-cond : (b : Bool) → eqb (cond b 1 0) 1 ≡ b
-bit-cond true = refl
-bit-cond false = refl
-
 bits-of_mask : (ms : List Bool) → bytes_low_first 0 4 (mask_l ms) ≡ bits_of (λ j. get_or ms j false) 4
 bits-of_mask ms =
     let n = mask_l ms in
     bits-ext (λ j. get_or ms j false) 4 (bytes_low_first 0 4 n) refl (four-small n) (λ j l.
     let whole : 8 * (j / 8) + j % 8 ≡ j = omega arith in
     ap (λ b. eqb (bit_at b (j % 8)) 1) (byte-of n (j / 8) (omega arith)) ∙ ap (λ b. eqb b 1) (byte-bit n (j / 8) (j % 8) (omega arith) ∙ ap (bit_at n) whole ∙ bit_mask_l ms j)
-    ∙ bit-cond (get_or ms j false))
+    ∙ eqb-cond (get_or ms j false))
 
 -- the bits of the bytes that are not 0
 pub nonzero-bits : (v : List ℕ) → length v ≡ 32

@@ -1,7 +1,5 @@
 -- What calls append to code: nothing where they fail, and one word or more.
-use Rattle.std.proofs.Common.{◌≡◌, ℕ, Bool, ◌++◌, ◌∷◌, List, [], Result, if◌then◌else◌, sym, ap, ◌∙◌, append-nil, append_assoc, eq-eqb, ne_eqb}
-use Rattle.std.specs.Result.{IsErr, OnOk}
-use Rattle.std.proofs.lemmas.Result.{IfOk-from_err}
+use Rattle.std.proofs.Common.{◌≡◌, ℕ, Bool, ◌++◌, ◌∷◌, List, [], if◌then◌else◌, sym, ap, ◌∙◌, append-nil, append_assoc, eq-eqb, ne_eqb}
 use Rattle.std.proofs.lemmas.List.{map_push}
 use Rattle.sve_code.specs.declared.Sve.{Sve}
 use Rattle.sve_code.specs.Table.{Name, z_orr}
@@ -10,9 +8,6 @@ use Rattle.guest_types.specs.declared.length.Width.{Width}
 use Rattle.lane_emit.specs.Stretch.{VectorInstruction, word}
 use Rattle.lane_emit.specs.LaneCode.{size_of, z_copy, merged}
 use Rattle.lane_emit.specs.View.{words_of, Adds, Appends}
-
-pub on_error : {T E : Type 0} (P : Type 0) (r : Result T E) → IsErr r → OnOk r P
-on_error P r e = IfOk-from_err r (λ _. P) e
 
 -- the same code by another name
 pub adds_as : (old new : List Sve) (made wanted : List VectorInstruction) → made ≡ wanted → Adds made old new → Adds wanted old new

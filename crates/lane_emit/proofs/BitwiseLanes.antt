@@ -7,7 +7,7 @@ use Rattle.std.proofs.lemmas.List.Elements.{All-get_or}
 use Rattle.std.proofs.lemmas.Nat.{shr-shr, pow-add, pow_pos, and_shr, or_shr, xor_shr, and_mod, or_mod, xor_mod}
 use Rattle.std.proofs.lemmas.Nat.{mod-pow-add}
 use Rattle.std.proofs.Math.Pow.{mod-mod-pow}
-use Rattle.std.proofs.Math.Nat.{pow-suc, div-one, mod-one, zero-div, zero-mod, add-mul-mod_self_left, mod-eq_of_lt, add-mul-div_left, div-eq_of_lt, one-le-pow, mul_comm, mod-lt, zero-add}
+use Rattle.std.proofs.Math.Nat.{pow-suc, div-one, mod-one, zero-div, zero-mod, add-mul-div_left, div-eq_of_lt, one-le-pow, mul_comm, mod-lt, zero-add}
 use lib.Arith.{mod-mul}
 use Rattle.guest_types.specs.declared.length.Width.{Width}
 use Rattle.guest_types.specs.declared.length.Width.TheVariants.{B, H, S, D}
@@ -15,7 +15,7 @@ use Rattle.guest_types.specs.declared.operation.LaneOp.TheVariants as lane_ops
 use Rattle.guest_types.specs.Length.{IsLength, width_bytes, lanes}
 use Rattle.guest_types.specs.Elements.{number_of_bytes, element, register, at}
 use Rattle.guest_types.specs.Lanes.{binary_at}
-use Rattle.guest_types.proofs.Numbers.{shifted}
+use Rattle.guest_types.proofs.Numbers.{shifted, digit}
 use Rattle.guest_types.proofs.AtWidths.{at-register}
 
 abbrev pub Small : List ℕ → Type 0
@@ -26,9 +26,6 @@ small_all bs h i = elim (cases_lt i (length bs)) [
   | inl lt ↦ All-get_or (λ b. b < 256) bs i 0 lt h
   | inr ge ↦ subst (λ b. b < 256) (sym (get_or_past bs i 0 ge)) (omega arith)
 ]
-
-digit : (x r : ℕ) → x < 256 → ((x + 256 * r) % 256 ≡ x) × ((x + 256 * r) / 256 ≡ r)
-digit x r lt = (add-mul-mod_self_left x 256 r ∙ mod-eq_of_lt lt, omega (arith, add-mul-div_left x r {y = 256} (omega arith), div-eq_of_lt lt))
 
 -- ---- the number of a part
 
@@ -87,22 +84,22 @@ offset H e = 16 * (e % 4)
 offset S e = 32 * (e % 2)
 offset D e = 0
 
-starts : (w : Width) (e : ℕ) → 8 * (width_bytes w * e) ≡ 8 * (8 * block w e) + offset w e
-starts B e = omega arith
-starts other e = omega arith
+lane_start_by_block : (w : Width) (e : ℕ) → 8 * (width_bytes w * e) ≡ 8 * (8 * block w e) + offset w e
+lane_start_by_block B e = omega arith
+lane_start_by_block other e = omega arith
 
-ends : (w : Width) (e : ℕ) → offset w e + 8 * width_bytes w ≤ 64
-ends B e = omega arith
-ends other e = omega arith
+lane_ends_within_64 : (w : Width) (e : ℕ) → offset w e + 8 * width_bytes w ≤ 64
+lane_ends_within_64 B e = omega arith
+lane_ends_within_64 other e = omega arith
 
 pub at-part : (w : Width) (e : ℕ) (z : List ℕ) → Small z → at w z e ≡ at D z (block w e) / 2 ^ offset w e % 2 ^ (8 * width_bytes w)
 at-part w e z h =
     let n = number_of_bytes z in
     let base = 8 * (8 * block w e) in
     element-part (width_bytes w) e z h
-    ∙ ap (λ b. n / 2 ^ b % 2 ^ (8 * width_bytes w)) (starts w e)
+    ∙ ap (λ b. n / 2 ^ b % 2 ^ (8 * width_bytes w)) (lane_start_by_block w e)
     ∙ ap (λ m. m % 2 ^ (8 * width_bytes w)) (sym (shr-shr n base (offset w e)))
-    ∙ sym (part_of (n / 2 ^ base) 64 (offset w e) (8 * width_bytes w) (ends w e))
+    ∙ sym (part_of (n / 2 ^ base) 64 (offset w e) (8 * width_bytes w) (lane_ends_within_64 w e))
     ∙ ap (λ m. m / 2 ^ offset w e % 2 ^ (8 * width_bytes w)) (sym (element-part 8 (block w e) z h))
 
 module _ (f : ℕ → ℕ → ℕ) (shr : (a b k : ℕ) → f a b / 2 ^ k ≡ f (a / 2 ^ k) (b / 2 ^ k)) (cut : (a b k : ℕ) → f a b % 2 ^ k ≡ f (a % 2 ^ k) (b % 2 ^ k)) where
@@ -113,7 +110,7 @@ module _ (f : ℕ → ℕ → ℕ) (shr : (a b k : ℕ) → f a b / 2 ^ k ≡ f 
       let i = block w e in
       at-part w e (register 8 g n) sz
       ∙ ap (λ m. m / 2 ^ b % 2 ^ c) (at-register D g n i lt ∙ ap (λ m. m % 2 ^ 64) (is i))
-      ∙ part_of (f (at D l i) (at D r i)) 64 b c (ends w e)
+      ∙ part_of (f (at D l i) (at D r i)) 64 b c (lane_ends_within_64 w e)
       ∙ ap (λ m. m % 2 ^ c) (shr (at D l i) (at D r i) b) ∙ cut (at D l i / 2 ^ b) (at D r i / 2 ^ b) c
       ∙ sym (ap₂ f (at-part w e l sl) (at-part w e r sr))
 

@@ -26,8 +26,8 @@ exchanged : map (spells row) (binary_code H binary.Mul ty.I16 1 0 1) ≡ 0x04500
 exchanged = refl
 
 -- orr z2.d, z0.d, z0.d ; smin z2.d, p1/m, z2.d, z1.d
-copied : map (spells row) (binary_code D binary.Min ty.I64 2 0 1) ≡ 0x04603002 ∷ 0x04CA0422 ∷ []
-copied = refl
+minimum_is_copied_first : map (spells row) (binary_code D binary.Min ty.I64 2 0 1) ≡ 0x04603002 ∷ 0x04CA0422 ∷ []
+minimum_is_copied_first = refl
 
 -- asr z0.h, z0.h, #3
 shifted_right : map (spells row) (shift_code H false (pos 3) ty.I16 0 0) ≡ 0x043D9000 ∷ []

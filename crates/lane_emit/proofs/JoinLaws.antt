@@ -16,7 +16,7 @@ use Rattle.kernel_tree.specs.declared.ops.UpdateOp.{UpdateOp}
 use Rattle.kernel_tree.specs.declared.ops.UpdateOp.TheVariants as update
 use Rattle.kernel_tree.specs.Wrap.{wrap, residue, bits_of}
 use Rattle.kernel_meaning.specs.Operators.{word, binary_on, operator_of}
-use Rattle.loop_form.specs.Lanes.{width_of}
+use Rattle.loop_form.specs.Lanes.{type_width}
 use Rattle.lane_emit.specs.Right.{IsOf, least, greatest}
 use Rattle.lane_emit.proofs.Ranges.{wrap-is_of, wrap-of}
 use Rattle.lane_emit.proofs.Residues.{held, held-below, add-held, and-held, or-held, xor-held}
@@ -24,7 +24,7 @@ use Rattle.lane_emit.proofs.ExtendedLanes.{held-wrap}
 use Rattle.lane_emit.specs.Joins.{joined, Joins}
 
 -- a lane as wide as the type
-pub own : (t : Ty) → bits_of t ≡ width_bits (width_of t)
+pub own : (t : Ty) → bits_of t ≡ width_bits (type_width t)
 own ty.I8 = refl
 own other = refl
 
@@ -33,20 +33,20 @@ wrap_by_residue : (t : Ty) (x y : ℤ) → residue (bits_of t) x ≡ residue (bi
 wrap_by_residue ty.I8 x y e = cc
 wrap_by_residue other x y e = cc
 
-pub wrap_by_held : (t : Ty) (x y : ℤ) → held (width_of t) x ≡ held (width_of t) y → wrap t x ≡ wrap t y
+pub wrap_by_held : (t : Ty) (x y : ℤ) → held (type_width t) x ≡ held (type_width t) y → wrap t x ≡ wrap t y
 wrap_by_held t x y e = wrap_by_residue t x y (subst (λ k. residue k x ≡ residue k y) (sym (own t)) e)
 
 abbrev pub lane_of : Ty → ℤ → ℕ
-lane_of t x = held (width_of t) x
+lane_of t x = held (type_width t) x
 
 pub lane-wrap : (t : Ty) (x : ℤ) → lane_of t (wrap t x) ≡ lane_of t x
-lane-wrap t x = held-wrap (width_of t) t x (own t)
+lane-wrap t x = held-wrap (type_width t) t x (own t)
 
 add_assoc : (w : Width) (a b c : ℕ) → ((a + b) % modulus w + c) % modulus w ≡ (a + (b + c) % modulus w) % modulus w
 add_assoc B a b c = omega arith
 add_assoc other a b c = omega arith
 
-zero_of : (t : Ty) → IsOf t (pos 0)
+pub zero_of : (t : Ty) → IsOf t (pos 0)
 zero_of ty.I8 = (omega (arith, ints), omega (arith, ints))
 zero_of other = (omega (arith, ints), omega (arith, ints))
 
@@ -85,11 +85,11 @@ ones_lane : (w : Width) → held w (negsuc 0) ≡ 2 ^ width_bits w - 1
 ones_lane B = refl
 ones_lane other = refl
 
-small : (w : Width) (x : ℤ) → held w x % 2 ^ width_bits w ≡ held w x
-small B x = let h = held-below B x in omega (arith, h)
-small H x = let h = held-below H x in omega (arith, h)
-small S x = let h = held-below S x in omega (arith, h)
-small D x = let h = held-below D x in omega (arith, h)
+held_mod_width : (w : Width) (x : ℤ) → held w x % 2 ^ width_bits w ≡ held w x
+held_mod_width B x = let h = held-below B x in omega (arith, h)
+held_mod_width H x = let h = held-below H x in omega (arith, h)
+held_mod_width S x = let h = held-below S x in omega (arith, h)
+held_mod_width D x = let h = held-below D x in omega (arith, h)
 
 plus_zero : (w : Width) (x : ℤ) → lane lane_ops.Add (modulus w) 0 (held w x) ≡ held w x
 plus_zero B x = let h = held-below B x in omega (arith, h)
@@ -116,7 +116,7 @@ closed_in t op x y = wrap-is_of t (binary_on (operator_of op) x y)
 
 add_joins : (t : Ty) → Joins update.Add t
 add_joins t =
-    let w = width_of t in record {
+    let w = type_width t in record {
       closed = closed_in t update.Add;
       neutral = zero_of t;
       keeps = λ x h. lane_keeps t (λ x y. x +ℤ y) (lane lane_ops.Add (modulus w)) (add-held w) (pos 0) x h (ap (λ a. lane lane_ops.Add (modulus w) a (held w x)) (zero_lane w) ∙ plus_zero w x);
@@ -126,19 +126,19 @@ add_joins t =
 
 and_joins : (t : Ty) → Joins update.And t
 and_joins t =
-    let w = width_of t in
+    let w = type_width t in
     let f = λ (x y : ℤ). pos (bit_and (word x) (word y)) in record {
       closed = closed_in t update.And;
       neutral = wrap-is_of t (negsuc 0);
       keeps = λ x h. lane_keeps t f bit_and (and-held w) (wrap t (negsuc 0)) x h
-          (ap (λ a. bit_and a (held w x)) (lane-wrap t (negsuc 0) ∙ ones_lane w) ∙ and_comm (2 ^ width_bits w - 1) (held w x) ∙ and_mask (held w x) (width_bits w) ∙ small w x);
+          (ap (λ a. bit_and a (held w x)) (lane-wrap t (negsuc 0) ∙ ones_lane w) ∙ and_comm (2 ^ width_bits w - 1) (held w x) ∙ and_mask (held w x) (width_bits w) ∙ held_mod_width w x);
       commutes = lane_commutes t f bit_and (and-held w) and_comm;
       associates = λ x y z _ _ _. lane_associates t f bit_and (and-held w) x y z (and_assoc (held w z) (held w x) (held w y));
     }
 
 or_joins : (t : Ty) → Joins update.Or t
 or_joins t =
-    let w = width_of t in
+    let w = type_width t in
     let f = λ (x y : ℤ). pos (bit_or (word x) (word y)) in record {
       closed = closed_in t update.Or;
       neutral = zero_of t;
@@ -149,7 +149,7 @@ or_joins t =
 
 xor_joins : (t : Ty) → Joins update.Xor t
 xor_joins t =
-    let w = width_of t in
+    let w = type_width t in
     let f = λ (x y : ℤ). pos (bit_xor (word x) (word y)) in record {
       closed = closed_in t update.Xor;
       neutral = zero_of t;

@@ -36,9 +36,9 @@ place_within t (u ∷ us) = by (is_same u t) (place_in t us) (place_within t us)
     by false None h = tt
     by false (Some m) h = omega (arith, h)
 
-more : (m n : ℕ) (o : Option ℕ) → m ≤ n → IsWithin m o → IsWithin n o
-more m n None le h = tt
-more m n (Some i) le h = omega (arith, le, h)
+within_more_places : (m n : ℕ) (o : Option ℕ) → m ≤ n → IsWithin m o → IsWithin n o
+within_more_places m n None le h = tt
+within_more_places m n (Some i) le h = omega (arith, le, h)
 
 pub held_within : (k : Program) (a : Assignment) (t : Throughout) → FitsKernel k Z a → IsWithin (length a.registers) (place_in t (throughout k Z))
-held_within k a t f = more (length (throughout k Z)) (length a.registers) (place_in t (throughout k Z)) (held_few k Z a f) (place_within t (throughout k Z))
+held_within k a t f = within_more_places (length (throughout k Z)) (length a.registers) (place_in t (throughout k Z)) (held_few k Z a f) (place_within t (throughout k Z))

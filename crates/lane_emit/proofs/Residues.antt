@@ -1,5 +1,5 @@
 -- Integers modulo 2 to the width of a lane: what a lane holds of a sum, a product and the like.
-use Rattle.std.proofs.Common.{◌≡◌, ℕ, zero, suc, ◌+◌, ◌-◌, ◌*◌, ◌/◌, ◌%◌, ◌^◌, ◌<◌, ◌≤◌, ℤ, pos, negsuc, neg_ℤ, ◌+ℤ◌, ◌-ℤ◌, ◌*ℤ◌, true, false, refl, sym, ap, ap₂, ◌∙◌, subst, arith, bit_and, bit_or, bit_xor, unsigned_abs, mul-le-mul_right, inl, inr}
+use Rattle.std.proofs.Common.{◌≡◌, ℕ, suc, ◌+◌, ◌-◌, ◌*◌, ◌/◌, ◌%◌, ◌^◌, ◌<◌, ◌≤◌, ℤ, pos, negsuc, neg_ℤ, ◌+ℤ◌, ◌-ℤ◌, ◌*ℤ◌, true, false, refl, sym, ap, ap₂, ◌∙◌, subst, arith, bit_and, bit_or, bit_xor, unsigned_abs, mul-le-mul_right, inl, inr}
 use Rattle.std.specs.Int.{int_shr}
 use Rattle.std.proofs.lemmas.Bool.{cases_lt, cond-true, cond-false, lt-ltb, le-ltb}
 use Rattle.std.proofs.lemmas.Nat.{and_mod, or_mod, xor_mod, mul-mod_first, mul-mod_second, pow-add}
@@ -12,9 +12,10 @@ use Rattle.guest_types.specs.declared.operation.ShiftOp.TheVariants as shifts
 use Rattle.guest_types.specs.Length.{width_bits, modulus}
 use Rattle.guest_types.specs.Lanes.{lane, unary, shifted}
 use Rattle.guest_types.proofs.Shifts.{modulus-power}
+use Rattle.guest_types.proofs.Widths.{modulus_pos}
 use Rattle.kernel_tree.specs.Wrap.{residue}
 use Rattle.kernel_meaning.specs.Operators.{word}
-use Rattle.kernel_meaning.proofs.Residues.{word-below, word-mul, word-add, word-shl}
+use Rattle.kernel_meaning.proofs.Residues.{word-below, word-mul, word-add, word-shl, word-neg}
 use Rattle.lane_emit.proofs.Ranges.{InBits}
 
 -- what an element of a width holds of an integer
@@ -31,12 +32,8 @@ held-word S (negsuc n) = omega arith
 held-word D (pos n) = omega arith
 held-word D (negsuc n) = omega arith
 
-some_values : (w : Width) → 0 < modulus w
-some_values B = omega arith
-some_values other = omega arith
-
 pub held-below : (w : Width) (z : ℤ) → held w z < modulus w
-held-below w z = subst (λ n. n < modulus w) (sym (held-word w z)) (mod-lt (word z) (some_values w))
+held-below w z = subst (λ n. n < modulus w) (sym (held-word w z)) (mod-lt (word z) (modulus_pos w))
 
 pub held-whole : (w : Width) (z : ℤ) → held w z % modulus w ≡ held w z
 held-whole w z = mod-eq_of_lt (held-below w z)
@@ -46,12 +43,12 @@ pub held-same : (w : Width) (a b : ℤ) → word a ≡ word b → held w a ≡ h
 held-same w a b e = held-word w a ∙ ap (λ n. n % modulus w) e ∙ sym (held-word w b)
 
 -- the low bits of the low 64 bits
-pub low : (w : Width) (n : ℕ) → n % 2 ^ 64 % modulus w ≡ n % modulus w
-low B n = omega arith
-low other n = omega arith
+pub residue_of_word : (w : Width) (n : ℕ) → n % 2 ^ 64 % modulus w ≡ n % modulus w
+residue_of_word B n = omega arith
+residue_of_word other n = omega arith
 
 held-of : (w : Width) (z : ℤ) (n : ℕ) → word z ≡ n % 2 ^ 64 → held w z ≡ n % modulus w
-held-of w z n e = held-word w z ∙ ap (λ m. m % modulus w) e ∙ low w n
+held-of w z n e = held-word w z ∙ ap (λ m. m % modulus w) e ∙ residue_of_word w n
 
 -- ---- sums, differences and products
 
@@ -63,11 +60,6 @@ pub add-held : (w : Width) (x y : ℤ) → lane lane_ops.Add (modulus w) (held w
 add-held w x y =
     ap₂ (λ a b. (a + b) % modulus w) (held-word w x) (held-word w y) ∙ sum_low w (word x) (word y) ∙ sym (held-of w (x +ℤ y) (word x + word y) (word-add x y))
 
-word-negated : (z : ℤ) → word (neg_ℤ z) ≡ (2 ^ 64 - word z) % 2 ^ 64
-word-negated (pos zero) = refl
-word-negated (pos (suc n)) = omega arith
-word-negated (negsuc n) = omega arith
-
 difference_low : (w : Width) (a b : ℕ) → a < 2 ^ 64 → b < 2 ^ 64 → (a % modulus w + (modulus w - b % modulus w)) % modulus w ≡ (a + (2 ^ 64 - b) % 2 ^ 64) % modulus w
 difference_low B a b h k = omega (arith, h, k)
 difference_low other a b h k = omega (arith, h, k)
@@ -76,7 +68,7 @@ pub sub-held : (w : Width) (x y : ℤ) → lane lane_ops.Sub (modulus w) (held w
 sub-held w x y =
     ap₂ (λ a b. (a + (modulus w - b)) % modulus w) (held-word w x) (held-word w y)
     ∙ difference_low w (word x) (word y) (word-below x) (word-below y)
-    ∙ sym (held-of w (x -ℤ y) (word x + (2 ^ 64 - word y) % 2 ^ 64) (word-add x (neg_ℤ y) ∙ ap (λ n. (word x + n) % 2 ^ 64) (word-negated y)))
+    ∙ sym (held-of w (x -ℤ y) (word x + (2 ^ 64 - word y) % 2 ^ 64) (word-add x (neg_ℤ y) ∙ ap (λ n. (word x + n) % 2 ^ 64) (word-neg y)))
 
 pub mul-held : (w : Width) (x y : ℤ) → lane lane_ops.Mul (modulus w) (held w x) (held w y) ≡ held w (x *ℤ y)
 mul-held w x y =
@@ -106,10 +98,10 @@ negated_low other b k = omega (arith, k)
 
 pub neg-held : (w : Width) (x : ℤ) → unary unaries.Neg (modulus w) (held w x) ≡ held w (neg_ℤ x)
 neg-held w x =
-    ap (λ b. (modulus w - b) % modulus w) (held-word w x) ∙ negated_low w (word x) (word-below x) ∙ sym (held-of w (neg_ℤ x) (2 ^ 64 - word x) (word-negated x))
+    ap (λ b. (modulus w - b) % modulus w) (held-word w x) ∙ negated_low w (word x) (word-below x) ∙ sym (held-of w (neg_ℤ x) (2 ^ 64 - word x) (word-neg x))
 
 word-flipped : (x : ℤ) → word (neg_ℤ x -ℤ pos 1) ≡ 2 ^ 64 - 1 - word x
-word-flipped x = word-add (neg_ℤ x) (negsuc 0) ∙ ap (λ n. (n + (2 ^ 64 - 1)) % 2 ^ 64) (word-negated x) ∙ (let h = word-below x in omega arith)
+word-flipped x = word-add (neg_ℤ x) (negsuc 0) ∙ ap (λ n. (n + (2 ^ 64 - 1)) % 2 ^ 64) (word-neg x) ∙ (let h = word-below x in omega arith)
 
 flipped_low : (w : Width) (b : ℕ) → b < 2 ^ 64 → modulus w - 1 - b % modulus w ≡ (2 ^ 64 - 1 - b) % modulus w
 flipped_low B b k = omega (arith, k)
@@ -169,8 +161,8 @@ lsr-held w (pos n) c h =
 lsr-held w (negsuc n) c h = absurd h
 
 -- the quotient of what is left below a multiple
-left_below : (p q n : ℕ) → 0 < p → n < p * q → (p * q - 1 - n) / p ≡ q - 1 - n / p
-left_below p q n some h =
+quotient_below : (p q n : ℕ) → 0 < p → n < p * q → (p * q - 1 - n) / p ≡ q - 1 - n / p
+quotient_below p q n some h =
     let u = n / p in
     let v = n % p in
     let split : p * u + v ≡ n = div-add-mod n p in
@@ -200,7 +192,7 @@ asr-held w (negsuc n) c short h =
     let le = div-le_self n p in
     let quotient : modulus w / p ≡ q = ap (λ m. m / p) (split ∙ (let z : p * q ≡ 0 + p * q = omega arith in z)) ∙ add-mul-div_left 0 q some ∙ ap (λ m. m + q) (div-eq_of_lt some) ∙ zero-add q in
     let up : q ≤ modulus w = (let m : 1 * q ≤ p * q = mul-le-mul_right q (let one : 1 ≤ p = omega arith in one) in omega arith) in
-    let low_part : (modulus w - 1 - n) / p ≡ q - 1 - n / p = ap (λ m. (m - 1 - n) / p) split ∙ left_below p q n some under in
+    let low_part : (modulus w - 1 - n) / p ≡ q - 1 - n / p = ap (λ m. (m - 1 - n) / p) split ∙ quotient_below p q n some under in
     let small : n / p < q = quotient_under p q n some under in
     ap (λ a. shifted shifts.Asr (modulus w) a c) (held-down w n h)
     ∙ ap₂ (λ a m. a + m) low_part (cond-false _ _ _ (le-ltb (modulus w - 1 - n) (modulus w / 2) (omega (arith, half w, halves w, h))))

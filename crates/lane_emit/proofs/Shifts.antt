@@ -9,15 +9,13 @@ use Rattle.guest_types.specs.declared.operation.ShiftOp.TheVariants as shifts
 use Rattle.guest_types.specs.Length.{width_bits}
 use Rattle.guest_types.specs.Lanes.{shift_at}
 use Rattle.guest_types.specs.LaneMemory.{width_of_size}
+use Rattle.guest_types.proofs.Numbers.{split_at_3_and_5}
 use Rattle.machine_model.specs.Machine.{State, Step, z_at}
 use Rattle.machine_model.specs.VectorEffects.{do_vector, put_lanes}
 use Rattle.sve_code.specs.Table.{lsl_imm, lsr_imm, asr_imm}
 use Rattle.sve_code.specs.Numbers.{shift_size, left_amount, right_amount, element_width}
 use Rattle.lane_emit.specs.LaneCode.{size_of, shift_word}
 use Rattle.lane_emit.proofs.Stretches.{width-size}
-
-amount_is : (v : ℕ) → 32 * (v / 32) + 8 * (v / 8 % 4) + v % 8 ≡ v
-amount_is v = omega arith
 
 -- the width that the amount of a shift names
 size_is : (w : Width) (v : ℕ) → width_bits w ≤ v → v < 2 * width_bits w → shift_size v ≡ size_of w
@@ -58,10 +56,10 @@ module _ (s : State) (d a : ℕ) (op : ShiftOp) where
       sized_at w (shift_size v) (right_amount v) c size (ap (λ n. 2 * element_width n - v) size ∙ ap (λ n. 2 * n - v) (element_bits w) ∙ omega (arith, e, short))
 
 pub lsl_does : (s : State) (d a : ℕ) (w : Width) (c : ℕ) → c < width_bits w → do_vector (shift_word lsl_imm d a (width_bits w + c)) s ≡ put_lanes s d w (shift_at shifts.Lsl w (z_at s a) c)
-lsl_does s d a w c short = let v = width_bits w + c in left_at s d a shifts.Lsl w (32 * (v / 32) + 8 * (v / 8 % 4) + v % 8) c (amount_is v) short
+lsl_does s d a w c short = let v = width_bits w + c in left_at s d a shifts.Lsl w (32 * (v / 32) + 8 * (v / 8 % 4) + v % 8) c (split_at_3_and_5 v) short
 
 pub lsr_does : (s : State) (d a : ℕ) (w : Width) (c : ℕ) → 1 ≤ c → c < width_bits w → do_vector (shift_word lsr_imm d a (2 * width_bits w - c)) s ≡ put_lanes s d w (shift_at shifts.Lsr w (z_at s a) c)
-lsr_does s d a w c some short = let v = 2 * width_bits w - c in right_at s d a shifts.Lsr w (32 * (v / 32) + 8 * (v / 8 % 4) + v % 8) c (amount_is v) some short
+lsr_does s d a w c some short = let v = 2 * width_bits w - c in right_at s d a shifts.Lsr w (32 * (v / 32) + 8 * (v / 8 % 4) + v % 8) c (split_at_3_and_5 v) some short
 
 pub asr_does : (s : State) (d a : ℕ) (w : Width) (c : ℕ) → 1 ≤ c → c < width_bits w → do_vector (shift_word asr_imm d a (2 * width_bits w - c)) s ≡ put_lanes s d w (shift_at shifts.Asr w (z_at s a) c)
-asr_does s d a w c some short = let v = 2 * width_bits w - c in right_at s d a shifts.Asr w (32 * (v / 32) + 8 * (v / 8 % 4) + v % 8) c (amount_is v) some short
+asr_does s d a w c some short = let v = 2 * width_bits w - c in right_at s d a shifts.Asr w (32 * (v / 32) + 8 * (v / 8 % 4) + v % 8) c (split_at_3_and_5 v) some short

@@ -90,15 +90,15 @@ under e n on x y h = by (ltb e n) refl
 module _ {s : State} (w : Width) {n : ℕ} (h : IsState s) (d m : ℕ) (ld : d < 16) (on : ℕ → Bool) (mask : PRight w (lanes s.vl w) (p_at s m) (within n on)) where
   -- ---- logic
 
-  masked : (op : PredOp) (a b : ℕ) (c : ℕ → Bool) → ((e : ℕ) → e < n → pred_bit op (active w (p_at s a) e) (active w (p_at s b) e) ≡ c e) → (e : ℕ) → e < lanes s.vl w → logic_at op (p_at s m) (p_at s a) (p_at s b) (width_bytes w * e) ≡ within n (λ e. on e && c e) e
-  masked op a b c same e el =
+  predicate_masked_by : (op : PredOp) (a b : ℕ) (c : ℕ → Bool) → ((e : ℕ) → e < n → pred_bit op (active w (p_at s a) e) (active w (p_at s b) e) ≡ c e) → (e : ℕ) → e < lanes s.vl w → logic_at op (p_at s m) (p_at s a) (p_at s b) (width_bytes w * e) ≡ within n (λ e. on e && c e) e
+  predicate_masked_by op a b c same e el =
       ap (λ t. t && pred_bit op (active w (p_at s a) e) (active w (p_at s b) e)) (mask e el)
       ∙ under e n (on e) (pred_bit op (active w (p_at s a) e) (active w (p_at s b) e)) (c e) (same e)
 
   pub same_p : (b : ℕ) (y : ℕ → Bool) → PRight w n (p_at s b) y → MakesP (same_code d m b) s d w (within n (λ e. on e && y e))
   same_p b y by_ =
       logic_p w (logic_at preds.And (p_at s m) (p_at s b) (p_at s b)) _ h ld refl
-      (masked preds.And b b y (λ e lt. ap (λ t. t && t) (by_ e lt) ∙ twice (y e)))
+      (predicate_masked_by preds.And b b y (λ e lt. ap (λ t. t && t) (by_ e lt) ∙ twice (y e)))
     where
       twice : (b : Bool) → (b && b) ≡ b
       twice true = refl
@@ -107,7 +107,7 @@ module _ {s : State} (w : Width) {n : ℕ} (h : IsState s) (d m : ℕ) (ld : d <
   pub any_p : (a b : ℕ) (x y : ℕ → Bool) → PRight w n (p_at s a) x → PRight w n (p_at s b) y → MakesP (any_code d m a b) s d w (within n (λ e. on e && (x e || y e)))
   any_p a b x y ax by_ =
       logic_p w (logic_at preds.Orr (p_at s m) (p_at s a) (p_at s b)) _ h ld refl
-      (masked preds.Orr a b (λ e. x e || y e) (λ e lt. ap₂ (λ s t. s || t) (ax e lt) (by_ e lt)))
+      (predicate_masked_by preds.Orr a b (λ e. x e || y e) (λ e lt. ap₂ (λ s t. s || t) (ax e lt) (by_ e lt)))
 
   -- not c; the first operand is the mask itself
   pub invert_p : (c : ℕ) (x : ℕ → Bool) → PRight w n (p_at s c) x → MakesP (invert_code d m c) s d w (within n (λ e. on e && not (x e)))

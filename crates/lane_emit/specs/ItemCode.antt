@@ -16,6 +16,7 @@ use Rattle.vector_order.specs.Items.{op_effect}
 use Rattle.lane_emit.specs.Right.{IsOf, ZRight, PRight, within}
 use Rattle.lane_emit.specs.Stretch.{VectorInstruction, Ready, MakesZ, MakesP}
 use Rattle.lane_emit.specs.LaneCode.{unary_code, binary_code, shift_code, cast_code, copy_code, pick_code, test_code, invert_code, same_code, any_code}
+use Rattle.label_fix.specs.Registers.{lanes_left}
 
 -- the vector registers of operands and of items, and the predicate registers of items
 pub record Registers : Type 0 where
@@ -25,7 +26,7 @@ pub record Registers : Type 0 where
 
 -- the register of a mask: P0 where an item has none
 abbrev pub mask_register : Registers → Option ℕ → ℕ
-mask_register r None = 0
+mask_register r None = lanes_left
 mask_register r (Some q) = r.p q
 
 -- the code of an item that makes a value, and of one that makes a condition under the mask in predicate register m

@@ -16,6 +16,7 @@ use Rattle.kernel_tree.specs.declared.ops.CompareOp.TheVariants as compare
 use Rattle.kernel_tree.specs.Wrap.{bits_of, is_signed}
 use Rattle.kernel_meaning.specs.Operators.{shift_count}
 use Rattle.sve_code.specs.Table.{Name, dup, index_row, p_and, p_bic, p_orr, sel, z_add, z_sub, z_and, z_orr, z_eor, lsl_imm, lsr_imm, asr_imm, m_smax, m_umax, m_smin, m_umin, m_mul, m_abs, m_neg, m_not, sxtb, uxtb, sxth, uxth, sxtw, uxtw, cmphs, cmphi, cmpge, cmpgt, cmpeq, cmpne}
+use Rattle.label_fix.specs.Registers.{all_true}
 pub use Rattle.kernel_meaning.specs.TypeValues.{unary_leaves, binary_leaves}
 use Rattle.lane_emit.specs.Right.{fits}
 use Rattle.lane_emit.specs.Stretch.{VectorInstruction, word}
@@ -29,12 +30,12 @@ z_copy d a rest = if nat_eq d a then rest else word z_orr (d ∷ a ∷ a ∷ [])
 
 -- the low bits of each lane, extended by a type that is narrower than the lane
 abbrev pub extension : Ty → Width → (d a : ℕ) → List VectorInstruction
-extension ty.I8 w d a = word sxtb (d ∷ a ∷ 1 ∷ size_of w ∷ []) ∷ []
-extension ty.U8 w d a = word uxtb (d ∷ a ∷ 1 ∷ size_of w ∷ []) ∷ []
-extension ty.I16 w d a = word sxth (d ∷ a ∷ 1 ∷ size_of w ∷ []) ∷ []
-extension ty.U16 w d a = word uxth (d ∷ a ∷ 1 ∷ size_of w ∷ []) ∷ []
-extension ty.I32 w d a = word sxtw (d ∷ a ∷ 1 ∷ []) ∷ []
-extension ty.U32 w d a = word uxtw (d ∷ a ∷ 1 ∷ []) ∷ []
+extension ty.I8 w d a = word sxtb (d ∷ a ∷ all_true ∷ size_of w ∷ []) ∷ []
+extension ty.U8 w d a = word uxtb (d ∷ a ∷ all_true ∷ size_of w ∷ []) ∷ []
+extension ty.I16 w d a = word sxth (d ∷ a ∷ all_true ∷ size_of w ∷ []) ∷ []
+extension ty.U16 w d a = word uxth (d ∷ a ∷ all_true ∷ size_of w ∷ []) ∷ []
+extension ty.I32 w d a = word sxtw (d ∷ a ∷ all_true ∷ []) ∷ []
+extension ty.U32 w d a = word uxtw (d ∷ a ∷ all_true ∷ []) ∷ []
 extension ty.I64 w d a = z_copy d a []
 extension ty.U64 w d a = z_copy d a []
 
@@ -60,14 +61,14 @@ index_code d x = word index_row (d ∷ x ∷ 1 ∷ size_of D ∷ []) ∷ []
 -- ---- values
 
 abbrev pub unary_code : Width → UnaryOp → Ty → (d a : ℕ) → List VectorInstruction
-unary_code w unary.Neg t d a = word m_neg (d ∷ a ∷ 1 ∷ size_of w ∷ []) ∷ z_settle (unary_leaves unary.Neg t) w t d
-unary_code w unary.Flip t d a = word m_not (d ∷ a ∷ 1 ∷ size_of w ∷ []) ∷ z_settle (unary_leaves unary.Flip t) w t d
-unary_code w unary.Abs t d a = if is_signed t then word m_abs (d ∷ a ∷ 1 ∷ size_of w ∷ []) ∷ z_settle (unary_leaves unary.Abs t) w t d else z_copy d a []
+unary_code w unary.Neg t d a = word m_neg (d ∷ a ∷ all_true ∷ size_of w ∷ []) ∷ z_settle (unary_leaves unary.Neg t) w t d
+unary_code w unary.Flip t d a = word m_not (d ∷ a ∷ all_true ∷ size_of w ∷ []) ∷ z_settle (unary_leaves unary.Flip t) w t d
+unary_code w unary.Abs t d a = if is_signed t then word m_abs (d ∷ a ∷ all_true ∷ size_of w ∷ []) ∷ z_settle (unary_leaves unary.Abs t) w t d else z_copy d a []
 
 -- an operation that changes its first operand, and whose operands may be exchanged
 abbrev pub merged : Width → Name → (d a b : ℕ) → List VectorInstruction → List VectorInstruction
 merged w name d a b rest =
-    if nat_eq d b then word name (d ∷ a ∷ 1 ∷ size_of w ∷ []) ∷ rest else z_copy d a (word name (d ∷ b ∷ 1 ∷ size_of w ∷ []) ∷ rest)
+    if nat_eq d b then word name (d ∷ a ∷ all_true ∷ size_of w ∷ []) ∷ rest else z_copy d a (word name (d ∷ b ∷ all_true ∷ size_of w ∷ []) ∷ rest)
 
 abbrev pub least_name : Ty → Name
 least_name t = if is_signed t then m_smin else m_umin

@@ -6,6 +6,7 @@ use Rattle.kernel_tree.specs.Items.{loop_start}
 use Rattle.reg_assign.specs.declared.interval.RegClass.{RegClass}
 use Rattle.reg_assign.specs.declared.interval.RegClass.TheVariants.{Z, P}
 use Rattle.reg_assign.specs.Registers.{Assignment}
+use Rattle.label_fix.specs.Registers.{first_condition_register, scratch_vector}
 use Rattle.loop_form.specs.declared.loop_item.Operand.{Operand}
 use Rattle.loop_form.specs.declared.loop_item.Operand.TheVariants.{Constant, Outer, LoopIndex, Made}
 use Rattle.loop_form.specs.Needs as needs
@@ -73,11 +74,11 @@ sum_place k x = place_in (needs.Accumulating x) (throughout k Z)
 
 -- each value has the register of its interval, the one of a condition two more than its number
 abbrev pub operand_register : Program → Assignment → Operand → ℕ
-operand_register k a (Made q) = register_of 31 a (item_place k Z q)
-operand_register k a x = register_of 31 a (held_place k x)
+operand_register k a (Made q) = register_of scratch_vector a (item_place k Z q)
+operand_register k a x = register_of scratch_vector a (held_place k x)
 
 abbrev pub predicate_register : Program → Assignment → ℕ → ℕ
-predicate_register k b q = 2 + register_of 0 b (item_place k P q)
+predicate_register k b q = first_condition_register + register_of 0 b (item_place k P q)
 
 -- by the registers of the intervals of class Z and of class P
 abbrev pub loop_registers : Program → (a b : Assignment) → Registers

@@ -8,6 +8,7 @@ use Rattle.sve_code.specs.Table.{Name}
 use Rattle.machine_model.specs.Machine.{State, Step, Went, Ended, Stopped, z_at, p_at}
 use Rattle.machine_model.specs.VectorEffects.{do_vector}
 use Rattle.machine_model.specs.States.{IsState}
+use Rattle.label_fix.specs.Registers.{all_true}
 use Rattle.lane_emit.specs.Right.{ZRight, PRight}
 
 abbrev pub VectorInstruction : Type 0
@@ -53,7 +54,7 @@ pub record OnlyP (d : ℕ) (s t : State) : Type 0 where
 pub record Ready (w : Width) (n : ℕ) (s : State) : Type 0 where
   pub is : IsState s
   pub few : n ≤ lanes s.vl w
-  pub all : PRight w n (p_at s 1) all_at
+  pub all : PRight w n (p_at s all_true) all_at
 
 -- code that leaves a value in vector register d, right in n lanes, and changes nothing else
 pub record MakesZ (c : List VectorInstruction) (s : State) (d : ℕ) (w : Width) (n : ℕ) (value : ℕ → ℤ) : Type 0 where

@@ -7,7 +7,6 @@ ghost use Rattle.lane_emit.specs.AccumulatorLanes.{update_name, update_code};
 
 use crate::words::size;
 use guest_types::length::Width;
-use kernel_meaning::is_signed;
 use kernel_tree::{Ty, UpdateOp};
 use sve_code::{BinaryPredicatedOp, GoverningReg, Sve, VectorReg};
 
@@ -20,9 +19,9 @@ fn update_op(op: UpdateOp, ty: Ty) -> BinaryPredicatedOp
         UpdateOp::And => BinaryPredicatedOp::And,
         UpdateOp::Or => BinaryPredicatedOp::Orr,
         UpdateOp::Xor => BinaryPredicatedOp::Eor,
-        UpdateOp::Min if is_signed(ty) => BinaryPredicatedOp::Smin,
+        UpdateOp::Min if ty.is_signed() => BinaryPredicatedOp::Smin,
         UpdateOp::Min => BinaryPredicatedOp::Umin,
-        UpdateOp::Max if is_signed(ty) => BinaryPredicatedOp::Smax,
+        UpdateOp::Max if ty.is_signed() => BinaryPredicatedOp::Smax,
         UpdateOp::Max => BinaryPredicatedOp::Umax,
     }
 }

@@ -10,11 +10,11 @@ ghost use Rattle.lane_emit.specs.Stretch as stretch;
 ghost use Rattle.lane_emit.specs.View.{Adds, Appends};
 
 use crate::words::{
-    add_sub, bits_of, bitwise, extend_byte, extend_halfword, extend_word, merging, shift_left,
-    shift_right, unary,
+    add_sub, bitwise, extend_byte, extend_halfword, extend_word, merging, shift_left, shift_right,
+    unary,
 };
 use guest_types::length::Width;
-use kernel_meaning::{binary_leaves, fits, is_signed, shift_count, unary_leaves};
+use kernel_meaning::{binary_leaves, fits, shift_count, unary_leaves};
 use kernel_tree::{BinaryOp, Ty, UnaryOp};
 use std::alloc::AllocError;
 use sve_code::{
@@ -65,7 +65,7 @@ pub fn z_extend(
 ) -> Result<(), AllocError>
     ensures { OnOk result (Adds (code.z_extend width ty d.number a.number) words.old.items words.new.items) }
 {
-    if width.bits() <= bits_of(ty) {
+    if width.bits() <= ty.bits() {
         z_copy(words, d, a)
     } else {
         extension(words, width, ty, d, a)
@@ -116,7 +116,7 @@ fn absolute(
     ensures { OnOk result (Adds (code.unary_code width operator.Abs ty d.number a.number)
         words.old.items words.new.items) }
 {
-    if is_signed(ty) {
+    if ty.is_signed() {
         let leaves = unary_leaves(UnaryOp::Abs, ty);
         let word = unary(UnaryPredicatedOp::Abs, width, d, a);
         settled(words, word, leaves, width, ty, d)
@@ -185,7 +185,7 @@ fn merged(
 fn minimum(ty: Ty) -> BinaryPredicatedOp
     ensures { sve.merging_name result ≡ code.least_name ty }
 {
-    if is_signed(ty) {
+    if ty.is_signed() {
         BinaryPredicatedOp::Smin
     } else {
         BinaryPredicatedOp::Umin
@@ -195,7 +195,7 @@ fn minimum(ty: Ty) -> BinaryPredicatedOp
 fn maximum(ty: Ty) -> BinaryPredicatedOp
     ensures { sve.merging_name result ≡ code.greatest_name ty }
 {
-    if is_signed(ty) {
+    if ty.is_signed() {
         BinaryPredicatedOp::Smax
     } else {
         BinaryPredicatedOp::Umax
@@ -288,7 +288,7 @@ fn shifted_right(
     if count == 0 {
         z_copy(words, d, a)
     } else {
-        words.push(shift_right(is_signed(ty), width, d, a, count))?;
+        words.push(shift_right(ty.is_signed(), width, d, a, count))?;
         Ok(())
     }
 }

@@ -9,8 +9,10 @@ ghost use Rattle.loop_form.specs.Needs as needs;
 ghost use Rattle.loop_form.specs.Registers.{FitsKernel};
 ghost use Rattle.loop_form.specs.View.{program};
 ghost use Rattle.lane_emit.specs.LoopRegisters.{IsWithin, flat, register_of, place_in, held_place, sum_place, operand_register};
+ghost use Rattle.label_fix.specs.Registers.{first_condition_register, scratch_vector};
 
 use crate::held_place::place_among;
+use label_fix::registers::{FIRST_CONDITION_REGISTER, SCRATCH_VECTOR};
 use loop_form::{Held, LoopFacts, Operand};
 use reg_assign::{Assigned, VectorRegs};
 use sve_code::{GoverningReg, VectorReg};
@@ -40,10 +42,10 @@ fn place_of_item(places: &[Option<u32>], first: u32, item: u32) -> Option<usize>
 fn vector_at(regs: &Assigned, place: Option<usize>) -> VectorReg
     requires assigned { IsAssignment 30 regs.now }
     requires within { IsWithin (length regs.now.registers) place }
-    ensures { result.number ≡ register_of 31 regs.now place }
+    ensures { result.number ≡ register_of scratch_vector regs.now place }
 {
     match place {
-        None => Bits { number: 31 },
+        None => SCRATCH_VECTOR,
         Some(place) => Bits {
             number: regs.register(place),
         },
@@ -54,12 +56,12 @@ fn vector_at(regs: &Assigned, place: Option<usize>) -> VectorReg
 fn predicate_at(regs: &Assigned, place: Option<usize>) -> GoverningReg
     requires assigned { IsAssignment 6 regs.now }
     requires within { IsWithin (length regs.now.registers) place }
-    ensures { result.number ≡ 2 + register_of 0 regs.now place }
+    ensures { result.number ≡ first_condition_register + register_of 0 regs.now place }
 {
     match place {
-        None => Bits { number: 2 },
+        None => FIRST_CONDITION_REGISTER,
         Some(place) => Bits {
-            number: 2 + regs.register(place),
+            number: FIRST_CONDITION_REGISTER.number + regs.register(place),
         },
     }
 }
@@ -70,7 +72,7 @@ impl<'a> LaneRegisters<'a> {
     // The vector register of what is held throughout.
     fn held_register(&self, wanted: Held<'_>) -> VectorReg
         ensures { let place = place_in (view_of wanted.entry) (needs.throughout (kernel_in self.now) class.Z) in
-            result.number ≡ register_of 31 (vectors_in self.now) place }
+            result.number ≡ register_of scratch_vector (vectors_in self.now) place }
     {
         let place = place_among(&self.facts.held, wanted);
         vector_at(&self.regs.z, place)
@@ -82,7 +84,7 @@ impl<'a> LaneRegisters<'a> {
         ensures { result.number ≡ operand_register (kernel_in self.now) (vectors_in self.now) (operand.Outer place) }
     {
         match self.facts.kernel.kernel().params.get(place as usize) {
-            None => Bits { number: 31 },
+            None => SCRATCH_VECTOR,
             Some(param) => self.held_register(Held::Scalar(param.name.text())),
         }
     }
@@ -117,7 +119,7 @@ impl<'a> LaneRegisters<'a> {
 
     /// The vector register of an accumulator that the loop updates.
     pub fn sum(&self, name: &str) -> VectorReg
-        ensures { result.number ≡ register_of 31 (vectors_in self.now) (sum_place (kernel_in self.now) name.now) }
+        ensures { result.number ≡ register_of scratch_vector (vectors_in self.now) (sum_place (kernel_in self.now) name.now) }
     {
         self.held_register(Held::Accumulating(name))
     }

@@ -2,7 +2,6 @@
 
 ghost use Rattle.std.specs.Prelude.{◌≡◌, ◌+◌, ◌-◌, ◌*◌, ◌<◌, ◌≤◌, [], ◌∷◌};
 ghost use Rattle.guest_types.specs.Length.{width_bits};
-ghost use Rattle.kernel_tree.specs.Wrap as wraps;
 ghost use Rattle.sve_code.specs.View.{instruction_view};
 ghost use Rattle.sve_code.specs.View as sve;
 ghost use Rattle.sve_code.specs.Numbers.{size_number, size_from_h_number, size_from_s_number};
@@ -11,28 +10,14 @@ ghost use Rattle.lane_emit.specs.Stretch.{word};
 ghost use Rattle.lane_emit.specs.LaneCode as code;
 
 use guest_types::length::Width;
-use kernel_meaning::is_signed;
 use kernel_tree::{CompareOp, Ty};
+use label_fix::registers::ALL_TRUE;
 use sve_code::{
     AddSubOp, BinaryPredicatedOp, BitwiseOp, ExtendOp, GoverningReg, PredicateLogicalOp,
     PredicateReg, ShiftAmount, ShiftImmediateOp, Size, SizeFromH, SizeFromS, Sve,
     UnaryPredicatedOp, VectorCompareOp, VectorReg,
 };
 use word_rows::Bits;
-
-// ---- types
-
-/// The bits of a type.
-pub fn bits_of(ty: Ty) -> u32
-    ensures { result ≡ wraps.bits_of ty }
-{
-    match ty {
-        Ty::I8 | Ty::U8 => 8,
-        Ty::I16 | Ty::U16 => 16,
-        Ty::I32 | Ty::U32 => 32,
-        Ty::I64 | Ty::U64 => 64,
-    }
-}
 
 // ---- sizes
 
@@ -67,13 +52,6 @@ fn size_from_s(width: Width) -> SizeFromS
         Width::B | Width::H | Width::S => SizeFromS::S,
         Width::D => SizeFromS::D,
     }
-}
-
-// P1, which is all true.
-fn all_true() -> GoverningReg
-    ensures { result.number ≡ 1 }
-{
-    Bits { number: 1 }
 }
 
 /// A governing register as any predicate register.
@@ -119,7 +97,7 @@ pub fn merging(op: BinaryPredicatedOp, width: Width, d: VectorReg, b: VectorReg)
         op,
         zdn: d,
         zm: b,
-        pg: all_true(),
+        pg: ALL_TRUE,
         size: size(width),
     }
 }
@@ -132,7 +110,7 @@ pub fn unary(op: UnaryPredicatedOp, width: Width, d: VectorReg, a: VectorReg) ->
         op,
         zd: d,
         zn: a,
-        pg: all_true(),
+        pg: ALL_TRUE,
         size: size(width),
     }
 }
@@ -147,7 +125,7 @@ pub fn extend_byte(op: ExtendOp, width: Width, d: VectorReg, a: VectorReg) -> Sv
         op,
         zd: d,
         zn: a,
-        pg: all_true(),
+        pg: ALL_TRUE,
         size: size_from_h(width),
     }
 }
@@ -162,7 +140,7 @@ pub fn extend_halfword(op: ExtendOp, width: Width, d: VectorReg, a: VectorReg) -
         op,
         zd: d,
         zn: a,
-        pg: all_true(),
+        pg: ALL_TRUE,
         size: size_from_s(width),
     }
 }
@@ -175,7 +153,7 @@ pub fn extend_word(op: ExtendOp, d: VectorReg, a: VectorReg) -> Sve
         op,
         zd: d,
         zn: a,
-        pg: all_true(),
+        pg: ALL_TRUE,
     }
 }
 
@@ -296,7 +274,7 @@ pub fn test(
 fn greater(ty: Ty) -> VectorCompareOp
     ensures { sve.compare_name result ≡ code.greater_name ty }
 {
-    if is_signed(ty) {
+    if ty.is_signed() {
         VectorCompareOp::Gt
     } else {
         VectorCompareOp::Hi
@@ -306,7 +284,7 @@ fn greater(ty: Ty) -> VectorCompareOp
 fn greater_or_same(ty: Ty) -> VectorCompareOp
     ensures { sve.compare_name result ≡ code.greater_or_same_name ty }
 {
-    if is_signed(ty) {
+    if ty.is_signed() {
         VectorCompareOp::Ge
     } else {
         VectorCompareOp::Hs

@@ -96,9 +96,9 @@ kept-whole w pg old n z now h is =
 -- ---- the first elements of a predicate
 
 -- the blocks that so many elements fill
-pub enough : (w : Width) (n : ℕ) → n ≤ block_lanes w * ((width_bytes w * n + 31) / 32)
-enough B n = omega arith
-enough other n = omega arith
+pub lanes_within_blocks : (w : Width) (n : ℕ) → n ≤ block_lanes w * ((width_bytes w * n + 31) / 32)
+lanes_within_blocks B n = omega arith
+lanes_within_blocks other n = omega arith
 
 pub few : (w : Width) (n : ℕ) → n ≤ all_lanes w → (width_bytes w * n + 31) / 32 ≤ 8
 few B n h = omega arith
@@ -117,7 +117,7 @@ pub masked-below : (w : Width) (pg z kept : List ℕ) (n blocks : ℕ) → n ≤
 masked-below w pg z kept n blocks fits is count =
     let k = width_bytes w in
     let m = block_lanes w * blocks in
-    let up : n ≤ m = subst (λ b. n ≤ block_lanes w * b) (sym count) (enough w n) in
+    let up : n ≤ m = subst (λ b. n ≤ block_lanes w * b) (sym count) (lanes_within_blocks w n) in
     let most : m ≤ all_lanes w = omega (arith, mul-le-mul_left (block_lanes w) (let b : blocks ≤ 8 = omega (arith, count, few w n fits) in b), all-blocks w) in
     let split : n + (m - n) ≡ m = omega arith in
     let f = masked_at w kept z in

@@ -55,25 +55,25 @@ module _ (w : Width) (z part : List ℕ) (e n : ℕ) (long : length z ≡ 256) (
   abbrev now : List ℕ
   now = put (width_bytes w * e) (width_bytes w * n) part z
 
-  inside : width_bytes w * e + width_bytes w * n ≤ 256
-  inside = omega (arith, whole-register w, mul-add (width_bytes w) e n, mul-le-mul_left (width_bytes w) fits)
+  lanes_within_register : width_bytes w * e + width_bytes w * n ≤ 256
+  lanes_within_register = omega (arith, whole-register w, mul-add (width_bytes w) e n, mul-le-mul_left (width_bytes w) fits)
 
   pub at-written : (i : ℕ) → i < n → at w (put (width_bytes w * e) (width_bytes w * n) part z) (e + i) ≡ number_of_bytes (chunk (width_bytes w * i) (width_bytes w) part)
   at-written i l =
       let k = width_bytes w in
       let up : k * suc i ≤ k * n = mul-le-mul_left k (let u : suc i ≤ n = l in u) in
       ap (λ j. number_of_bytes (chunk j k (put (k * e) (k * n) part z))) (mul-add k e i)
-      ∙ ap number_of_bytes (chunk-inside (k * e) (k * n) part z (k * i) k (omega (arith, up, mul-suc k i, size)) (omega (arith, inside, long)))
+      ∙ ap number_of_bytes (chunk-inside (k * e) (k * n) part z (k * i) k (omega (arith, up, mul-suc k i, size)) (omega (arith, lanes_within_register, long)))
 
   pub at-unwritten : (i : ℕ) → (i < e) ⊎ (e + n ≤ i) → at w (put (width_bytes w * e) (width_bytes w * n) part z) i ≡ at w z i
   at-unwritten i (inl l) =
       let k = width_bytes w in
       let up : k * suc i ≤ k * e = mul-le-mul_left k (let u : suc i ≤ e = l in u) in
-      ap number_of_bytes (chunk-before (k * e) (k * n) part z (k * i) k (omega (arith, up, mul-suc k i)) (omega (arith, inside, long)))
+      ap number_of_bytes (chunk-before (k * e) (k * n) part z (k * i) k (omega (arith, up, mul-suc k i)) (omega (arith, lanes_within_register, long)))
   at-unwritten i (inr l) =
       let k = width_bytes w in
       let up : k * (e + n) ≤ k * i = mul-le-mul_left k l in
-      ap number_of_bytes (chunk-after (k * e) (k * n) part z (k * i) k size (omega (arith, up, mul-add k e n)) (omega (arith, inside, long)))
+      ap number_of_bytes (chunk-after (k * e) (k * n) part z (k * i) k size (omega (arith, up, mul-add k e n)) (omega (arith, lanes_within_register, long)))
 
 -- one element written
 pub at-one : (w : Width) (z : List ℕ) (e x : ℕ) → length z ≡ 256 → e < all_lanes w → at w (put (width_bytes w * e) (width_bytes w) (bytes_of (width_bytes w) x) z) e ≡ x % modulus w

@@ -3,10 +3,8 @@ use Rattle.std.proofs.Common.{◌≡◌, ℕ, zero, suc, ◌+◌, ◌-◌, ◌*�
 use Rattle.std.specs.Prelude.{nat_lt, is_some}
 use Rattle.std.proofs.lemmas.Bool.{cases_lt, cond-true, cond-false, and_left, false≢true, and_right}
 use Rattle.std.proofs.lemmas.List.{drop-drop, length-take}
-use Rattle.std.proofs.lemmas.Simd.{Each1-from_get_or}
-use Rattle.std.proofs.lemmas.List.{get_or-take, get_or-drop}
 use Rattle.std.proofs.Math.Nat.{mod-eq_of_lt, pow-le-pow_right, mul-suc, mul-le-mul_left}
-use lib.Lanes.{chunk, Each1}
+use lib.Lanes.{chunk}
 use Rattle.guest_types.specs.declared.length.Width.{Width}
 use Rattle.guest_types.specs.declared.length.Width.TheVariants.{B}
 use Rattle.guest_types.specs.Length.{width_bytes, modulus, all_lanes}
@@ -18,6 +16,7 @@ use Rattle.guest_types.specs.LaneMemory.{extended}
 use Rattle.guest_types.proofs.Numbers.{bytes_of-mod, number-below}
 use Rattle.guest_types.proofs.Stores.{loaded-Ok}
 use Rattle.guest_types.proofs.Widths.{modulus-is, whole-register}
+use Rattle.guest_types.proofs.Registers.{chunk-all_bytes}
 use Rattle.paged_memory.specs.Numbers.{number_in, with_number}
 use Rattle.paged_memory.proofs.Bytes.{length-with_number}
 use Rattle.lane_memory.specs.declared.reading.Reading.{Reading}
@@ -27,18 +26,13 @@ use Rattle.lane_memory.proofs.Places.{part-number, part-read}
 
 -- ---- numbers of a part
 
-chunk-bytes : (i n : ℕ) (bs : List ℕ) → ((j : ℕ) → get_or bs j 0 < 256) → Each1 (λ b. b < 256) (chunk i n bs)
-chunk-bytes i n bs small =
-    Each1-from_get_or (λ b. b < 256) (chunk i n bs) 0 (λ j l.
-    subst (λ b. b < 256) (sym (get_or-take n (drop i bs) j 0 (omega (arith, length-take n (drop i bs))) ∙ get_or-drop i bs j 0)) (small (i + j)))
-
 pub chunk-below : (w : Width) (i : ℕ) (bs : List ℕ) → ((j : ℕ) → get_or bs j 0 < 256) → number_of_bytes (chunk i (width_bytes w) bs) < modulus w
 chunk-below w i bs small =
     let k = width_bytes w in
     let part = chunk i k bs in
     let short : length part ≤ k = omega (arith, length-take k (drop i bs)) in
     let up : 256 ^ length part ≤ 256 ^ k = pow-le-pow_right {n = 256} (omega arith) {i = length part} {j = k} short in
-    omega (arith, number-below part (chunk-bytes i k bs small), up, modulus-is w)
+    omega (arith, number-below part (chunk-all_bytes i k bs small), up, modulus-is w)
 
 pub number_in-chunk : (bs : List ℕ) (at size : ℕ) → number_in bs at size ≡ number_of_bytes (chunk at size bs)
 unfolding number_in

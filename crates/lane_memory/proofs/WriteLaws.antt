@@ -1,6 +1,6 @@
 -- Elements that are written to a part of one page, and what they leave of the memory.
-use Rattle.std.proofs.Common.{◌≡◌, ℕ, suc, ◌+◌, ◌-◌, ◌*◌, ◌/◌, ◌<◌, ◌≤◌, inl, inr, Bool, true, false, cond, List, ◌++◌, length, take, drop, get_or, refl, sym, ap, ◌∙◌, subst, arith}
-use Rattle.std.proofs.lemmas.Bool.{cases_lt, cond-true, cond-false, and_parts}
+use Rattle.std.proofs.Common.{◌≡◌, ℕ, suc, ◌+◌, ◌-◌, ◌*◌, ◌/◌, ◌<◌, ◌≤◌, Bool, true, false, cond, List, ◌++◌, length, take, drop, get_or, refl, sym, ap, ◌∙◌, subst, arith}
+use Rattle.std.proofs.lemmas.Bool.{cond-true, cond-false, and_parts}
 use Rattle.std.proofs.lemmas.List.{drop-drop, drop-take, take-take, take_all, length-take-le, length-drop, length-append, get_or-take, get_or-drop, length-take}
 use Rattle.std.proofs.lemmas.Simd.{Each1-from_get_or}
 use Rattle.std.proofs.Math.Nat.{mul-suc, mul-add, mul-le-mul_left}
@@ -19,7 +19,7 @@ use Rattle.lane_memory.specs.Writings.{target_of, stored_of, written_at, IsWritt
 use Rattle.lane_memory.specs.Readings.{IsActiveRange}
 use Rattle.lane_memory.proofs.ListParts.{put, chunk-before, chunk-inside, chunk-after, at-written}
 use Rattle.lane_memory.proofs.Places.{address-low, address-step, room-in_page}
-use Rattle.lane_memory.proofs.ReadLaws.{number_in-chunk, with_number-put}
+use Rattle.lane_memory.proofs.ReadLaws.{number_in-chunk, with_number-put, below-next}
 use Rattle.lane_memory.proofs.SpanWrites.{length-span, merged, merged-is, stored-merged, store-skip, store-tail}
 
 -- ---- one element more
@@ -34,9 +34,6 @@ under-none w pg z from count part = record {
   done = record { long = refl; written = λ i l. absurd (omega arith) };
   kept = λ j l u. refl;
 }
-
-below_next : (P : ℕ → Type 0) (i j : ℕ) → (j < i → P j) → P i → j < i + 1 → P j
-below_next P i j before here l = elim (cases_lt j i) [ inl b ↦ before b | inr g ↦ subst P (let q : i ≡ j = omega arith in q) here ]
 
 pub under-on : (w : Writing) (pg z : List ℕ) (from count i x : ℕ) (old was now : List ℕ) → Under w pg z from count i old was → i < count → length old ≡ width_bytes w.memory * count → active w.element pg (from + i) ≡ true
     → x ≡ number_in z (width_bytes w.element * (from + i)) (width_bytes w.element) → now ≡ with_number was (width_bytes w.memory * i) (width_bytes w.memory) x → Under w pg z from count (i + 1) old now
@@ -55,7 +52,7 @@ under-on w pg z from count i x old was now h l size on number is =
     record {
       done = record {
         long = ap length new ∙ omega (arith, length-append (take (m * i) was) (part ++ drop m (drop (m * i) was)), length-append part (drop m (drop (m * i) was)), long, length-take-le (m * i) was fits, length-drop m (drop (m * i) was), length-drop (m * i) was, wide, up, mul-suc m i) ∙ h.done.long;
-        written = λ j u. below_next (λ j. chunk (m * j) m now ≡ written_at w pg z old from j) i j
+        written = λ j u. below-next (λ j. chunk (m * j) m now ≡ written_at w pg z old from j) i j
             (λ b. ap (chunk (m * j) m) new ∙ chunk-before (m * i) m part was (m * j) m (let q : m * suc j ≤ m * i = mul-le-mul_left m (let u : suc j ≤ i = b in u) in omega (arith, mul-suc m j)) fits ∙ h.done.written j b)
             here u;
       };
@@ -68,7 +65,7 @@ under-off w pg z from count i old was h l off =
     record {
       done = record {
         long = h.done.long;
-        written = λ j u. below_next (λ j. chunk (m * j) m was ≡ written_at w pg z old from j) i j (h.done.written j) (h.kept i (omega arith) l ∙ sym (cond-false _ _ _ off)) u;
+        written = λ j u. below-next (λ j. chunk (m * j) m was ≡ written_at w pg z old from j) i j (h.done.written j) (h.kept i (omega arith) l ∙ sym (cond-false _ _ _ off)) u;
       };
       kept = λ j least most. h.kept j (omega arith) most;
     }

@@ -6,6 +6,7 @@ ghost use Rattle.guest_types.specs.LaneMemory.{extended, lane_address, load_form
 ghost use Rattle.lane_memory.specs.Readings.{form_of, place_of};
 
 use guest_types::length::Width;
+use guest_types::memory::PAGE_BYTES;
 use guest_types::row::LoadRow;
 
 /// The address of an element, which has the bytes of a width in memory.
@@ -25,7 +26,7 @@ pub fn place(base: u64, index: u64, memory: Width, e: usize) -> u64
 pub fn count_in_page(address: u64, memory: Width, most: usize) -> usize
     ensures { result ≤ most }
 {
-    let rest = (4096 - address % 4096) as usize;
+    let rest = (PAGE_BYTES - address % PAGE_BYTES) as usize;
     let whole = match memory {
         Width::B => rest,
         Width::H => rest / 2,

@@ -6,8 +6,8 @@ use Rattle.guest_types.specs.Elements.{elements, bits_of}
 use Rattle.guest_types.specs.Lanes.{folded}
 use Rattle.lane_preds.specs.Bits.{starts, first_set, last_set, nonzero_bytes, bit_count, flags_of, compare_bits_of}
 
-begins : starts 4 8 ≡ true
-begins = refl
+element_starts_at_8 : starts 4 8 ≡ true
+element_starts_at_8 = refl
 
 begins_not : starts 4 6 ≡ false
 begins_not = refl

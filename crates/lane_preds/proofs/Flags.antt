@@ -3,6 +3,7 @@ use Rattle.std.proofs.Common.{◌≡◌, ℕ, zero, suc, ◌+◌, ◌-◌, ◌*�
 use Rattle.std.specs.Prelude.{Option, Some, None, option_map, is_none, is_some}
 use Rattle.std.proofs.lemmas.Bool.{cases_lt, eq-eqb, lt-ltb, le-ltb, ltb-true, and_left, and_right}
 use Rattle.std.proofs.Math.Nat.{mul-mod_right, mul-div_cancel_left}
+use Rattle.std.proofs.Math.Bool.{and_assoc}
 use lib.Lanes.{zip2}
 use mir.Val.{bool_byte}
 use Rattle.guest_types.specs.declared.length.Width.{Width}
@@ -14,7 +15,7 @@ use Rattle.guest_types.proofs.Widths.{some-bytes, whole-register, lane-inside}
 use Rattle.lane_blocks.proofs.Bits.{IsBits, bits-same, bits-and, bits-made}
 use Rattle.lane_preds.specs.Bits.{starts, first_set, last_set}
 use Rattle.lane_preds.proofs.Places.{FirstOf, Nowhere, First, first-of, LastOf, Never, Last, last-of, first-is, first-nowhere, last-is, last-never}
-use Rattle.lane_preds.proofs.Patterns.{lane-of, below-lanes, and-assoc}
+use Rattle.lane_preds.proofs.Patterns.{lane-of, below-lanes}
 
 -- the bits of the elements that are true
 pub elements-of-mask : (w : Width) (n : ℕ) (g : ℕ → Bool) (p s x : List ℕ) → ((e : ℕ) → bit p (width_bytes w * e) ≡ g e) → s ≡ predicate (width_bytes w) all_at n → IsBits (bit p) x → IsBits (element_bit (width_bytes w) g n) (zip2 bit_and s x)
@@ -63,11 +64,11 @@ abbrev pub bit_place : Width → ℕ → ℕ
 bit_place w e = width_bytes w * e
 
 module _ (w : Width) (g : ℕ → Bool) (n : ℕ) (x : List ℕ) (fits : n ≤ all_lanes w) (is : IsBits (element_bit (width_bytes w) g n) x) where
-  low : (e : ℕ) → e < n → width_bytes w * e < 256
-  low e l = lane-inside w e (all_lanes w) (omega arith) (omega (arith, whole-register w))
+  lane_byte_below_256 : (e : ℕ) → e < n → width_bytes w * e < 256
+  lane_byte_below_256 e l = lane-inside w e (all_lanes w) (omega arith) (omega (arith, whole-register w))
 
   on-bit : (e : ℕ) → e < n → g e ≡ true → bit x (width_bytes w * e) ≡ true
-  on-bit e l on = is.bits (width_bytes w * e) (low e l) ∙ element-on w g n e l ∙ on
+  on-bit e l on = is.bits (width_bytes w * e) (lane_byte_below_256 e l) ∙ element-on w g n e l ∙ on
 
   off-bit : (j : ℕ) → j < 256 → ((e : ℕ) → e < n → width_bytes w * e ≡ j → g e ≡ false) → bit x j ≡ false
   off-bit j l none = is.bits j l ∙ element-off w g n j none
@@ -75,8 +76,8 @@ module _ (w : Width) (g : ℕ → Bool) (n : ℕ) (x : List ℕ) (fits : n ≤ a
   first-go : (o : Option ℕ) → FirstOf g 0 n o → first_true (bit x) 256 0 ≡ option_map (bit_place w) o
   first-go None (Nowhere none) = first-nowhere (bit x) 256 (λ j l. off-bit j l (λ e u same. none e (omega arith) (omega arith)))
   first-go (Some _) (First f a b on before) =
-      first-is (bit x) 256 (width_bytes w * f) (low f (omega arith)) (on-bit f (omega arith) on)
-      (λ j l. off-bit j (omega (arith, low f (omega arith))) (λ e u same. before e (omega arith) (scaled w e f (subst (λ i. i < width_bytes w * f) (sym same) l))))
+      first-is (bit x) 256 (width_bytes w * f) (lane_byte_below_256 f (omega arith)) (on-bit f (omega arith) on)
+      (λ j l. off-bit j (omega (arith, lane_byte_below_256 f (omega arith))) (λ e u same. before e (omega arith) (scaled w e f (subst (λ i. i < width_bytes w * f) (sym same) l))))
     where
       scaled : (w : Width) (e f : ℕ) → width_bytes w * e < width_bytes w * f → e < f
       scaled B e f l = omega arith
@@ -89,7 +90,7 @@ module _ (w : Width) (g : ℕ → Bool) (n : ℕ) (x : List ℕ) (fits : n ≤ a
   last-go : (o : Option ℕ) → LastOf g n o → last_true (bit x) 256 ≡ option_map (bit_place w) o
   last-go None (Never none) = last-never (bit x) 256 (λ j l. off-bit j l (λ e u same. none e u))
   last-go (Some _) (Last f b on past) =
-      last-is (bit x) 256 (width_bytes w * f) (low f b) (on-bit f b on)
+      last-is (bit x) 256 (width_bytes w * f) (lane_byte_below_256 f b) (on-bit f b on)
       (λ j l u. off-bit j u (λ e v same. past e (scaled w f e (subst (λ i. width_bytes w * f < i) (sym same) l)) v))
     where
       scaled : (w : Width) (e f : ℕ) → width_bytes w * e < width_bytes w * f → e < f
@@ -143,7 +144,7 @@ flags-are w n mask outcome s x y a b o fits is hx hy is_a is_b is_o =
     go g t true j on =
         let k = width_bytes w in
         ap (λ b. element_bit k g n j && b) (ap (bit outcome) (lane-of w j on))
-        ∙ and-assoc (starts k j && ltb j (k * n)) (g (j / k)) (active w outcome (j / k))
+        ∙ and_assoc (starts k j && ltb j (k * n)) (g (j / k)) (active w outcome (j / k))
     go g t false j off =
         let none : (starts (width_bytes w) j && ltb j (width_bytes w * n)) ≡ false = and_left _ _ off in
         and_left _ _ (and_left _ _ none) ∙ sym (and_left _ _ none)

@@ -4,6 +4,7 @@ use Rattle.std.specs.Prelude.{Option, Some, None}
 use Rattle.std.specs.Int.{bit_at, bit_not}
 use Rattle.std.proofs.lemmas.Bool.{cases_lt, cases_eq, eqb-true, lt-ltb, le-ltb, and_left, and_right, or_right, agree_below_at}
 use Rattle.std.proofs.Math.Nat.{mod-one, div-one}
+use Rattle.std.proofs.Math.Bool.{and_assoc}
 use mathlib.Core.Bool.{and-true}
 use mir.Val.{bool_byte}
 use lib.Lanes.{zip2}
@@ -16,7 +17,7 @@ use Rattle.guest_types.specs.Elements.{bit, bits_of, element_bit, predicate, fir
 use Rattle.guest_types.specs.Lanes.{all_at, while_at, logic_at, logic_of, broken, brk_at, brk_of}
 use Rattle.guest_types.proofs.AtWidths.{bits_of-ext}
 use Rattle.guest_types.proofs.Predicates.{predicate-bytes}
-use Rattle.guest_types.proofs.Folds.{broken-none, broken-more}
+use Rattle.guest_types.proofs.Folds.{broken-more, not_broken}
 use Rattle.lane_blocks.specs.Blocks.{is_below}
 use Rattle.lane_blocks.proofs.Lanes.{lanes-splat}
 use Rattle.lane_blocks.proofs.Masks.{bits-lanes}
@@ -75,10 +76,6 @@ below-lanes w e n =
     scaled_le B e n l = omega arith
     scaled_le other e n l = omega arith
 
-pub and-assoc : (a b c : Bool) → ((a && b) && c) ≡ (a && (b && c))
-and-assoc true b c = refl
-and-assoc false b c = refl
-
 and-same : (a x y : Bool) → (a ≡ true → x ≡ y) → (a && x) ≡ (a && y)
 and-same true x y same = same refl
 and-same false x y same = refl
@@ -86,13 +83,13 @@ and-same false x y same = refl
 -- the bit of an element, in terms of the element
 pub element-bit : (w : Width) (h g : ℕ → Bool) (n m j : ℕ) → ((e : ℕ) → (ltb e n && h e) ≡ (ltb e m && g e)) → element_bit (width_bytes w) h n j ≡ element_bit (width_bytes w) g m j
 element-bit w h g n m j same =
-    and-assoc (starts (width_bytes w) j) (ltb j (width_bytes w * n)) (h (j / width_bytes w))
+    and_assoc (starts (width_bytes w) j) (ltb j (width_bytes w * n)) (h (j / width_bytes w))
     ∙ and-same (starts (width_bytes w) j) (ltb j (width_bytes w * n) && h (j / width_bytes w)) (ltb j (width_bytes w * m) && g (j / width_bytes w)) (λ on.
     let place = lane-of w j on in
     let e = j / width_bytes w in
     ap (λ t. t && h e) (ap (λ i. ltb i (width_bytes w * n)) place ∙ below-lanes w e n) ∙ same e
     ∙ sym (ap (λ t. t && g e) (ap (λ i. ltb i (width_bytes w * m)) place ∙ below-lanes w e m)))
-    ∙ sym (and-assoc (starts (width_bytes w) j) (ltb j (width_bytes w * m)) (g (j / width_bytes w)))
+    ∙ sym (and_assoc (starts (width_bytes w) j) (ltb j (width_bytes w * m)) (g (j / width_bytes w)))
 
 pub predicate-same : (w : Width) (h g : ℕ → Bool) (n m : ℕ) → ((e : ℕ) → (ltb e n && h e) ≡ (ltb e m && g e)) → predicate (width_bytes w) h n ≡ predicate (width_bytes w) g m
 predicate-same w h g n m same = bits_of-ext (element_bit (width_bytes w) h n) (element_bit (width_bytes w) g m) 32 (λ j l. element-bit w h g n m j same)
@@ -136,12 +133,6 @@ by-pred {xs} pg l r is h = h ∙ ap (λ o. logic_of o pg l r) (sym is)
 
 -- ---- the first bit at which both are set
 
-broken-before : (pg p : List ℕ) (n : ℕ) → ((j : ℕ) → j < n → (bit pg j && bit p j) ≡ false) → broken pg p n ≡ false
-broken-before pg p zero none = broken-none pg p
-broken-before pg p (suc n) none =
-    ap (broken pg p) (let next : suc n ≡ n + 1 = omega arith in next) ∙ broken-more pg p n
-    ∙ ap₂ (λ a b. a || b) (broken-before pg p n (λ j l. none j (omega arith))) (none n (omega arith))
-
 broken-from : (pg p : List ℕ) (f n : ℕ) → f < n → (bit pg f && bit p f) ≡ true → broken pg p n ≡ true
 broken-from pg p f zero l on = absurd (omega arith)
 broken-from pg p f (suc n) l on =
@@ -157,16 +148,16 @@ brk_limit after None = 256
 brk_limit after (Some f) = f + bool_byte after
 
 brk-below : (after : Bool) (pg p : List ℕ) (o : Option ℕ) → FirstOf (λ j. bit pg j && bit p j) 0 256 o → (j : ℕ) → j < 256 → ltb j (brk_limit after o) ≡ not (broken pg p (cond after j (j + 1)))
-brk-below true pg p None (Nowhere none) j l = lt-ltb j 256 l ∙ sym (ap not (broken-before pg p j (λ i u. none i (omega arith) (omega arith))))
-brk-below false pg p None (Nowhere none) j l = lt-ltb j 256 l ∙ sym (ap not (broken-before pg p (j + 1) (λ i u. none i (omega arith) (omega arith))))
+brk-below true pg p None (Nowhere none) j l = lt-ltb j 256 l ∙ sym (ap not (not_broken pg p j (λ i u. none i (omega arith) (omega arith))))
+brk-below false pg p None (Nowhere none) j l = lt-ltb j 256 l ∙ sym (ap not (not_broken pg p (j + 1) (λ i u. none i (omega arith) (omega arith))))
 brk-below true pg p (Some _) (First f a b on before) j l =
     elim (cases_lt f j) [
       | inl past ↦ le-ltb j (f + 1) (omega arith) ∙ sym (ap not (broken-from pg p f j past on))
-      | inr here ↦ lt-ltb j (f + 1) (omega arith) ∙ sym (ap not (broken-before pg p j (λ i u. before i (omega arith) (omega arith))))
+      | inr here ↦ lt-ltb j (f + 1) (omega arith) ∙ sym (ap not (not_broken pg p j (λ i u. before i (omega arith) (omega arith))))
     ]
 brk-below false pg p (Some _) (First f a b on before) j l =
     elim (cases_lt j f) [
-      | inl under ↦ lt-ltb j (f + 0) (omega arith) ∙ sym (ap not (broken-before pg p (j + 1) (λ i u. before i (omega arith) (omega arith))))
+      | inl under ↦ lt-ltb j (f + 0) (omega arith) ∙ sym (ap not (not_broken pg p (j + 1) (λ i u. before i (omega arith) (omega arith))))
       | inr here ↦ le-ltb j (f + 0) (omega arith) ∙ sym (ap not (broken-from pg p f (j + 1) (omega arith) on))
     ]
 

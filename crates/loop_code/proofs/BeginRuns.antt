@@ -80,7 +80,7 @@ pub record Arguments (D : Laid) (c : List DraftEntry) (s : State) (rest : List D
   pub high : (r : ℕ) → n + length ps ≤ r → x_at end r ≡ x_at s r
   pub wrapped : AreWrapped n ps args end
 
-small_word : (a : ℕ) → a < 2 ^ 64 → word (pos a) ≡ a
+pub small_word : (a : ℕ) → a < 2 ^ 64 → word (pos a) ≡ a
 small_word a h = mod-eq_of_lt h
 
 module _ (D : Laid) where
@@ -292,9 +292,9 @@ nine_free : (R : ℕ → ℕ) (k : Program) → length k.params ≤ 8 → (p : �
 nine_free R k few p = others-append (param_homes 0 k.params) (var_homes R 0 k.vars) 9 p (params_nine 0 p k.params (omega (arith, few))) (vars_nine R 0 p k.vars)
 
 -- the names with which the loop starts
-begun : {D : Laid} {R : ℕ → ℕ} {k : Program} {M : Layout} {w : Fixed M} {c rest : List DraftEntry} {s : State} {args : List ℕ} {m : Memory} {most : ℕ} {o : Option Names} (names : Names) → M.loose ≡ [] → AreSteady (kernel_homes R k) → w.index ≡ 0 → started k args m ≡ o → o ≡ Some names → Starts D w c s rest (kernel_homes R k) (var_scope k).visible (loop_start k) m most o → Begins R k D c s rest args m most
-begun names bare steady none e f cannot = absurd cc
-begun {R = R} {k = k} {M = M} {w = w} {m = m} names bare steady none e f (starts {names = found} end g at h) = record {
+kernel_begins : {D : Laid} {R : ℕ → ℕ} {k : Program} {M : Layout} {w : Fixed M} {c rest : List DraftEntry} {s : State} {args : List ℕ} {m : Memory} {most : ℕ} {o : Option Names} (names : Names) → M.loose ≡ [] → AreSteady (kernel_homes R k) → w.index ≡ 0 → started k args m ≡ o → o ≡ Some names → Starts D w c s rest (kernel_homes R k) (var_scope k).visible (loop_start k) m most o → Begins R k D c s rest args m most
+kernel_begins names bare steady none e f cannot = absurd cc
+kernel_begins {R = R} {k = k} {M = M} {w = w} {m = m} names bare steady none e f (starts {names = found} end g at h) = record {
   names = found;
   starts = e;
   end = end;
@@ -326,4 +326,4 @@ begin_runs R k checked few fits D n rest args m st has res =
     let i = ap (λ i. vars_size i k.vars) (param_index k) in
     let steps : length k.params + (4 * vars_size (param_scope k).index k.vars + 1) ≤ begin_steps k = omega (arith, i) in
     let known = all_start k args m checked in
-    begun known.0 refl fits.steady refl refl known.1 (starts_after (begin_steps k) steps a.goes a.frame (starts_at (loop_start k) (ap (λ n. length k.params + n) i) (starts_zero D L fits.assigned (fits.safe (length k.params + vars_size (param_scope k).index k.vars)) (nine_free R k few (length k.params + vars_size (param_scope k).index k.vars)) v)))
+    kernel_begins known.0 refl fits.steady refl refl known.1 (starts_after (begin_steps k) steps a.goes a.frame (starts_at (loop_start k) (ap (λ n. length k.params + n) i) (starts_zero D L fits.assigned (fits.safe (length k.params + vars_size (param_scope k).index k.vars)) (nine_free R k few (length k.params + vars_size (param_scope k).index k.vars)) v)))

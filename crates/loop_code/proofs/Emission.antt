@@ -1,17 +1,17 @@
 -- What emission keeps of names.
 use Rattle.std.proofs.Common.{◌≡◌, Bool, true, false, if◌then◌else◌, ℕ, zero, suc, ◌+◌, ◌<◌, ◌≤◌, ◌^◌, List, [], ◌∷◌, ◌++◌, length, take, drop, get_or, drop-cons, add-one, Option, Some, None, refl, sym, ap, ◌∙◌, arith}
 use Rattle.std.proofs.lemmas.List.{append-nil}
-use Rattle.std.proofs.Math.Seq.{take-append_seam}
-use Rattle.std.specs.Prelude.{MatchOption, option_map, option_and_then}
+use Rattle.std.specs.Prelude.{option_map, option_and_then}
 use Rattle.kernel_tree.specs.declared.fault.Binding.{Binding}
 use Rattle.kernel_tree.specs.Plain.{Term, Update, Block, Parameter, Accumulator, PlainLoop, Program}
 use Rattle.kernel_tree.specs.Items.{block_size, answer_size, for_loop_size, index_of, loop_index, loop_start, loop_end, size_of}
 use Rattle.kernel_tree.specs.Typing.{Local, Scope, local, declared, is_taken, lookup, accumulator_type, first, after_block, after_for_loop, param_scope, var_scope}
-use Rattle.kernel_scope.proofs.Growth.{grows_by_block}
+use Rattle.kernel_scope.proofs.Growth.{grows_by_block, back}
 use Rattle.kernel_tree.proofs.Scopes.{scope_index}
 use Rattle.kernel_tree.specs.declared.ops.Ty.{Ty}
 use Rattle.kernel_tree.specs.declared.ops.BinaryOp.{BinaryOp}
 use Rattle.kernel_tree.specs.declared.ops.UpdateOp.{UpdateOp}
+use Rattle.kernel_tree.proofs.Walks.{var_scope-index}
 use Rattle.kernel_meaning.specs.Operators.{operator_of}
 use Rattle.scalar_words.specs.Words.{word_code, at_type}
 use Rattle.value_code.specs.declared.extent.Extent.{Extent}
@@ -55,9 +55,6 @@ homes_back L old new s n b blk e is =
 
 -- ---- after the statements of a loop
 
-back : {A : Type 0} (n : ℕ) (xs ys zs : List A) → n ≡ length xs → ys ≡ xs ++ zs → take n ys ≡ xs
-back n xs ys zs e q = rw (e, q) (take-append_seam xs zs)
-
 same_scope : (s : Scope) (ls : List Local) (names : List (List ℕ)) (i : Option (List ℕ)) (b : Bool) → ls ≡ s.visible → names ≡ s.taken → i ≡ s.index → b ≡ s.inside → record { visible = ls; taken = names; index = i; inside = b } ≡ s
 same_scope s ls names i b e f g h = rw (e, f, g, h) refl
 
@@ -93,35 +90,32 @@ begin_count k s n m o vs e f g h = h ∙ rw (e, f, g) refl
 
 -- ---- the loop and what follows it
 
-pub known_index : (k : Program) (s : Scope) → s ≡ var_scope k → s.index ≡ loop_index k
-known_index k s t = ap (λ (r : Scope). r.index) t ∙ scope_index k
-
 pub scalar_is : (R : ℕ → ℕ) (k : Program) (N L : Layout) (l : PlainLoop) (b n b2 n2 : ℕ) (rest : List DraftEntry) → N ≡ loop_layout R k → L ≡ bare (loop_layout R k) → k.for_loop ≡ Some l → b ≡ loop_start k → b2 ≡ loop_end k → n2 ≡ n + 4 + block_labels (loop_index k) l.body → iterations_code N (kernel_homes R k) (var_scope k) l b n (leave_code L (kernel_homes R k) (var_scope k) l b2 n2 k.answer rest) ≡ scalar_code R k n rest
 scalar_is R k N L l b n b2 n2 rest c d e f g h =
     let i : n2 ≡ n + 4 + block_labels (var_scope k).index l.body = h ∙ ap (λ j. n + 4 + block_labels j l.body) (sym (scope_index k)) in
     rw (c, d, f, g, i) (ap (λ t. for_loop_code (loop_layout R k) (kernel_homes R k) (var_scope k) t (loop_start k) n (loop_end k) k.answer rest) (sym e))
 
 -- a kernel without a loop holds nothing
-none_left : (R : ℕ → ℕ) (k : Program) → k.for_loop ≡ None → layout_of_kernel R k ≡ bare (loop_layout R k)
-none_left R k e = ap (λ t. with_loose (layout_of_kernel R k) (after_loop (for_loop_loose (var_scope k) t k.answer))) (sym e)
+layout_without_loop : (R : ℕ → ℕ) (k : Program) → k.for_loop ≡ None → layout_of_kernel R k ≡ bare (loop_layout R k)
+layout_without_loop R k e = ap (λ t. with_loose (layout_of_kernel R k) (after_loop (for_loop_loose (var_scope k) t k.answer))) (sym e)
 
 pub straight_is : (R : ℕ → ℕ) (k : Program) (L : Layout) (b n : ℕ) (rest : List DraftEntry) → L ≡ layout_of_kernel R k → k.for_loop ≡ None → b ≡ loop_start k → straight_code L (kernel_homes R k) (var_scope k) n b k.answer rest ≡ scalar_code R k n rest
 straight_is R k L b n rest d e f =
     let z = ap for_loop_size e in
     let g : b ≡ loop_end k = omega (arith, f, z) in
-    let h = d ∙ none_left R k e in
+    let h = d ∙ layout_without_loop R k e in
     rw (h, g) (ap (λ t. for_loop_code (loop_layout R k) (kernel_homes R k) (var_scope k) t (loop_start k) n (loop_end k) k.answer rest) (sym e))
 
 -- the same, of what is known of the names before the loop and after it
 pub for_loop_is : (R : ℕ → ℕ) (k : Program) (N L : Layout) (hs hs2 : Homes) (s s2 : Scope) (l : PlainLoop) (b n b2 n2 : ℕ) (rest : List DraftEntry) → N ≡ loop_layout R k → L ≡ bare (loop_layout R k) → hs ≡ kernel_homes R k → s ≡ var_scope k → hs2 ≡ with_index hs l → s2 ≡ after_for_loop s (Some l) → k.for_loop ≡ Some l → b ≡ loop_start k → b2 ≡ loop_end k → n2 ≡ n + 4 + block_labels s.index l.body
     → iterations_code N hs s l b n (answer_code L hs2 s2 b2 n2 k.answer rest) ≡ scalar_code R k n rest
 for_loop_is R k N L hs hs2 s s2 l b n b2 n2 rest e1 e2 h t h2 t2 f g m c =
-    let d : n2 ≡ n + 4 + block_labels (loop_index k) l.body = c ∙ ap (λ i. n + 4 + block_labels i l.body) (known_index k s t) in
+    let d : n2 ≡ n + 4 + block_labels (loop_index k) l.body = c ∙ ap (λ i. n + 4 + block_labels i l.body) (var_scope-index k s t) in
     rw (h2, t2, h, t) (scalar_is R k N L l b n b2 n2 rest e1 e2 f g m d)
 
 pub for_loop_count : (k : Program) (l : PlainLoop) (s s2 : Scope) (n n2 n3 : ℕ) → s ≡ var_scope k → s2 ≡ after_for_loop s (Some l) → k.for_loop ≡ Some l → n2 ≡ n + 4 + block_labels s.index l.body → n3 ≡ n2 + answer_labels s2.index k.answer → n3 ≡ n + scalar_labels k
 for_loop_count k l s s2 n n2 n3 t t2 f c d =
-    let i = known_index k s t in
+    let i = var_scope-index k s t in
     let j : s2.index ≡ loop_index k = ap (λ (r : Scope). r.index) t2 ∙ i in
     let g : scalar_labels k ≡ 4 + block_labels (loop_index k) l.body + answer_labels (loop_index k) k.answer = ap (λ o. for_loop_labels (loop_index k) o k.answer) f in
     let p : n2 ≡ n + 4 + block_labels (loop_index k) l.body = c ∙ ap (λ o. n + 4 + block_labels o l.body) i in
@@ -141,7 +135,7 @@ bare_count k s n given n2 i f e c =
 
 pub loop_ends : (k : Program) (l : PlainLoop) (s : Scope) (b b2 : ℕ) → s ≡ var_scope k → k.for_loop ≡ Some l → b ≡ loop_start k → b2 ≡ b + (1 + block_size s.index l.body) → b2 ≡ loop_end k
 loop_ends k l s b b2 t f g c =
-    let i : s.index ≡ Some l.index = known_index k s t ∙ ap (option_map index_of) f in
+    let i : s.index ≡ Some l.index = var_scope-index k s t ∙ ap (option_map index_of) f in
     let z : for_loop_size k.for_loop ≡ 1 + block_size (Some l.index) l.body = ap for_loop_size f in
     let d : b2 ≡ b + (1 + block_size (Some l.index) l.body) = c ∙ ap (λ o. b + (1 + block_size o l.body)) i in
     omega (arith, g, z, d)
@@ -154,8 +148,8 @@ loop_room k l s b few t f g =
 pub at_start : (k : Program) (b : ℕ) → b ≡ loop_start k → b ≤ loop_end k
 at_start k b e = omega (arith, e)
 
-pub at_end : (k : Program) (b : ℕ) → b ≡ loop_end k → b ≤ loop_end k
-at_end k b e = omega (arith, e)
+pub within_loop_end : (k : Program) (b : ℕ) → b ≡ loop_end k → b ≤ loop_end k
+within_loop_end k b e = omega (arith, e)
 
 pub answer_room : (k : Program) (s : Scope) (b : ℕ) → size_of k ≤ 1000 → s.index ≡ loop_index k → b ≤ loop_end k → b + answer_size s.index k.answer < 2 ^ 32
 answer_room k s b few i le =
@@ -163,11 +157,6 @@ answer_room k s b few i le =
     omega (arith, few, e, le)
 
 -- ---- updates
-
--- the type of an accumulator that is looked up
-pub update_type : (o : Option Binding) (want : Option Ty) → MatchOption o (want ≡ None) (λ x. want ≡ accumulator_type x) → want ≡ option_and_then accumulator_type o
-update_type (Some x) want h = h
-update_type None want h = h
 
 pub update_is : (L : Layout) (hs : Homes) (s : Scope) (exit b n : ℕ) (x : List ℕ) (by : UpdateOp) (op : BinaryOp) (want : Option Ty) (asked : Extent) (e : Term) (side : Side) (leaves : Bool) (d : ℕ) (rest : List DraftEntry) → op ≡ operator_of by → want ≡ option_and_then accumulator_type (lookup s x) → asked ≡ update_extent L.loose x op want → side ≡ right_side L hs s op asked want b e → leaves ≡ update_settles L.loose x op want → d ≡ register_at hs x
     → side_code (added_number op want e) (is_fused s op asked want e) (loose_code L hs s asked want b n e) (parts_code L hs s asked want b n e) (at_type want (λ t. operator_code side leaves op t d d rest) rest) ≡ action_code L hs s exit b n (Update x by e) rest
@@ -192,33 +181,33 @@ bare_is R k L M N cs ls d left e none f =
 -- ---- names that are held loosely
 
 -- what is left of them from a place on
-here : (ls : List LooseName) (i : ℕ) (l : LooseName) → i < length ls → drop i ls ≡ get_or ls i l ∷ drop (i + 1) ls
-here ls i l lt = drop-cons ls i l lt ∙ ap (λ n. get_or ls i l ∷ drop n ls) (sym (add-one i))
+drop_at_index : (ls : List LooseName) (i : ℕ) (l : LooseName) → i < length ls → drop i ls ≡ get_or ls i l ∷ drop (i + 1) ls
+drop_at_index ls i l lt = drop-cons ls i l lt ∙ ap (λ n. get_or ls i l ∷ drop n ls) (sym (add-one i))
 
 pub enter_step : (r : ℕ) (hs : Homes) (ls : List LooseName) (i : ℕ) (l : LooseName) (d : ℕ) (rest : List DraftEntry) → i < length ls → d ≡ register_at hs (lent_text (get_or ls i l).name) → word_code (enter_word r d (form_of (get_or ls i l).form)) (enter_code r hs (looses_of (drop (i + 1) ls)) rest) ≡ enter_code r hs (looses_of (drop i ls)) rest
 enter_step r hs ls i l d rest lt f =
     ap (λ q. word_code (enter_word r q (form_of (get_or ls i l).form)) (enter_code r hs (looses_of (drop (i + 1) ls)) rest)) f
-    ∙ ap (λ (xs : List LooseName). enter_code r hs (looses_of xs) rest) (sym (here ls i l lt))
+    ∙ ap (λ (xs : List LooseName). enter_code r hs (looses_of xs) rest) (sym (drop_at_index ls i l lt))
 
 pub settle_step : (r : ℕ) (hs : Homes) (ls : List LooseName) (i : ℕ) (l : LooseName) (d : ℕ) (rest : List DraftEntry) → i < length ls → d ≡ register_at hs (lent_text (get_or ls i l).name) → word_code (settle_form r d (form_of (get_or ls i l).form)) (settle_code r hs (looses_of (drop (i + 1) ls)) rest) ≡ settle_code r hs (looses_of (drop i ls)) rest
 settle_step r hs ls i l d rest lt f =
     ap (λ q. word_code (settle_form r q (form_of (get_or ls i l).form)) (settle_code r hs (looses_of (drop (i + 1) ls)) rest)) f
-    ∙ ap (λ (xs : List LooseName). settle_code r hs (looses_of xs) rest) (sym (here ls i l lt))
+    ∙ ap (λ (xs : List LooseName). settle_code r hs (looses_of xs) rest) (sym (drop_at_index ls i l lt))
 
 -- one name more, if the statements ask for no more of it
-looses_push : (ls : List LooseName) (l : LooseName) → looses_of (ls ++ l ∷ []) ≡ looses_of ls ++ loose_of l ∷ []
+pub looses_push : (ls : List LooseName) (l : LooseName) → looses_of (ls ++ l ∷ []) ≡ looses_of ls ++ loose_of l ∷ []
 looses_push [] l = refl
 looses_push (k ∷ ls) l = ap (λ m. loose_of k ∷ m) (looses_push ls l)
 
 module _ (s : Scope) (all : Block) (x : List ℕ) (t : Ty) (old new given : List LooseName) (l : LooseName) (v : Bool) (e : new ≡ old ++ l ∷ []) (f : loose_of l ≡ record { name = x; form = LowBits t }) (g : given ≡ new) (h : v ≡ covers_block (looses_of given) s all) where
-  more : looses_of new ≡ looses_of old ++ record { name = x; form = LowBits t } ∷ []
-  more = ap looses_of e ∙ looses_push old l ∙ ap (λ y. looses_of old ++ y ∷ []) f
+  looses_with_low_bits : looses_of new ≡ looses_of old ++ record { name = x; form = LowBits t } ∷ []
+  looses_with_low_bits = ap looses_of e ∙ looses_push old l ∙ ap (λ y. looses_of old ++ y ∷ []) f
 
   told : covers_block (looses_of old ++ record { name = x; form = LowBits t } ∷ []) s all ≡ v
-  told = sym (ap (λ ls. covers_block ls s all) (ap looses_of g ∙ more)) ∙ sym h
+  told = sym (ap (λ ls. covers_block ls s all) (ap looses_of g ∙ looses_with_low_bits)) ∙ sym h
 
   pub loosened_kept : v ≡ true → looses_of new ≡ loosened s all x (Some t) (looses_of old)
-  loosened_kept i = more ∙ sym (ap (λ b. if b then looses_of old ++ record { name = x; form = LowBits t } ∷ [] else looses_of old) (told ∙ i))
+  loosened_kept i = looses_with_low_bits ∙ sym (ap (λ b. if b then looses_of old ++ record { name = x; form = LowBits t } ∷ [] else looses_of old) (told ∙ i))
 
   pub loosened_left : (last : List LooseName) (n : ℕ) → v ≡ false → last ≡ take n new → n ≡ length old → looses_of last ≡ loosened s all x (Some t) (looses_of old)
   loosened_left last n i cut len = ap looses_of (cut ∙ back n old new (l ∷ []) len e) ∙ sym (ap (λ b. if b then looses_of old ++ record { name = x; form = LowBits t } ∷ [] else looses_of old) (told ∙ i))

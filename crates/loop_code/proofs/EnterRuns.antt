@@ -9,10 +9,10 @@ use Rattle.a64_code.specs.Table.{add, sub}
 use Rattle.kernel_tree.specs.declared.ops.Ty.{Ty}
 use Rattle.kernel_tree.specs.declared.ops.Ty.TheVariants as ty
 use Rattle.kernel_tree.specs.Typing.{Scope}
-use Rattle.kernel_tree.specs.Wrap.{bits_of}
+use Rattle.kernel_tree.specs.Wrap.{bits_of, byte_count, log_bytes}
 use Rattle.kernel_tree.proofs.Names.{bytes_swap}
 use Rattle.kernel_meaning.specs.Operators.{word}
-use Rattle.kernel_meaning.specs.Eval.{Names, value_at, byte_count}
+use Rattle.kernel_meaning.specs.Eval.{Names, value_at}
 use Rattle.kernel_meaning.specs.Iterate.{assigned}
 use Rattle.kernel_meaning.proofs.Residues.{word-below}
 use Rattle.label_fix.specs.DraftRun.{DraftEntry, Put, Laid, effect, word_of}
@@ -26,9 +26,9 @@ use Rattle.scalar_words.proofs.Binary.{word-difference}
 use Rattle.scalar_words.proofs.WordsRuns.{Sets}
 use Rattle.scalar_words.proofs.Constants.{word_back}
 use Rattle.value_code.proofs.Loads.{word-sum}
-use Rattle.loop_code.specs.Loop.{element_shift, enter_word, enter_code, AreHeldLoosely}
+use Rattle.loop_code.specs.Loop.{enter_word, enter_code, AreHeldLoosely}
 use Rattle.loop_code.proofs.StmtRuns.{held_assigned}
-use Rattle.loop_code.proofs.LooseNames.{AreOnce, first_in, before_none, past, added, told_changed, only_apart, entering_words, all_entering}
+use Rattle.loop_code.proofs.LooseNames.{AreOnce, first_in, before_none, loose_in_past, loose_in_of_push, told_changed, only_apart, entering_words, all_entering}
 
 -- no name of these is this one
 abbrev pub AreUnlike : List ℕ → List Loose → Type 0
@@ -45,7 +45,7 @@ wrote_sets D {s = s} d v u sized hi does is = record {
   shaped = λ h. wrote_shaped s d v (let w = word-below u in omega (arith, is, w)) h;
 }
 
-shifted_bytes : (t : Ty) (n : ℕ) → shifted_word 0 n (element_shift t) ≡ word (pos (byte_count t * n))
+shifted_bytes : (t : Ty) (n : ℕ) → shifted_word 0 n (log_bytes t) ≡ word (pos (byte_count t * n))
 shifted_bytes ty.I8 n = omega arith
 shifted_bytes other n = omega arith
 
@@ -64,8 +64,8 @@ module _ (D : Laid) where
   enter_sets : (f : Form) (q r n : ℕ) (z : ℤ) {rest : List DraftEntry} {s : State} → length s.x ≡ 31 → q ≤ 25 → n < 2 ^ 64 → x_at s q ≡ word z → x_at s r ≡ n → Sets D (word_code (enter_word r q f) rest) s rest q (entered f n z) (entering_words f)
   enter_sets (LowBits t) q r n z {s = s} sized hi small ez en = record { end = s; goes = stay 0; changes = record { memory = refl; sized = refl; frame = refl; others = λ r le ne. refl }; value = ez; shaped = λ h. h }
   enter_sets (Ahead t) q r n z {s = s} sized hi small ez en =
-      wrote_sets D {i = word_of add (q ∷ q ∷ element_shift t ∷ r ∷ 0 ∷ [])} q (sum (x_at s q) (shifted_word 0 (x_at s r) (element_shift t))) (z +ℤ pos (byte_count t * n)) sized hi refl
-      (ap₂ (λ a b. sum a (shifted_word 0 b (element_shift t))) ez en ∙ ap (sum (word z)) (shifted_bytes t n) ∙ sym (word-sum z (pos (byte_count t * n))))
+      wrote_sets D {i = word_of add (q ∷ q ∷ log_bytes t ∷ r ∷ 0 ∷ [])} q (sum (x_at s q) (shifted_word 0 (x_at s r) (log_bytes t))) (z +ℤ pos (byte_count t * n)) sized hi refl
+      (ap₂ (λ a b. sum a (shifted_word 0 b (log_bytes t))) ez en ∙ ap (sum (word z)) (shifted_bytes t n) ∙ sym (word-sum z (pos (byte_count t * n))))
   enter_sets Behind q r n z {s = s} sized hi small ez en =
       let low : word (pos n) ≡ n = mod-eq_of_lt small in
       let plain : shifted_word 0 n 0 ≡ n = omega (arith, small) in
@@ -111,8 +111,8 @@ module _ (D : Laid) (L : Layout) (fit : Assigned L) (hs : Homes) (sc : Scope) (p
       let is : z ≡ v = subst (λ o. Tells n o z v) none (told_at done n zs ns x itself told) in
       let k = enter_sets D l.form q r n z {rest = enter_code r hs ls rest} {s = s} sized found.high small (name_held hs zs x p s sized held one.1.0) bound in
       let more = done ++ l ∷ [] in
-      let tells : Tells n (loose_in more x) u v = subst (λ o. Tells n o u v) (sym (past done (l ∷ []) x none ∙ first_in l [])) (entered_tells l.form n z v is) in
-      let told1 = told_changed done more n x u hs zs ns p s (λ w e. added done l w e) one.2 held told tells in
+      let tells : Tells n (loose_in more x) u v = subst (λ o. Tells n o u v) (sym (loose_in_past done (l ∷ []) x none ∙ first_in l [])) (entered_tells l.form n z v is) in
+      let told1 = told_changed done more n x u hs zs ns p s (λ w e. loose_in_of_push done l w e) one.2 held told tells in
       let f = enter_runs ls more rest (assigned x u zs) ns k.end (k.changes.sized ∙ sized) are.1 unlike.1 (subst AreOnce (sym (append_assoc done (l ∷ []) ls)) once) (k.changes.others r bound_high (bound_apart x unlike.0 only) ∙ bound) told1 (held_assigned D L fit hs zs x u q p s k.end safe held k.changes k.value only) in
       record {
         end = f.end;

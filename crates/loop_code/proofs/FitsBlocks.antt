@@ -10,7 +10,7 @@ use Rattle.kernel_tree.specs.Items.{term_size, index_items, stream_offset, actio
 use Rattle.kernel_tree.specs.Typing.{Scope, Local, local, Role, Value, Condition, wanted, lookup, own, first, element_type, accumulator_type, index_type, side_type, insert_name, defined, left, after_action, after_block, after_otherwise, faults, as_value, name_faults, read_faults, inner_faults, target_faults, stream_faults, update_faults, twice, action_faults, block_faults, otherwise_faults}
 use Rattle.kernel_tree.proofs.Faultless.{nil-left, nil-right}
 use Rattle.kernel_tree.proofs.NoFault.{typed_some, kind_some}
-use Rattle.kernel_tree.proofs.Names.{bytes_same}
+use Rattle.kernel_tree.proofs.Names.{bytes_eq-refl}
 use Rattle.loop_form.specs.Entries.{Entry, inner_entries, term_entries, action_entries, block_entries, otherwise_entries}
 use Rattle.loop_form.specs.Listing.{last_use_from}
 use Rattle.loop_form.proofs.Numbers.{term-listed, action-listed, block-listed}
@@ -84,15 +84,15 @@ stream_fits item (Some c) A e a = (no_offset item c e, a)
 
 -- ---- names that are found stay
 
-found_step : (b : Bool) (x : List ℕ) (y : Home) (hs more : Homes) (p : ℕ) → is_home x y ≡ b → NameLasts (y ∷ hs) x p → (NameLasts hs x p → find (is_home x) (hs ++ more) ≡ find (is_home x) hs) → find (is_home x) ((y ∷ hs) ++ more) ≡ find (is_home x) (y ∷ hs)
-found_step true x y hs more p e h rest = ap (λ c. cond c (Some y) (find (is_home x) (hs ++ more))) e ∙ sym (ap (λ c. cond c (Some y) (find (is_home x) hs)) e)
-found_step false x y hs more p e h rest =
+home_found_of_cons : (b : Bool) (x : List ℕ) (y : Home) (hs more : Homes) (p : ℕ) → is_home x y ≡ b → NameLasts (y ∷ hs) x p → (NameLasts hs x p → find (is_home x) (hs ++ more) ≡ find (is_home x) hs) → find (is_home x) ((y ∷ hs) ++ more) ≡ find (is_home x) (y ∷ hs)
+home_found_of_cons true x y hs more p e h rest = ap (λ c. cond c (Some y) (find (is_home x) (hs ++ more))) e ∙ sym (ap (λ c. cond c (Some y) (find (is_home x) hs)) e)
+home_found_of_cons false x y hs more p e h rest =
     let l : NameLasts hs x p = subst (λ c. LastsAt (cond c (Some y) (find (is_home x) hs)) p) e h in
     ap (λ c. cond c (Some y) (find (is_home x) (hs ++ more))) e ∙ rest l ∙ sym (ap (λ c. cond c (Some y) (find (is_home x) hs)) e)
 
 found_more : (x : List ℕ) (hs more : Homes) (p : ℕ) → NameLasts hs x p → find (is_home x) (hs ++ more) ≡ find (is_home x) hs
 found_more x [] more p h = absurd h
-found_more x (y ∷ hs) more p h = found_step (is_home x y) x y hs more p refl h (found_more x hs more p)
+found_more x (y ∷ hs) more p h = home_found_of_cons (is_home x y) x y hs more p refl h (found_more x hs more p)
 
 index_more : (i : Option (List ℕ)) (hs more : Homes) (p : ℕ) → IndexAt hs i p → IndexAt (hs ++ more) i p
 index_more None hs more p h = h
@@ -124,7 +124,7 @@ module _ (k : Program) (R : ℕ → ℕ) (L : Layout) (all : List Entry) where
     term_used (Literal n) f b user role e c = (tt, tt)
     term_used (Variable x) f b user role e c =
         let n = known_name f (wanted role) (lookup S x) (nil-right (as_value f role) _ e) in
-        (name_lasts k R L all b0 user hs x n.0 (is_at k R L all b0 0 v hs x n.0 are n.1) (λ from. c.0 x from (bytes_same x)), tt)
+        (name_lasts k R L all b0 user hs x n.0 (is_at k R L all b0 0 v hs x n.0 are n.1) (λ from. c.0 x from (bytes_eq-refl x)), tt)
     term_used (Element a j) f b user role e c =
         let o = stream_offset i j in
         let fs = faults S f (Value (index_type S j)) j in

@@ -10,7 +10,7 @@ use Rattle.kernel_tree.specs.Typing.{Local, local, Value, lookup, insert_name, i
 use Rattle.kernel_tree.specs.Scopes.{locals_of, accs_of}
 use Rattle.kernel_tree.proofs.Faultless.{nil-left, nil-right, vars_faultless, for_loop_faultless, answer_faultless}
 use Rattle.kernel_tree.proofs.NoFault.{bound_known}
-use Rattle.kernel_tree.proofs.Names.{bytes_same, index_alone}
+use Rattle.kernel_tree.proofs.Names.{bytes_eq-refl, index_alone}
 use Rattle.loop_form.specs.Entries.{Entry, term_entries, params_entries, vars_entries, for_loop_entries, answer_entries, loop_entries, entries_of}
 use Rattle.loop_form.proofs.Numbers.{params-listed, vars-listed, term-listed, loop-listed}
 use Rattle.loop_form.proofs.NameUses.{AreUsesCounted, counted_left, counted_right, all_counted}
@@ -42,7 +42,7 @@ index_homeless R k l e loop =
     no_home-append l.index (param_homes 0 k.params) (var_homes R 0 k.vars) (no_param_home l.index 0 k.params alone.params) (no_var_home l.index R 0 k.vars alone.vars)
 
 index_found : (x : List ℕ) (hs : Homes) → NoHome x hs → find (is_home x) (hs ++ index_home x ∷ []) ≡ Some (index_home x)
-index_found x [] h = ap (λ c. cond c (Some (index_home x)) None) (bytes_same x)
+index_found x [] h = ap (λ c. cond c (Some (index_home x)) None) (bytes_eq-refl x)
 index_found x (y ∷ hs) h = ap (λ c. cond c (Some y) (find (is_home x) (hs ++ index_home x ∷ []))) h.0 ∙ index_found x hs h.1
 
 index_at : (x : List ℕ) (hs : Homes) (p : ℕ) → NoHome x hs → IndexAt (hs ++ index_home x ∷ []) (Some x) p
@@ -60,8 +60,8 @@ drop_none (x ∷ xs) = refl
 
 module _ (R : ℕ → ℕ) (k : Program) (L : Layout) (all : List Entry) where
   -- one accumulator more
-  one_more : (b j : ℕ) (v : List Local) (hs : Homes) (a : Accumulator) → AreHomes k R L all b 0 v hs → numbers 0 v ≡ j → j < length k.vars → AreHomes k R L all b 0 (v ++ local a.name (binding.Accumulator a.type) ∷ []) (hs ++ var_home R j a ∷ [])
-  one_more b j v hs a are n lt =
+  homes_of_var : (b j : ℕ) (v : List Local) (hs : Homes) (a : Accumulator) → AreHomes k R L all b 0 v hs → numbers 0 v ≡ j → j < length k.vars → AreHomes k R L all b 0 (v ++ local a.name (binding.Accumulator a.type) ∷ []) (hs ++ var_home R j a ∷ [])
+  homes_of_var b j v hs a are n lt =
       homes_on k R L all b 0 v (local a.name (binding.Accumulator a.type) ∷ []) hs (var_home R j a ∷ []) are
       (refl, (refl, ap (λ m. counted_x (R m)) (sym n), omega (arith, n, lt)), tt)
 
@@ -82,7 +82,7 @@ module _ (R : ℕ → ℕ) (k : Program) (L : Layout) (all : List Entry) where
       let f2 = nil-right (twice q S a.name) _ (nil-right (faults S b (Value (Some a.type)) a.init) _ f) in
       let h2 = sits_next L.untils q _ _ (sits_second all L.untils es _ b q (term_size (loop_index k) a.init) rest (term-listed k b q a.init (omega arith)).count refl h) in (
         value_stands k R L all v tk false hs b are (no_reads hs) a.init a.type b q _ (nil-left (faults S b (Value (Some a.type)) a.init) _ f) (sits_first all L.untils es _ b rest h) (counted_left all es _ c),
-        vars_fit vs (v ++ local a.name (binding.Accumulator a.type) ∷ []) (insert_name tk a.name) (hs ++ var_home R j a ∷ []) (j + 1) (q + 1) rest (one_more (q + 1) j v hs a (homes_later k R L all b (q + 1) 0 v hs (omega arith) are) n (omega (arith, le))) (one_number j v a n) (omega (arith, le)) f2 h2 (counted_right all es _ c).1,
+        vars_fit vs (v ++ local a.name (binding.Accumulator a.type) ∷ []) (insert_name tk a.name) (hs ++ var_home R j a ∷ []) (j + 1) (q + 1) rest (homes_of_var (q + 1) j v hs a (homes_later k R L all b (q + 1) 0 v hs (omega arith) are) n (omega (arith, le))) (one_number j v a n) (omega (arith, le)) f2 h2 (counted_right all es _ c).1,
       )
 
   module _ (few : length k.params ≤ 8) (accumulators : AccumulatorRegisters R L (length k.vars)) where
@@ -93,7 +93,7 @@ module _ (R : ℕ → ℕ) (k : Program) (L : Layout) (all : List Entry) where
         let later = homes_later k R L all b (q + 1) 0 v hs (omega arith) are in (
           are_safe k R L all few accumulators b 0 b v hs are (omega arith),
           others_new k R L all few accumulators (q + 1) 0 j (q + 1) v hs later (omega (arith, n)) (omega arith) (omega (arith, le)),
-          vars_safe vs (v ++ local a.name (binding.Accumulator a.type) ∷ []) (insert_name tk a.name) (hs ++ var_home R j a ∷ []) (j + 1) (q + 1) (one_more (q + 1) j v hs a later n (omega (arith, le))) (one_number j v a n) (omega (arith, le)),
+          vars_safe vs (v ++ local a.name (binding.Accumulator a.type) ∷ []) (insert_name tk a.name) (hs ++ var_home R j a ∷ []) (j + 1) (q + 1) (homes_of_var (q + 1) j v hs a later n (omega (arith, le))) (one_number j v a n) (omega (arith, le)),
         )
 
     answer_fits : (o : Option Returned) (v : List Local) (tk : List (List ℕ)) (hs : Homes) (b : ℕ) → AreHomes k R L all b 0 v hs → answer_faults (scope_at k v tk false) b o ≡ [] → Sits L.untils b (untils all (answer_entries k b o) []) → AreUsesCounted all (answer_entries k b o) → FitsAnswer L hs (scope_at k v tk false) b o

@@ -99,8 +99,8 @@ load_four [] = omega arith
 load_four (c ∷ cs) = let a = key_four c.key in let b = load_four cs in omega (arith, a, b)
 
 -- at most nine registers
-pub few_words : (R : ℕ → ℕ) (k : Program) → loading_words (held_numbers R k) ≤ 36
-few_words R k = let h = next_count (length k.params) 0 (held_numbers R k) (omega arith) (numbers_next R k) in let f = load_four (held_numbers R k) in omega (arith, h, f)
+pub loading_words_le_36 : (R : ℕ → ℕ) (k : Program) → loading_words (held_numbers R k) ≤ 36
+loading_words_le_36 R k = let h = next_count (length k.params) 0 (held_numbers R k) (omega arith) (numbers_next R k) in let f = load_four (held_numbers R k) in omega (arith, h, f)
 
 -- ---- registers that fit, with the numbers and what is held loosely
 

@@ -53,8 +53,8 @@ held_all [] (n ∷ ns) p s h = absurd h
 held_all (x ∷ hs) [] p s h = absurd h
 held_all (x ∷ hs) (n ∷ ns) p s h = (h.0, (λ l. h.1), held_all hs ns p s h.2)
 
-at_head : (L : Layout) (R : ℕ → ℕ) (k : Program) (i : ℕ) (names : Names) (m : Memory) (s : State) (p : ℕ) → AtIteration R k i names m s → At (fixed_at {L = plain L} i 0 s.x (plain_loaded L s.x)) (kernel_homes R k) (var_scope k).visible names m p s
-at_head L R k i names m s p at = record {
+iteration_at_head : (L : Layout) (R : ℕ → ℕ) (k : Program) (i : ℕ) (names : Names) (m : Memory) (s : State) (p : ℕ) → AtIteration R k i names m s → At (fixed_at {L = plain L} i 0 s.x (plain_loaded L s.x)) (kernel_homes R k) (var_scope k).visible names m p s
+iteration_at_head L R k i names m s p at = record {
   sized = at.sized;
   nine = at.index;
   args = λ r lt. refl;
@@ -131,7 +131,7 @@ module _ (R : ℕ → ℕ) (k : Program) (fit : KernelFits R k) where
       let a = ap (λ j. answer_size j k.answer) j in
       let t = iteration_size (var_scope k).index k.for_loop j in
       comes_within (4 * for_loop_size k.for_loop) (end_steps k) (omega (arith, t)) (omega (arith, a))
-      (for_loop_runs D L (assigned_with (layout_of_kernel R k) p (held_numbers R k) (held_loosely k) next fit.assigned) hs (var_scope k) fit.steady (λ b. safe_with (layout_of_kernel R k) (held_numbers R k) (held_loosely k) b hs (fit.safe b)) k.for_loop (loop_start k) n (loop_end k) k.answer rest s.x i names m s j (fits_for_loop L hs (var_scope k) (loop_start k) (loop_end k) k.answer k.for_loop fit.looped straight) res le (λ p. at_head L R k i names m s p at))
+      (for_loop_runs D L (assigned_with (layout_of_kernel R k) p (held_numbers R k) (held_loosely k) next fit.assigned) hs (var_scope k) fit.steady (λ b. safe_with (layout_of_kernel R k) (held_numbers R k) (held_loosely k) b hs (fit.safe b)) k.for_loop (loop_start k) n (loop_end k) k.answer rest s.x i names m s j (fits_for_loop L hs (var_scope k) (loop_start k) (loop_end k) k.answer k.for_loop fit.looped straight) res le (λ p. iteration_at_head L R k i names m s p at))
 
   pub scalar_runs : ScalarRuns R k
   scalar_runs = record {

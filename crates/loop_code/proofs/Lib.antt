@@ -1,6 +1,6 @@
 pub mod Initial
 pub mod ArrayWalk
-mod WalkParts
+pub mod WalkParts
 mod TermWalks
 mod LooseSteps
 pub mod FitsKernel

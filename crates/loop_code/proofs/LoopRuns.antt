@@ -207,11 +207,11 @@ module _ (D : Laid) (L : Layout) (fit : Assigned L) (hs : Homes) (s : Scope) (l 
   at_top : (following D (n + 2) ≡ top) × Resolves D top
   at_top = numbers_back D L.constants (Place (n + 2) ∷ top) (enter_back D limit homes L.loose filling res.1)
 
-  at_last : (following D (n + 3) ≡ settling) × Resolves D settling
-  at_last = back_from form (Place (n + 3) ∷ settling) (block_back D L fit l.body homes (in_loop s l) (n + 3) (b + 1) (n + 4) again at_top.1)
+  resolves_settling : (following D (n + 3) ≡ settling) × Resolves D settling
+  resolves_settling = back_from form (Place (n + 3) ∷ settling) (block_back D L fit l.body homes (in_loop s l) (n + 3) (b + 1) (n + 4) again at_top.1)
 
-  at_end : (following D (n + 1) ≡ leave) × Resolves D leave
-  at_end = settle_back D limit homes L.loose (Place (n + 1) ∷ leave) at_last.1
+  resolves_leave : (following D (n + 1) ≡ leave) × Resolves D leave
+  resolves_leave = settle_back D limit homes L.loose (Place (n + 1) ∷ leave) resolves_settling.1
 
   homes_safe : (p : ℕ) → b ≤ p → AreSafe L p homes
   homes_safe p le = safe_more L p hs (index_home l.index) (safe_later L hs b p le safe) (index_safe D L fit p l.index)
@@ -233,14 +233,14 @@ module _ (D : Laid) (L : Layout) (fit : Assigned L) (hs : Homes) (s : Scope) (l 
   unlike_of [] h = tt
   unlike_of (x ∷ ls) h = (loose_other (in_loop s l) x.name l.bound l.index x.form index bound_alone bound_known h.0.0, unlike_of ls h.1)
 
-  few_words : all_entering L.loose + all_settling L.loose + back_words form + loading_words L.constants + coded_block L.constants s.index l.body ≤ 4 * block_size s.index l.body + 3
-  few_words = let a = moving_few homes (in_loop s l) b l.index L.loose index fits.loosely in let k = fits.few in omega (arith, a, k)
+  loop_words_le : all_entering L.loose + all_settling L.loose + back_words form + loading_words L.constants + coded_block L.constants s.index l.body ≤ 4 * block_size s.index l.body + 3
+  loop_words_le = let a = moving_few homes (in_loop s l) b l.index L.loose index fits.loosely in let k = fits.few in omega (arith, a, k)
 
   -- with the loop variable
   leaves_with : {w : Fixed (bare L)} (names : Names) {m : Memory} {st : State} (i0 i k bg : ℕ) → bg ≡ i0 + k → At w homes (after_for_loop s (Some l)).visible (with_name l.index names (pos i)) m b st → Comes D leave st per once i0 (closed s l answer m names i bg)
   leaves_with names i0 i k bg e at =
       answer_runs D (bare L) (assigned_with L 0 [] (after_loop L.loose) tt fit) (after_for_loop s (Some l)) rest per i0 k bg b2 (n + 4 + block_labels s.index l.body) answer fits.answer_covered e (safe_with L [] (after_loop L.loose) b2 homes (homes_safe b2 fits.following))
-      (at_steady b2 (steady_more hs l.index steady) at) fits.answered at_end.1
+      (at_steady b2 (steady_more hs l.index steady) at) fits.answered resolves_leave.1
 
   -- the test of the loop
   test_flag : (st : State) (i bound : ℕ) → x_at st 9 ≡ i → x_at st limit ≡ bound → i < 2 ^ 64 → bound < 2 ^ 64 → holds 2 (tested st 9 limit).flags ≡ nat_le bound i
@@ -365,7 +365,7 @@ module _ (D : Laid) (L : Layout) (fit : Assigned L) (hs : Homes) (s : Scope) (l 
     iteration_ends {c = c} {st = st} {most = most} i count n0 p few xh xl lt eh el more (breaks {m = m} {names = names} end g at) =
         let e : take (length hs) names ≡ take n0 names = ap (λ k. take k names) (sym eh) in
         let q = settles_at (i + 1) i 0 (i + 1) (omega arith) (omega (arith, small, lt)) (subst (λ ns. At (now i) hs s.visible ns m b end) e at) in
-        let q1 = subst (λ es. Comes D es end per last (i + 1) (closed s l answer m (take n0 names) i (i + 1))) (sym at_last.0) q in
+        let q1 = subst (λ es. Comes D es end per last (i + 1) (closed s l answer m (take n0 names) i (i + 1))) (sym resolves_settling.0) q in
         comes_next (omega (arith, few)) g q1
     iteration_ends i count n0 p few xh xl lt eh el more (faults kind ok g) = faults_so 1 kind refl ok (stop_more (per * 1 + once) (omega (arith, few)) g)
 
@@ -404,7 +404,7 @@ module _ (D : Laid) (L : Layout) (fit : Assigned L) (hs : Homes) (s : Scope) (l 
           entries = top;
           end = k.end;
           goes = subst (λ es. Goes D tail st es k.end (back_words form)) at_top.0 k.goes;
-          comes = comes_more last (omega arith) (top_runs count i 0 names m k.end e (let f = few_words in omega (arith, f)) (stay 0) (at_kept L fit b b (omega arith) safe at k.kept) (λ names2 m2 st2 at2. tail_runs count (i + 1) names2 m2 st2 (omega (arith, e)) at2));
+          comes = comes_more last (omega arith) (top_runs count i 0 names m k.end e (let f = loop_words_le in omega (arith, f)) (stay 0) (at_kept L fit b b (omega arith) safe at k.kept) (λ names2 m2 st2 at2. tail_runs count (i + 1) names2 m2 st2 (omega (arith, e)) at2));
         }
 
   -- what stands in the registers at the first iteration
@@ -416,8 +416,8 @@ module _ (D : Laid) (L : Layout) (fit : Assigned L) (hs : Homes) (s : Scope) (l 
     known : lookup (in_loop s l) l.index ≡ Some binding.Index
     at : At {L = L} (record { index = word (standing_at form bound i); count = bound; args = end.x; loaded = loaded }) hs s.visible names m b end
 
-  begins : {w : Fixed (plain L)} {names : Names} {m : Memory} {st : State} (i bound : ℕ) → w.index ≡ i → i < bound → bound < 2 ^ 64 → x_at st limit ≡ bound → At w hs s.visible names m b st → Begun bound i names m st
-  begins {w = w} {names = names} {m = m} {st = st} i bound is lt small limited here =
+  iteration_begins : {w : Fixed (plain L)} {names : Names} {m : Memory} {st : State} (i bound : ℕ) → w.index ≡ i → i < bound → bound < 2 ^ 64 → x_at st limit ≡ bound → At w hs s.visible names m b st → Begun bound i names m st
+  iteration_begins {w = w} {names = names} {m = m} {st = st} i bound is lt small limited here =
       let lt64 : i < 2 ^ 64 = omega (arith, small, lt) in
       let x = l.index in
       let all = with_name x names (pos i) in
@@ -470,7 +470,7 @@ module _ (D : Laid) (L : Layout) (fit : Assigned L) (hs : Homes) (s : Scope) (l 
       let with_it = at_index D L fit i l.index (pos i) (sym (mod-eq_of_lt lt)) (subst (λ o. Tells 0 o (pos i) (pos i)) (sym none) refl) lt (at_bare L there) in
       let left : Comes D leave (jump t (address_of D (n + 1))) per once i (closed s l answer m names bound bound) = subst (λ k. Comes D leave (jump t (address_of D (n + 1))) per once i (closed s l answer m names k bound)) same (leaves_with names i i 0 bound (omega (arith, e)) with_it) in
       comes_after {a = 2} (omega arith) (chain 2 (omega arith) (tested_goes D _ st 9 limit) (taken_goes h))
-      (subst (λ es. Comes D es (jump t (address_of D (n + 1))) per once i (closed s l answer m names bound bound)) (sym at_end.0) left)
+      (subst (λ es. Comes D es (jump t (address_of D (n + 1))) per once i (closed s l answer m names bound bound)) (sym resolves_leave.0) left)
   loop_runs args small (suc count) i names m st e at =
       let bound = slice_index args limit in
       let lt : i < bound = omega (arith, e) in
@@ -478,6 +478,6 @@ module _ (D : Laid) (L : Layout) (fit : Assigned L) (hs : Homes) (s : Scope) (l 
       let t = tested st 9 limit in
       let h : holds 2 t.flags ≡ false = test_flag st i bound at.nine (at.args limit fits.bound_low) lt64 small ∙ lt-leb bound i lt in
       let here = test_at (next t).pc at in
-      let k = begins i bound refl lt small (here.args limit fits.bound_low) here in
-      let run = top_runs k.end.x k.loaded bound k.given small k.known count i (all_entering L.loose + loading_words L.constants) names m k.end e (let f = few_words in omega (arith, f)) k.goes k.at (λ names2 m2 st2 at2. tail_runs k.end.x k.loaded bound k.given small k.known count (i + 1) names2 m2 st2 (omega (arith, e)) at2) in
+      let k = iteration_begins i bound refl lt small (here.args limit fits.bound_low) here in
+      let run = top_runs k.end.x k.loaded bound k.given small k.known count i (all_entering L.loose + loading_words L.constants) names m k.end e (let f = loop_words_le in omega (arith, f)) k.goes k.at (λ names2 m2 st2 at2. tail_runs k.end.x k.loaded bound k.given small k.known count (i + 1) names2 m2 st2 (omega (arith, e)) at2) in
       comes_after {a = 2} (omega arith) (chain 2 (omega arith) (tested_goes D _ st 9 limit) (passed_goes h)) run

@@ -16,26 +16,21 @@ use Rattle.scalar_words.specs.Layout.{LowBits, Ahead, Behind, Form, Loose, loose
 use Rattle.scalar_words.specs.Words.{is_narrow}
 use Rattle.value_code.specs.declared.extent.Extent.TheVariants.{Whole}
 use Rattle.value_code.specs.Extents.{extent_at}
-use Rattle.value_code.specs.Covers.{is_whole, index_covers}
+use Rattle.value_code.specs.Covers.{is_whole}
 use Rattle.value_code.proofs.CodedSizes.{element_moves, term_moves, moved_few}
-use Rattle.value_code.proofs.CoversNone.{covers_none, covers_truth_none}
+use Rattle.value_code.proofs.CoversNone.{covers_none, covers_truth_none, index_by}
 use Rattle.loop_code.specs.Statements.{update_extent}
 use Rattle.loop_code.specs.Loosening.{covers_action, covers_block, covers_otherwise, narrow_at, gained, loosened, loosen_action, loosen_block, loosen_otherwise, element_arrays, put_ahead, with_array, term_arrays, action_arrays, block_arrays, otherwise_arrays, moved_names, keep_ahead, after_loop, covers_answer, may_move, counted_down, for_loop_loose, held_loosely}
 use Rattle.loop_code.specs.Loop.{IsFormed, form_words, moving_words}
 
 -- ---- no names that are held loosely
 
-index_none : (i : Option (List ℕ)) (want : Option Ty) (o : Option ℤ) (computed : Bool) → computed ≡ true → index_covers [] i None want o computed ≡ true
-index_none None want (Some c) computed e = refl
-index_none (Some x) want (Some c) computed e = refl
-index_none i want None computed e = e
-
 mutual
   action_none : (a : Action) (s : Scope) → covers_action [] s a ≡ true
   action_none (Define x t e) s = covers_none e s Whole (first t (own s e))
   action_none (Put a i e) s =
       let want = option_and_then element_type (lookup s a) in
-      and_from _ _ (index_none s.index want (stream_offset s.index i) _ (covers_none i s Whole (index_type s i))) (covers_none e s (extent_at want) want)
+      and_from _ _ (index_by s.index want (stream_offset s.index i) _ (covers_none i s Whole (index_type s i))) (covers_none e s (extent_at want) want)
   action_none (Update x op e) s = let want = option_and_then accumulator_type (lookup s x) in covers_none e s (update_extent [] x (operator_of op) want) want
   action_none (Choose c b d) s = and_from _ _ (covers_truth_none c s) (and_from _ _ (block_none b s) (otherwise_none d (left s (after_block s b))))
   action_none (Leave c) s = covers_truth_none c s
@@ -212,11 +207,11 @@ record Loosens (s : Scope) (all : Block) (ls ms : List Loose) (n : ℕ) : Type 0
   after : after_loop ms ≡ after_loop ls
   adds : Adds s ls ms n
 
-same : (s : Scope) (all : Block) (ls : List Loose) (n : ℕ) → Loosens s all ls ls n
-same s all ls n = record { covered = λ e. e; after = refl; adds = adds_none s ls n }
+loosens_nothing : (s : Scope) (all : Block) (ls : List Loose) (n : ℕ) → Loosens s all ls ls n
+loosens_nothing s all ls n = record { covered = λ e. e; after = refl; adds = adds_none s ls n }
 
-on : {s : Scope} {all : Block} {ls ms ks : List Loose} {m n : ℕ} (most : ℕ) → m + n ≤ most → Loosens s all ls ms m → Loosens s all ms ks n → Loosens s all ls ks most
-on most le j k = record { covered = λ e. k.covered (j.covered e); after = k.after ∙ j.after; adds = adds_on most le j.adds k.adds }
+loosens_then : {s : Scope} {all : Block} {ls ms ks : List Loose} {m n : ℕ} (most : ℕ) → m + n ≤ most → Loosens s all ls ms m → Loosens s all ms ks n → Loosens s all ls ks most
+loosens_then most le j k = record { covered = λ e. k.covered (j.covered e); after = k.after ∙ j.after; adds = adds_on most le j.adds k.adds }
 
 after_last : (ls : List Loose) (x : List ℕ) (t : Ty) → after_loop (ls ++ record { name = x; form = LowBits t } ∷ []) ≡ after_loop ls
 after_last [] x t = refl
@@ -224,7 +219,7 @@ after_last (l ∷ ls) x t = ap (keep_ahead l.form l) (after_last ls x t)
 
 one_step : (b : Bool) (s : Scope) (all : Block) (ls : List Loose) (x : List ℕ) (t : Ty) → covers_block (ls ++ record { name = x; form = LowBits t } ∷ []) s all ≡ b → loose_in ls x ≡ None → option_and_then accumulator_type (lookup s x) ≡ Some t → Loosens s all ls (if b then ls ++ record { name = x; form = LowBits t } ∷ [] else ls) 1
 one_step true s all ls x t e new is = record { covered = λ f. e; after = after_last ls x t; adds = adds_one s ls (record { name = x; form = LowBits t }) is new (omega arith) }
-one_step false s all ls x t e new is = same s all ls 1
+one_step false s all ls x t e new is = loosens_nothing s all ls 1
 
 narrow_is : (b : Bool) (t T : Ty) → (if b then Some t else None) ≡ Some T → t ≡ T
 narrow_is true t T e = cc
@@ -240,7 +235,7 @@ gained_step true false want T e = absurd cc
 gained_step false w want T e = absurd cc
 
 update_step : (s : Scope) (all : Block) (x : List ℕ) (o : Option Ty) (ls : List Loose) → ((T : Ty) → o ≡ Some T → (is_whole ls x ≡ true) × (option_and_then accumulator_type (lookup s x) ≡ Some T)) → Loosens s all ls (loosened s all x o ls) 1
-update_step s all x None ls f = same s all ls 1
+update_step s all x None ls f = loosens_nothing s all ls 1
 update_step s all x (Some t) ls f =
     let k = f t refl in
     one_step (covers_block (ls ++ record { name = x; form = LowBits t } ∷ []) s all) s all ls x t refl (whole_none (loose_in ls x) k.0) k.1
@@ -266,20 +261,20 @@ abbrev mutual
 
 mutual
   action_loosens : (a : Action) (s : Scope) (all : Block) (ls : List Loose) → Loosens s all ls (loosen_action s all a ls) (action_updates a)
-  action_loosens (Define x t e) s all ls = same s all ls 0
-  action_loosens (Put a i e) s all ls = same s all ls 0
+  action_loosens (Define x t e) s all ls = loosens_nothing s all ls 0
+  action_loosens (Put a i e) s all ls = loosens_nothing s all ls 0
   action_loosens (Update x op e) s all ls =
       let want = option_and_then accumulator_type (lookup s x) in
       update_step s all x (gained ls x (operator_of op) want) ls (λ T e. gained_step (binary_leaves (operator_of op)) (is_whole ls x) want T e)
-  action_loosens (Choose c b d) s all ls = on _ (omega arith) (block_loosens b s all ls) (otherwise_loosens d s all (loosen_block s all b ls))
-  action_loosens (Leave c) s all ls = same s all ls 0
+  action_loosens (Choose c b d) s all ls = loosens_then _ (omega arith) (block_loosens b s all ls) (otherwise_loosens d s all (loosen_block s all b ls))
+  action_loosens (Leave c) s all ls = loosens_nothing s all ls 0
 
   block_loosens : (b : Block) (s : Scope) (all : Block) (ls : List Loose) → Loosens s all ls (loosen_block s all b ls) (block_updates b)
-  block_loosens Done s all ls = same s all ls 0
-  block_loosens (Then a b) s all ls = on _ (omega arith) (action_loosens a s all ls) (block_loosens b s all (loosen_action s all a ls))
+  block_loosens Done s all ls = loosens_nothing s all ls 0
+  block_loosens (Then a b) s all ls = loosens_then _ (omega arith) (action_loosens a s all ls) (block_loosens b s all (loosen_action s all a ls))
 
   otherwise_loosens : (d : Otherwise) (s : Scope) (all : Block) (ls : List Loose) → Loosens s all ls (loosen_otherwise s all d ls) (otherwise_updates d)
-  otherwise_loosens Nothing s all ls = same s all ls 0
+  otherwise_loosens Nothing s all ls = loosens_nothing s all ls 0
   otherwise_loosens (Else b) s all ls = block_loosens b s all ls
 
 -- ---- elements, stores and updates are items

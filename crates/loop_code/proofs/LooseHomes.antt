@@ -10,7 +10,7 @@ use Rattle.kernel_tree.specs.Scopes.{locals_of, accs_of}
 use Rattle.kernel_tree.specs.Typing.{Scope, Local, Value, binding_of_shape, lookup, element_type, accumulator_type, insert_name, declared, faults, twice, vars_faults, params_faults, empty, param_scope, check_fault}
 use Rattle.kernel_tree.proofs.Faultless.{nil-left, nil-right, params_faultless, vars_faultless}
 use Rattle.kernel_tree.proofs.NoFault.{not_added}
-use Rattle.kernel_tree.proofs.Names.{bytes_swap, bytes_told, NoName, NoneNamed, vars_named, Untaken, untaken_before}
+use Rattle.kernel_tree.proofs.Names.{bytes_swap, bytes_eq-told, NoName, NoneNamed, vars_named, Untaken, untaken_before}
 use Rattle.loop_form.specs.Entries.{Entry}
 use Rattle.scalar_words.specs.KernelRegisters.{counted_x, param_homes, var_homes, kernel_homes}
 use Rattle.scalar_words.specs.Layout.{Form, LowBits, Ahead, Behind, Loose, Layout, Home, Homes, is_home, register_of, register_at, LastsAt, NameLasts}
@@ -96,7 +96,7 @@ named_last [] g h free = (tt, tt)
 named_last (y ∷ hs) g h free = (no_home-append y.name hs (g ∷ []) h.0 (bytes_swap y.name g.name free.0, tt), named_last hs g h.1 free.1)
 
 once_step : (b : Bool) (x : List ℕ) (y : Home) (hs : Homes) → bytes_eq y.name x ≡ b → NoHome y.name hs → IsOnce hs x → cond b (NoHome x hs) (IsOnce hs x)
-once_step true x y hs e free more = subst (λ z. NoHome z hs) (bytes_told y.name x e) free
+once_step true x y hs e free more = subst (λ z. NoHome z hs) (bytes_eq-told y.name x e) free
 once_step false x y hs e free more = more
 
 once_of : (hs : Homes) (x : List ℕ) → AreNamed hs → IsOnce hs x
@@ -147,13 +147,13 @@ others_from : (hs : Homes) (r p : ℕ) → NoRegister r hs → Others hs r p
 others_from [] r p h = tt
 others_from (y ∷ hs) r p h = ((λ lasts. h.0), others_from hs r p h.1)
 
-found_step : (b : Bool) (y : Home) (hs : Homes) (x : List ℕ) (p r : ℕ) → y.register ≢ r → LastsAt (cond b (Some y) (find (is_home x) hs)) p → (NameLasts hs x p → register_at hs x ≢ r) → unwrap_or (option_map register_of (cond b (Some y) (find (is_home x) hs))) 31 ≢ r
-found_step true y hs x p r ne lasts more = ne
-found_step false y hs x p r ne lasts more = more lasts
+other_register_of_cons : (b : Bool) (y : Home) (hs : Homes) (x : List ℕ) (p r : ℕ) → y.register ≢ r → LastsAt (cond b (Some y) (find (is_home x) hs)) p → (NameLasts hs x p → register_at hs x ≢ r) → unwrap_or (option_map register_of (cond b (Some y) (find (is_home x) hs))) 31 ≢ r
+other_register_of_cons true y hs x p r ne lasts more = ne
+other_register_of_cons false y hs x p r ne lasts more = more lasts
 
 found_other : (hs : Homes) (x : List ℕ) (p r : ℕ) → NoRegister r hs → NameLasts hs x p → register_at hs x ≢ r
 found_other [] x p r h lasts = absurd lasts
-found_other (y ∷ hs) x p r h lasts = found_step (is_home x y) y hs x p r h.0 lasts (found_other hs x p r h.1)
+found_other (y ∷ hs) x p r h lasts = other_register_of_cons (is_home x y) y hs x p r h.0 lasts (found_other hs x p r h.1)
 
 only_step : (b : Bool) (y : Home) (hs : Homes) (x : List ℕ) (p : ℕ) → NoRegister y.register hs → LastsAt (cond b (Some y) (find (is_home x) hs)) p → (NameLasts hs x p → Only hs x (register_at hs x) p)
     → OnlyIf b y hs (unwrap_or (option_map register_of (cond b (Some y) (find (is_home x) hs))) 31) p (Only hs x (unwrap_or (option_map register_of (cond b (Some y) (find (is_home x) hs))) 31) p)

@@ -9,7 +9,7 @@ use Rattle.kernel_tree.specs.declared.ops.Ty.TheVariants as ty
 use Rattle.kernel_tree.specs.declared.fault.Binding.{Binding}
 use Rattle.kernel_tree.specs.declared.fault.Binding.TheVariants as binding
 use Rattle.kernel_tree.specs.Typing.{Scope, Local, local, has_name, binding_of, lookup, element_type, accumulator_type}
-use Rattle.kernel_tree.proofs.Names.{bytes_same, bytes_swap, bytes_told}
+use Rattle.kernel_tree.proofs.Names.{bytes_eq-refl, bytes_swap, bytes_eq-told}
 use Rattle.kernel_meaning.specs.Operators.{word}
 use Rattle.kernel_meaning.specs.Eval.{Named, Names, is_named, value_at}
 use Rattle.kernel_meaning.specs.Iterate.{named, assigned}
@@ -33,7 +33,7 @@ once_of hs s p (l ∷ ls) h = (h.0.3, once_of hs s p ls h.1)
 
 -- the first, and those after it
 pub first_in : (l : Loose) (ls : List Loose) → loose_in (l ∷ ls) l.name ≡ Some l.form
-first_in l ls = ap (λ b. option_map loose_form (cond b (Some l) (find (is_loose l.name) ls))) (bytes_same l.name)
+first_in l ls = ap (λ b. option_map loose_form (cond b (Some l) (find (is_loose l.name) ls))) (bytes_eq-refl l.name)
 
 skip : (l : Loose) (ls : List Loose) (x : List ℕ) → bytes_eq l.name x ≡ false → loose_in (l ∷ ls) x ≡ loose_in ls x
 skip l ls x e = ap (λ b. option_map loose_form (cond b (Some l) (find (is_loose x) ls))) e
@@ -58,9 +58,9 @@ pub after_none : (done : List Loose) (l : Loose) (ls : List Loose) → AreOnce (
 after_none [] l ls h = h.0
 after_none (d ∷ done) l ls h = after_none done l ls h.1
 
-pub past : (done ls : List Loose) (x : List ℕ) → loose_in done x ≡ None → loose_in (done ++ ls) x ≡ loose_in ls x
-past [] ls x h = refl
-past (d ∷ done) ls x h = let k = unlike d done x h in skip d (done ++ ls) x k.0 ∙ past done ls x k.1
+pub loose_in_past : (done ls : List Loose) (x : List ℕ) → loose_in done x ≡ None → loose_in (done ++ ls) x ≡ loose_in ls x
+loose_in_past [] ls x h = refl
+loose_in_past (d ∷ done) ls x h = let k = unlike d done x h in skip d (done ++ ls) x k.0 ∙ loose_in_past done ls x k.1
 
 -- other names without one
 without_step : (b : Bool) (d : Loose) (o q : Option Loose) → option_map loose_form o ≡ option_map loose_form q → option_map loose_form (cond b (Some d) o) ≡ option_map loose_form (cond b (Some d) q)
@@ -71,8 +71,8 @@ pub without : (done : List Loose) (l : Loose) (ls : List Loose) (x : List ℕ) �
 without [] l ls x e = skip l ls x e
 without (d ∷ done) l ls x e = without_step (is_loose x d) d (find (is_loose x) (done ++ l ∷ ls)) (find (is_loose x) (done ++ ls)) (without done l ls x e)
 
-pub added : (done : List Loose) (l : Loose) (x : List ℕ) → bytes_eq l.name x ≡ false → loose_in done x ≡ loose_in (done ++ l ∷ []) x
-added done l x e = sym (without done l [] x e ∙ ap (λ ds. loose_in ds x) (append-nil done))
+pub loose_in_of_push : (done : List Loose) (l : Loose) (x : List ℕ) → bytes_eq l.name x ≡ false → loose_in done x ≡ loose_in (done ++ l ∷ []) x
+loose_in_of_push done l x e = sym (without done l [] x e ∙ ap (λ ds. loose_in ds x) (append-nil done))
 
 pub once_without : (done : List Loose) (l : Loose) (ls : List Loose) → AreOnce (done ++ l ∷ ls) → AreOnce (done ++ ls)
 once_without [] l ls h = h.1
@@ -97,7 +97,7 @@ changed_step true as' bs c x u y hs z n zs ns p s e f once held h tells rest =
     let en : is_named x n ≡ true = ap (λ y. bytes_eq y x) (sym h.0) ∙ ez in
     let free : NoHome x hs = subst (λ b. cond b (NoHome x hs) (IsOnce hs x)) e once in
     let value : value_at (n ∷ ns) x ≡ n.value = rw en refl in
-    let mine : Tells c (loose_in bs n.name) u n.value = subst (λ v. Tells c (loose_in bs n.name) u v) value (subst (λ y. Tells c (loose_in bs y) u (value_at (n ∷ ns) x)) (sym (bytes_told n.name x en)) tells) in
+    let mine : Tells c (loose_in bs n.name) u n.value = subst (λ v. Tells c (loose_in bs n.name) u v) value (subst (λ y. Tells c (loose_in bs y) u (value_at (n ∷ ns) x)) (sym (bytes_eq-told n.name x en)) tells) in
     subst (λ b. Told bs c (cond b (named z.name u ∷ zs) (z ∷ assigned x u zs)) (n ∷ ns)) (sym ez) (h.0, mine, told_other as' bs x c hs zs ns p s f free held.2 h.2)
 changed_step false as' bs c x u y hs z n zs ns p s e f once held h tells rest =
     let ez : is_named x z ≡ false = ap (λ y. bytes_eq y x) held.0 ∙ e in
@@ -134,7 +134,7 @@ others_apart [] y r p o lasts = absurd lasts
 others_apart (h ∷ hs) y r p o lasts = others_step (is_home y h) h hs y r p refl o.0 (others_apart hs y r p o.1) lasts
 
 only_step : (b : Bool) (h : Home) (hs : Homes) (x y : List ℕ) (r p : ℕ) → is_home x h ≡ b → bytes_eq y x ≡ false → OnlyIf b h hs r p (Only hs x r p) → (Only hs x r p → NameLasts hs y p → register_at hs y ≢ r) → NameLasts (h ∷ hs) y p → register_at (h ∷ hs) y ≢ r
-only_step true h hs x y r p e ne o rest lasts = home_step h hs y r p (ap (λ z. bytes_eq z y) (bytes_told h.name x e) ∙ bytes_swap y x ne) (others_apart hs y r p o.1) lasts
+only_step true h hs x y r p e ne o rest lasts = home_step h hs y r p (ap (λ z. bytes_eq z y) (bytes_eq-told h.name x e) ∙ bytes_swap y x ne) (others_apart hs y r p o.1) lasts
 only_step false h hs x y r p e ne o rest lasts = others_step (is_home y h) h hs y r p refl o.0 (rest o.1) lasts
 
 -- the register of another name
@@ -159,7 +159,7 @@ found_more [] gs y p l = absurd l
 found_more (h ∷ hs) gs y p l = more_step (is_home y h) h hs (hs ++ gs) y p refl (found_more hs gs y p) l
 
 free_step : (b : Bool) (h : Home) (hs : Homes) (x y : List ℕ) (p : ℕ) → is_home y h ≡ b → is_home x h ≡ false → (NameLasts hs y p → bytes_eq y x ≡ false) → NameLasts (h ∷ hs) y p → bytes_eq y x ≡ false
-free_step true h hs x y p e free f l = ap (λ z. bytes_eq z x) (sym (bytes_told h.name y e)) ∙ free
+free_step true h hs x y p e free f l = ap (λ z. bytes_eq z x) (sym (bytes_eq-told h.name y e)) ∙ free
 free_step false h hs x y p e free f l = f (subst (λ c. LastsAt (cond c (Some h) (find (is_home y) hs)) p) e l)
 
 -- a name of a home is not one of none
@@ -180,7 +180,7 @@ look_more (v ∷ vs) ws x bd h = look_step (has_name x v) v vs (vs ++ ws) x bd r
 
 -- the loop variable, where no home has its name
 pub index_looked : (ls : List Loose) (c : ℕ) (hs : Homes) (zs ns : Names) (vs : List Local) (x : List ℕ) (p : ℕ) (s : State) → NoHome x hs → AreInRegisters hs zs p s → Told ls c zs ns → AreRanged vs ns → option_map binding_of (find (has_name x) (vs ++ local x binding.Index ∷ [])) ≡ Some binding.Index
-index_looked ls c hs [] [] [] x p s free held told ranged = ap (λ b. option_map binding_of (cond b (Some (local x binding.Index)) None)) (bytes_same x)
+index_looked ls c hs [] [] [] x p s free held told ranged = ap (λ b. option_map binding_of (cond b (Some (local x binding.Index)) None)) (bytes_eq-refl x)
 index_looked ls c hs [] [] (v ∷ vs) x p s free held told ranged = absurd ranged
 index_looked ls c hs [] (n ∷ ns) vs x p s free held told ranged = absurd told
 index_looked ls c hs (z ∷ zs) [] vs x p s free held told ranged = absurd told
@@ -193,8 +193,8 @@ index_looked ls c (h ∷ hs) (z ∷ zs) (n ∷ ns) (v ∷ vs) x p s free held to
 -- no name that is held loosely is a scalar
 scalar_other : (b : Bool) (s : Scope) (x y i : List ℕ) (f : Form) → bytes_eq x y ≡ b → s.index ≡ Some i → bytes_eq i y ≡ false → lookup s y ≡ Some (binding.Scalar ty.U64) → IsFormed s x f → b ≡ false
 scalar_other false s x y i f e at ne known h = refl
-scalar_other true s x y i (LowBits t) e at ne known h = let k : None ≡ Some t = ap (option_and_then accumulator_type) (sym known) ∙ ap (λ z. option_and_then accumulator_type (lookup s z)) (sym (bytes_told x y e)) ∙ h in absurd cc
-scalar_other true s x y i (Ahead t) e at ne known h = let k : None ≡ Some t = ap (option_and_then element_type) (sym known) ∙ ap (λ z. option_and_then element_type (lookup s z)) (sym (bytes_told x y e)) ∙ h in absurd cc
+scalar_other true s x y i (LowBits t) e at ne known h = let k : None ≡ Some t = ap (option_and_then accumulator_type) (sym known) ∙ ap (λ z. option_and_then accumulator_type (lookup s z)) (sym (bytes_eq-told x y e)) ∙ h in absurd cc
+scalar_other true s x y i (Ahead t) e at ne known h = let k : None ≡ Some t = ap (option_and_then element_type) (sym known) ∙ ap (λ z. option_and_then element_type (lookup s z)) (sym (bytes_eq-told x y e)) ∙ h in absurd cc
 scalar_other true s x y i Behind e at ne known h = let k : Some i ≡ Some x = sym at ∙ h in let q : i ≡ x = cc in sym e ∙ ap (λ z. bytes_eq z y) (sym q) ∙ ne
 
 pub loose_other : (s : Scope) (x y i : List ℕ) (f : Form) → s.index ≡ Some i → bytes_eq i y ≡ false → lookup s y ≡ Some (binding.Scalar ty.U64) → IsFormed s x f → bytes_eq x y ≡ false
@@ -215,7 +215,7 @@ formed_index s (Ahead t) x y e known h = let k : None ≡ Some t = ap (option_an
 formed_index s Behind x y e known h = tt
 
 counted_step : (b : Bool) (s : Scope) (l : Loose) (ls : List Loose) (x : List ℕ) → is_loose x l ≡ b → lookup s x ≡ Some binding.Index → IsFormed s l.name l.form → IsCounted (loose_in ls x) → IsCounted (option_map loose_form (cond b (Some l) (find (is_loose x) ls)))
-counted_step true s l ls x e known h rest = formed_index s l.form l.name x (bytes_told l.name x e) known h
+counted_step true s l ls x e known h rest = formed_index s l.form l.name x (bytes_eq-told l.name x e) known h
 counted_step false s l ls x e known h rest = rest
 
 pub index_counted : (hs : Homes) (s : Scope) (p : ℕ) (x : List ℕ) (ls : List Loose) → lookup s x ≡ Some binding.Index → AreHeldLoosely hs s p ls → IsCounted (loose_in ls x)
@@ -223,7 +223,7 @@ index_counted hs s p x [] known h = tt
 index_counted hs s p x (l ∷ ls) known h = counted_step (is_loose x l) s l ls x refl known h.0.0 (index_counted hs s p x ls known h.1)
 
 ahead_step : (b : Bool) (s : Scope) (t : Ty) (l : Loose) (ls : List Loose) (x : List ℕ) → is_loose x l ≡ b → lookup s x ≡ Some binding.Index → IsFormed s l.name (Ahead t) → loose_in ls x ≡ None → option_map loose_form (cond b (Some l) (find (is_loose x) ls)) ≡ None
-ahead_step true s t l ls x e known h rest = absurd (formed_index s (Ahead t) l.name x (bytes_told l.name x e) known h)
+ahead_step true s t l ls x e known h rest = absurd (formed_index s (Ahead t) l.name x (bytes_eq-told l.name x e) known h)
 ahead_step false s t l ls x e known h rest = rest
 
 kept_step : (f : Form) (s : Scope) (l : Loose) (ls : List Loose) (x : List ℕ) → lookup s x ≡ Some binding.Index → IsFormed s l.name f → loose_in ls x ≡ None → loose_in (keep_ahead f l ls) x ≡ None
@@ -355,11 +355,11 @@ all_sum (l ∷ ls) = let a = form_sum l.form in let b = all_sum ls in omega (ari
 behind_name : (s : Scope) (f : Form) (x y : List ℕ) → s.index ≡ Some y → IsFormed s x f → bytes_eq x y ≡ false → behind_words f ≡ 0
 behind_name s (LowBits t) x y at h ne = refl
 behind_name s (Ahead t) x y at h ne = refl
-behind_name s Behind x y at h ne = let k : Some y ≡ Some x = sym at ∙ h in let q : y ≡ x = cc in let e : true ≡ false = sym (bytes_same x) ∙ ap (bytes_eq x) (sym q) ∙ ne in absurd cc
+behind_name s Behind x y at h ne = let k : Some y ≡ Some x = sym at ∙ h in let q : y ≡ x = cc in let e : true ≡ false = sym (bytes_eq-refl x) ∙ ap (bytes_eq x) (sym q) ∙ ne in absurd cc
 
 saved_step : (b : Bool) (s : Scope) (l : Loose) (ls : List Loose) (x : List ℕ) → is_loose x l ≡ b → s.index ≡ Some x → IsFormed s l.name l.form → loose_in ls l.name ≡ None → all_behind ls ≤ saved_words (loose_in ls x) → all_behind (l ∷ ls) ≤ saved_words (option_map loose_form (cond b (Some l) (find (is_loose x) ls)))
 saved_step true s l ls x e at h none rest =
-    let k : saved_words (loose_in ls x) ≡ 0 = ap saved_words (ap (loose_in ls) (sym (bytes_told l.name x e)) ∙ none) in
+    let k : saved_words (loose_in ls x) ≡ 0 = ap saved_words (ap (loose_in ls) (sym (bytes_eq-told l.name x e)) ∙ none) in
     omega (arith, k, rest)
 saved_step false s l ls x e at h none rest = let k = behind_name s l.form l.name x at h e in omega (arith, k, rest)
 

@@ -7,6 +7,7 @@ use Rattle.kernel_tree.specs.declared.ops.BinaryOp.{BinaryOp}
 use Rattle.kernel_tree.specs.declared.ops.UpdateOp.{UpdateOp}
 use Rattle.kernel_tree.specs.Plain.{Term, Block, Update}
 use Rattle.kernel_tree.specs.Typing.{Scope, lookup, accumulator_type}
+use Rattle.kernel_tree.proofs.Walks.{update_type}
 use Rattle.kernel_scope.specs.Scopes.{in_body}
 use Rattle.kernel_meaning.specs.Operators.{operator_of}
 use Rattle.kernel_meaning.specs.TypeValues.{binary_leaves}
@@ -19,7 +20,7 @@ use Rattle.value_code.specs.Extents.{binary_extent}
 use Rattle.value_code.specs.Covers.{held_extent, is_enough, is_whole, covers}
 use Rattle.loop_code.specs.Statements.{update_extent}
 use Rattle.loop_code.specs.Loosening.{narrow_at, gained, loosened, covers_action}
-use Rattle.loop_code.proofs.Emission.{update_type}
+use Rattle.loop_code.proofs.Emission.{looses_push}
 
 -- ---- the accumulator of an update that would have to extend it
 
@@ -62,9 +63,5 @@ covers_update_not ls s x by op e f w asked want b h1 h2 h3 h4 h5 h6 h7 =
 
 -- ---- one name more
 
-looses_more : (ls : List LooseName) (l : LooseName) → looses_of (ls ++ l ∷ []) ≡ looses_of ls ++ loose_of l ∷ []
-looses_more [] l = refl
-looses_more (k ∷ ls) l = ap (λ m. loose_of k ∷ m) (looses_more ls l)
-
 pub pushed : (old new : List LooseName) (l : LooseName) (m : Loose) → new ≡ old ++ l ∷ [] → loose_of l ≡ m → looses_of new ≡ looses_of old ++ m ∷ []
-pushed old new l m e f = ap looses_of e ∙ looses_more old l ∙ ap (λ y. looses_of old ++ y ∷ []) f
+pushed old new l m e f = ap looses_of e ∙ looses_push old l ∙ ap (λ y. looses_of old ++ y ∷ []) f

@@ -29,7 +29,7 @@ use Rattle.value_code.proofs.Loose.{wrap-alike}
 use Rattle.loop_code.specs.Loosening.{keep_ahead, after_loop}
 use Rattle.loop_code.specs.Loop.{settle_form, settle_code, IsFormed, AreHeldLoosely}
 use Rattle.loop_code.proofs.StmtRuns.{held_assigned}
-use Rattle.loop_code.proofs.LooseNames.{AreOnce, first_in, before_none, after_none, past, without, once_without, told_changed, settling_words, all_settling}
+use Rattle.loop_code.proofs.LooseNames.{AreOnce, first_in, before_none, after_none, loose_in_past, without, once_without, told_changed, settling_words, all_settling}
 use Rattle.loop_code.proofs.EnterRuns.{AreUnlike, wrote_sets, bound_apart}
 
 type_wraps : (t : Ty) (z v : ℤ) → word z % 2 ^ bits_of t ≡ word v % 2 ^ bits_of t → wrap t z ≡ wrap t v
@@ -71,7 +71,7 @@ module _ (D : Laid) (L : Layout) (fit : Assigned L) (hs : Homes) (sc : Scope) (p
       let q = register_at hs x in
       let v = value_at ns x in
       let only = are.0.1.1 in
-      let none : loose_in (done ++ ls) x ≡ None = past done ls x (before_none done l ls once) ∙ after_none done l ls once in
+      let none : loose_in (done ++ ls) x ≡ None = loose_in_past done ls x (before_none done l ls once) ∙ after_none done l ls once in
       let tells : Tells n (loose_in (done ++ ls) x) v v = subst (λ o. Tells n o v v) (sym none) refl in
       let told1 = told_changed (done ++ l ∷ ls) (done ++ ls) n x v hs zs ns p s (λ w e. without done l ls w e) are.0.2 held told tells in
       let f = more (assigned x v zs) k.end (k.changes.sized ∙ sized) (once_without done l ls once) (k.changes.others r bound_high (bound_apart D L fit hs sc p safe y r n lasts same small x unlike.0 only) ∙ bound) told1 (held_assigned D L fit hs zs x v q p s k.end safe held k.changes k.value only) in
@@ -95,7 +95,7 @@ module _ (D : Laid) (L : Layout) (fit : Assigned L) (hs : Homes) (sc : Scope) (p
       let found = name_found L hs x p p (omega arith) safe are.0.1.0 in
       let type = acc_value t (lookup sc x) (subst (IsFormed sc x) e are.0.0) in
       let range : IsOf t v = subst (λ o. TypeRange o v) type (name_range sc.visible ns x ranged) in
-      let tells : Tells n (Some (LowBits t)) z v = subst (λ o. Tells n o z v) (past done (l ∷ ls) x (before_none done l ls once) ∙ first_in l ls ∙ ap Some e) (told_found (done ++ l ∷ ls) n hs zs ns x p p s held are.0.1.0 told) in
+      let tells : Tells n (Some (LowBits t)) z v = subst (λ o. Tells n o z v) (loose_in_past done (l ∷ ls) x (before_none done l ls once) ∙ first_in l ls ∙ ap Some e) (told_found (done ++ l ∷ ls) n hs zs ns x p p s held are.0.1.0 told) in
       let k = extended_sets D L fit {rest = settle_code r hs ls rest} {s = s} t (register_at hs x) z sized (let hi = found.high in omega (arith, hi)) (name_held hs zs x p s sized held are.0.1.0) in
       settle_more l ls done rest zs ns s 1 sized are unlike once bound told held
       (record { end = k.end; goes = k.goes; changes = k.changes; value = k.value ∙ ap word (type_wraps t z v tells ∙ wrap-of t v range); shaped = k.shaped }) (more done)
@@ -108,7 +108,7 @@ module _ (D : Laid) (L : Layout) (fit : Assigned L) (hs : Homes) (sc : Scope) (p
       let z = value_at zs x in
       let v = value_at ns x in
       let found = name_found L hs x p p (omega arith) safe are.0.1.0 in
-      let tells : Tells n (Some Behind) z v = subst (λ o. Tells n o z v) (past done (l ∷ ls) x (before_none done l ls once) ∙ first_in l ls ∙ ap Some e) (told_found (done ++ l ∷ ls) n hs zs ns x p p s held are.0.1.0 told) in
+      let tells : Tells n (Some Behind) z v = subst (λ o. Tells n o z v) (loose_in_past done (l ∷ ls) x (before_none done l ls once) ∙ first_in l ls ∙ ap Some e) (told_found (done ++ l ∷ ls) n hs zs ns x p p s held are.0.1.0 told) in
       let back : z +ℤ pos n ≡ v = omega (arith, ints, tells) in
       let low : word (pos n) ≡ n = mod-eq_of_lt small in
       let plain : shifted_word 0 n 0 ≡ n = omega (arith, small) in

@@ -15,7 +15,7 @@ use Rattle.scalar_words.specs.Layout.{Key, OfNumber, OfAddress, Constant, Layout
 use Rattle.scalar_words.proofs.LayoutStates.{Assigned, key_word, AreInRegisters, wrote, wrote_same, wrote_other, wrote_sized}
 use Rattle.scalar_words.proofs.Constants.{const_back, const_fills}
 use Rattle.scalar_words.proofs.Pieces.{const_put}
-use Rattle.scalar_words.proofs.WordCounts.{within, const_words}
+use Rattle.scalar_words.proofs.WordCounts.{le_of_le_of_le, const_words}
 use Rattle.value_code.specs.ItemWords.{add_word}
 use Rattle.value_code.specs.HeldNumbers.{IsReached, AreNext, key_words, loading_words}
 use Rattle.value_code.proofs.Loads.{word-sum}
@@ -40,7 +40,7 @@ key_size (OfAddress q c) d rest k h = omega (arith, h)
 
 pub numbers_words : (cs : List Constant) (rest : List DraftEntry) (k : ℕ) → size rest ≤ k → size (numbers_code cs rest) ≤ loading_words cs + k
 numbers_words [] rest k h = omega (arith, h)
-numbers_words (c ∷ cs) rest k h = within (omega arith) (key_size c.key c.register (numbers_code cs rest) (loading_words cs + k) (numbers_words cs rest k h))
+numbers_words (c ∷ cs) rest k h = le_of_le_of_le (omega arith) (key_size c.key c.register (numbers_code cs rest) (loading_words cs + k) (numbers_words cs rest k h))
 
 key_put : (P : List DraftEntry → Type 0) → ((i : Listed) (rest : List DraftEntry) → P rest → P (Put i ∷ rest)) → (z : Key) (d : ℕ) (rest : List DraftEntry) → P rest → P (key_code z d rest)
 key_put P put (OfNumber z) d rest h = const_put P put d (word z) rest h

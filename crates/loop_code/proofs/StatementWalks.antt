@@ -1,17 +1,16 @@
 -- Statements gone over one after another, put together.
-use Rattle.std.proofs.Common.{◌≡◌, Bool, true, false, ℕ, ◌+◌, ◌<◌, List, ◌++◌, Option, length, drop, get_or, refl, sym, ap, ap₂, ◌∙◌, arith}
+use Rattle.std.proofs.Common.{◌≡◌, Bool, true, ℕ, ◌+◌, List, ◌++◌, Option, refl, sym, ap, ap₂, ◌∙◌, arith}
 use Rattle.std.specs.Prelude.{◌&&◌, option_and_then}
+use Rattle.std.proofs.Math.Bool.{and_assoc}
 use Rattle.kernel_tree.specs.declared.ops.Ty.{Ty}
 use Rattle.kernel_tree.specs.declared.ops.BinaryOp.{BinaryOp}
 use Rattle.kernel_tree.specs.declared.ops.UpdateOp.{UpdateOp}
 use Rattle.kernel_meaning.specs.Operators.{operator_of}
-use Rattle.kernel_tree.specs.declared.ast.Stmt.{Stmt}
-use Rattle.kernel_tree.specs.Plain.{Action, Update, Choose, Block, Then, Term, Nothing, Else, action_of, block_of}
+use Rattle.kernel_tree.specs.Plain.{Action, Update, Choose, Block, Then, Term, Nothing, Else}
 use Rattle.kernel_tree.specs.Items.{action_size, block_size}
 use Rattle.kernel_tree.specs.Typing.{Scope, lookup, accumulator_type, left, after_action, after_block}
+use Rattle.kernel_tree.proofs.Scopes.{index_after}
 use Rattle.kernel_scope.specs.Scopes.{in_body}
-use Rattle.kernel_scope.proofs.Growth.{index_after_action}
-use Rattle.loop_form.proofs.LoopLists.{next-entry}
 use Rattle.label_fix.specs.DraftRun.{DraftEntry}
 use Rattle.scalar_words.specs.Layout.{Constant, Form, Loose, loose_in, Layout, Homes}
 use Rattle.value_code.specs.declared.extent.Extent.{Extent}
@@ -21,9 +20,7 @@ use Rattle.value_code.specs.HeldNumbers.{hold_term}
 use Rattle.loop_code.specs.Statements.{update_extent, after_homes, block_homes, action_labels, block_labels, action_code, block_code}
 use Rattle.loop_code.specs.LoopNumbers.{hold_action, hold_block}
 use Rattle.loop_code.specs.Loosening.{loosen_action, loosen_block, covers_action, covers_block, term_arrays, action_arrays, block_arrays}
-
-pub next_statement : (xs : List Stmt) (i : ℕ) (x : Stmt) → i < length xs → x ≡ get_or xs i x → block_of (drop i xs) ≡ Then (action_of x) (block_of (drop (i + 1) xs))
-next_statement xs i x h g = ap block_of (next-entry xs i x h g)
+use Rattle.loop_code.proofs.WalkParts.{and_true}
 
 -- ---- the code
 
@@ -39,8 +36,8 @@ pub emits_on : (L : Layout) (s t : Scope) (hs hs2 : Homes) (exit b b2 n n2 : ℕ
 emits_on L s t hs hs2 exit b b2 n n2 ds ds2 a more x e f h i k g = record {
   scope = rw (e, f) refl;
   homes = rw (e, f, h, i) refl;
-  item = rw (e, f, i) (rw (index_after_action s a) (omega arith));
-  labels = rw (e, f, k) (rw (index_after_action s a) (omega arith));
+  item = rw (e, f, i) (rw (index_after s a) (omega arith));
+  labels = rw (e, f, k) (rw (index_after s a) (omega arith));
   code = λ rest. rw (e, f, h, i, k) (g _);
 }
 
@@ -76,19 +73,11 @@ covers_update_is ls s x by op e f w asked want b c h1 h2 h3 h4 h5 h6 h7 h8 =
     let j : is_enough (loose_in ls x) most ≡ true = ap₂ is_enough (sym h1) (sym i) ∙ sym h6 ∙ h7 in
     h8 ∙ ap₂ (λ (a : Extent) (t : Option Ty). covers ls s a t e) i h3 ∙ ap (λ v. v && covers ls s most ty e) (sym j)
 
-and-true : (b : Bool) → b ≡ (b && true)
-and-true true = refl
-and-true false = refl
-
-and-assoc : (a b c : Bool) → ((a && b) && c) ≡ (a && (b && c))
-and-assoc true b c = refl
-and-assoc false b c = refl
-
 pub covers_one : (ls : List Loose) (s : Scope) (a : Action) (c : Term) (b : Block) (truth first : Bool) → a ≡ Choose c b Nothing → truth ≡ covers_truth ls s c → first ≡ (truth && covers_block ls s b) → first ≡ covers_action ls s a
-covers_one ls s a c b truth first is e f = rw (is, f, e) (ap (λ v. covers_truth ls s c && v) (and-true (covers_block ls s b)))
+covers_one ls s a c b truth first is e f = rw (is, f, e) (ap (λ v. covers_truth ls s c && v) (and_true (covers_block ls s b)))
 
 pub covers_two : (ls : List Loose) (s t : Scope) (a : Action) (c : Term) (b d : Block) (truth first last : Bool) → a ≡ Choose c b (Else d) → truth ≡ covers_truth ls s c → t ≡ left s (after_block s b) → first ≡ (truth && covers_block ls s b) → last ≡ (first && covers_block ls t d) → last ≡ covers_action ls s a
-covers_two ls s t a c b d truth first last is e g f h = rw (is, h, f, e, g) (and-assoc (covers_truth ls s c) (covers_block ls s b) (covers_block ls (left s (after_block s b)) d))
+covers_two ls s t a c b d truth first last is e g f h = rw (is, h, f, e, g) (and_assoc (covers_truth ls s c) (covers_block ls s b) (covers_block ls (left s (after_block s b)) d))
 
 -- ---- which accumulators are held loosely
 

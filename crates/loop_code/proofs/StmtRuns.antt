@@ -1,6 +1,6 @@
 -- What the code of statements does.
 use Rattle.std.proofs.Common.{◌≡◌, ℕ, suc, ◌+◌, ◌/◌, ◌%◌, ◌^◌, ◌<◌, ◌≤◌, Bool, true, false, cond, List, [], ◌∷◌, ◌++◌, length, take, Option, Some, None, Result, Ok, Err, inl, inr, refl, sym, ap, ap₂, ◌∙◌, subst, arith, ⊎_elim}
-use Rattle.std.specs.Prelude.{ℤ, pos, ◌+ℤ◌, ◌*ℤ◌, is_none, option_and_then, nat_lt, bytes_eq, slice_index, if◌then◌else◌}
+use Rattle.std.specs.Prelude.{ℤ, pos, ◌+ℤ◌, ◌*ℤ◌, option_and_then, nat_lt, bytes_eq, slice_index, if◌then◌else◌}
 use Rattle.std.proofs.lemmas.Bool.{and_parts, cases_lt, lt-ltb, le-ltb}
 use Rattle.guest_types.specs.declared.memory.AccessFault.{AccessFault}
 use Rattle.guest_types.specs.Memory.{Memory, stored, put_number, put_byte, next_address, first_fault, can_write}
@@ -12,17 +12,18 @@ use Rattle.machine_model.specs.Machine.{State, Step, Went, Stopped, x_at, x_or_s
 use Rattle.machine_model.specs.Arithmetic.{sum}
 use Rattle.machine_model.specs.Effects.{store_from}
 use Rattle.machine_model.specs.Run.{IsAccess}
+use Rattle.machine_model.proofs.StateLaws.{x_or_sp-low}
 use Rattle.kernel_tree.specs.declared.ops.Ty.{Ty}
 use Rattle.kernel_tree.specs.declared.ops.BinaryOp.{BinaryOp}
 use Rattle.kernel_tree.specs.Plain.{Term, Action, Define, Put as PutTo, Update, Choose, Leave, Block, Done, Then, Otherwise, Nothing, Else}
 use Rattle.kernel_tree.specs.Items.{term_size, action_size, block_size, otherwise_size, stream_offset}
-use Rattle.kernel_tree.specs.Wrap.{wrap, bits_of}
+use Rattle.kernel_tree.specs.Wrap.{wrap, bits_of, byte_count}
 use Rattle.kernel_tree.specs.declared.ops.UpdateOp.{UpdateOp}
 use Rattle.kernel_tree.specs.Typing.{Scope, Local, lookup, own, first, element_type, accumulator_type, index_type, after_action, after_block, left, defined}
 use Rattle.kernel_tree.proofs.Scopes.{index_after}
 use Rattle.kernel_meaning.specs.Ends.{BlockEnd, Next, Broke, Faulted}
 use Rattle.kernel_meaning.specs.Operators.{word, binary_on, operator_of}
-use Rattle.kernel_meaning.specs.Eval.{Named, Names, is_named, value_at, iteration, element_number, address, byte_count, value}
+use Rattle.kernel_meaning.specs.Eval.{Named, Names, is_named, value_at, iteration, element_number, address, value}
 use Rattle.kernel_meaning.specs.Iterate.{named, with_name, assigned, cut, define, update, write, put, choose, leave, then_do, act, do_block, do_otherwise}
 use Rattle.label_fix.specs.DraftRun.{DraftEntry, Put, Branch, Place, Always, Laid, following, address_of, effect}
 use Rattle.label_fix.proofs.StretchSteps.{Goes, Stops, Resolves, stay, chain, put_goes, put_stops, stop_after, stop_more, go_more, taken_goes, pass}
@@ -31,11 +32,11 @@ use Rattle.value_code.specs.ValueRegisters.{home}
 use Rattle.scalar_words.specs.Words.{copy_word, word_code, at_type}
 use Rattle.value_code.specs.ItemWords.{Side, index_word, index_register, store_code, store, operator_code}
 use Rattle.value_code.proofs.Places.{place_at, address_moved}
-use Rattle.value_code.proofs.WholeNames.{index_is}
+use Rattle.value_code.proofs.WholeNames.{index_is, whole_itself}
 use Rattle.value_code.proofs.Together.{together_address}
 use Rattle.value_code.specs.Covers.{held_extent, is_enough, is_whole, index_form, stands_together, index_covers, covers, covers_truth}
 use Rattle.loop_code.specs.Loosening.{covers_action, covers_block, covers_otherwise}
-use Rattle.scalar_words.proofs.Told.{tells_itself, told_more, told_take, told_set, standing, standing_kept}
+use Rattle.scalar_words.proofs.Told.{told_more, told_take, told_set, standing, standing_kept}
 use Rattle.value_code.specs.Code.{place_of, added_number, loose_code, is_fused, right_side, side_code, parts_code}
 pub use Rattle.scalar_words.specs.Safe.{AreSteady, Others, OnlyIf, Only}
 use Rattle.value_code.specs.Fits.{Fits, IndexAt}
@@ -44,7 +45,7 @@ use Rattle.loop_code.specs.LoopNumbers.{coded_action, coded_block, coded_otherwi
 use Rattle.loop_code.specs.Statements.{let_home, defined_homes, after_homes, block_homes, let_code, put_code, placed_put, stored_home, update_extent, update_settles, action_code, block_code, otherwise_code, FitsPut, FitsAction, FitsBlock, FitsOtherwise}
 use Rattle.loop_code.proofs.StoredRuns.{stored_high, stored_at_want, stored_back}
 use Rattle.scalar_words.proofs.LayoutStates.{Assigned, Kept, Changes, AreSafe, IsSafe, AreInRegisters, Fixed, Tells, Told, At, AreRanged, TypeRange, kept_none, kept_more, kept_changes, at_kept, safe_later, lasts_less, name_held, name_found}
-use Rattle.value_code.proofs.Loads.{Gives, no_value, a_value, not_sp, index_runs, scaled, address_is}
+use Rattle.value_code.proofs.Loads.{Gives, no_value, a_value, index_runs, scaled, address_is}
 use Rattle.scalar_words.proofs.WordsRuns.{more, copied_sets}
 use Rattle.scalar_words.proofs.Constants.{word_back}
 use Rattle.value_code.proofs.Jumps.{Turns, no_turn, turns}
@@ -138,11 +139,6 @@ agrees_tells c None w z v h e = e
 agrees_tells c (Some (LowBits t)) w z v h e = type_tells t z v e
 agrees_tells c (Some (Ahead t)) w z v h e = absurd cc
 agrees_tells c (Some Behind) w z v h e = absurd cc
-
--- where the value itself is to stand in a name's register
-whole_itself : (o : Option Form) → is_none o ≡ true → tells_itself o ≡ true
-whole_itself None h = refl
-whole_itself (Some f) h = absurd cc
 
 told_length : (ls : List Loose) (c : ℕ) (zs ns : Names) → Told ls c zs ns → length zs ≡ length ns
 told_length ls c [] [] h = refl
@@ -257,7 +253,7 @@ module _ (D : Laid) (L : Layout) (fit : Assigned L) where
           let moved = standing_kept L fit q q (omega arith) (safe_later L hs b q le safe) (standing here) k.kept in
           let base = name_held hs here.stand a q k.end moved.sized moved.held lasts in
           let together = together_address M.loose w.count hs i a T here.stand names c q q q g.end (subst (λ t. stands_together (loose_in M.loose a) (index_form M.loose i) t ≡ true) e cov) lasts fits.1 here.held here.told in
-          let does = store_does T from r j k.end ∙ ap (λ w. store_from k.end from w (byte_count T)) (ap (λ w. sum w (scaled T (x_at k.end j))) (not_sp k.end r found.high) ∙ address_is T (value_at here.stand a) (z +ℤ c) (x_at k.end r) (x_at k.end j) base k.value ∙ together) in
+          let does = store_does T from r j k.end ∙ ap (λ w. store_from k.end from w (byte_count T)) (ap (λ w. sum w (scaled T (x_at k.end j))) (x_or_sp-low k.end r found.high) ∙ address_is T (value_at here.stand a) (z +ℤ c) (x_at k.end r) (x_at k.end j) base k.value ∙ together) in
           let kept_from : x_at k.end from ≡ word v = k.kept.others from hi (λ p lo up. absurd (omega arith)) ∙ g.value in
           does_after (most + 2) (omega arith) (chain (most + 1) (omega arith) g.goes k.goes)
           (store_by (store T from r j) from (address T (value_at names a) x) (byte_count T) (word v) q (stored m (address T (value_at names a) x) (byte_count T) (word v)) there kept_from does refl)
@@ -280,7 +276,7 @@ module _ (D : Laid) (L : Layout) (fit : Assigned L) where
           let nine : x_at g.end 9 ≡ word x = index_is hs i here.stand q q g.end (omega arith) fits.1 here.sized here.held in
           let number = iteration i names +ℤ c in
           let together = together_address L.loose w.count hs i a T here.stand names c q q q g.end (subst (λ t. stands_together (loose_in L.loose a) (index_form L.loose i) t ≡ true) e cov) lasts fits.1 here.held here.told in
-          let does = store_does T from r 9 g.end ∙ ap (λ w. store_from g.end from w (byte_count T)) (ap (λ w. sum w (scaled T (x_at g.end 9))) (not_sp g.end r k.low) ∙ address_is T (base +ℤ pos (byte_count T) *ℤ k.c) x (x_at g.end r) (x_at g.end 9) k.value nine ∙ address_moved T base k.c x ∙ ap (λ d. address T base (x +ℤ d)) same ∙ together) in
+          let does = store_does T from r 9 g.end ∙ ap (λ w. store_from g.end from w (byte_count T)) (ap (λ w. sum w (scaled T (x_at g.end 9))) (x_or_sp-low g.end r k.low) ∙ address_is T (base +ℤ pos (byte_count T) *ℤ k.c) x (x_at g.end r) (x_at g.end 9) k.value nine ∙ address_moved T base k.c x ∙ ap (λ d. address T base (x +ℤ d)) same ∙ together) in
           does_after (most + 2) (omega arith) g.goes
           (store_by (store T from r 9) from (address T (value_at names a) number) (byte_count T) (word v) q (stored m (address T (value_at names a) number) (byte_count T) (word v)) here g.value does refl)
 

@@ -38,8 +38,8 @@ two_operands x e f (inr (inr (inl is))) = record { depth = ap (λ (y : Expr). te
 two_operands x e f (inr (inr (inr is))) = record { depth = ap (λ (y : Expr). term_depth (term_of y)) is; arrays = λ s ls. ap (λ (y : Expr). term_arrays s (term_of y) ls) (sym is) }
 
 -- an operand, and operands together, stand below
-pub one_below : (t : ℕ) (x e g : Term) → 2 * term_depth x ≡ t → OneOperand x e → g ≡ e → 2 * term_depth g < t
-one_below t x e g h o is = omega (arith, o.depth, ap term_depth is)
+pub two_one_operand_below : (t : ℕ) (x e g : Term) → 2 * term_depth x ≡ t → OneOperand x e → g ≡ e → 2 * term_depth g < t
+two_one_operand_below t x e g h o is = omega (arith, o.depth, ap term_depth is)
 
 pub two_below : (t : ℕ) (x e f g k : Term) → 2 * term_depth x ≡ t → TwoOperands x e f → g ≡ e → k ≡ f → 2 * max (term_depth g) (term_depth k) + 1 < t
 two_below t x e f g k h o is also = omega (arith, o.depth, ap term_depth is, ap term_depth also)

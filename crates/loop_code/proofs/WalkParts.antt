@@ -1,7 +1,7 @@
 -- What the parts of a walk over statements are called with, and what is known where no statement is left.
-use Rattle.std.proofs.Common.{◌≡◌, Bool, true, false, ℕ, ◌+◌, ◌*◌, ◌<◌, ◌≤◌, List, Bor, length, drop, refl, sym, ap, ◌∙◌, arith}
-use Rattle.std.proofs.lemmas.List.{drop_all}
-use Rattle.std.specs.Prelude.{max, ◌&&◌}
+use Rattle.std.proofs.Common.{◌≡◌, Bool, true, false, ℕ, ◌+◌, ◌*◌, ◌<◌, ◌≤◌, List, Bor, refl, sym, ap, ◌∙◌, arith}
+use Rattle.std.specs.Prelude.{◌&&◌}
+use Rattle.std.proofs.Math.Bool.{and_assoc}
 use Rattle.kernel_tree.specs.declared.ast.Expr.{Expr}
 use Rattle.kernel_tree.specs.declared.ast.Stmt.{Stmt}
 use Rattle.kernel_tree.specs.declared.name.Name.{Name}
@@ -9,59 +9,39 @@ use Rattle.kernel_tree.specs.declared.ops.UpdateOp.{UpdateOp}
 use Rattle.kernel_tree.specs.declared.part.Part.{Part}
 use Rattle.kernel_tree.specs.declared.part.Part.TheVariants as part
 use Rattle.kernel_tree.specs.Parts.{part_action}
-use Rattle.kernel_tree.specs.Plain.{Term, Action, Choose, Block, Done, Then, Nothing, Else, block_of}
+use Rattle.kernel_tree.specs.Plain.{Term, Action, Choose, Block, Then, Nothing, Else}
 use Rattle.kernel_tree.specs.Limits.{action_depth, block_depth}
 use Rattle.kernel_tree.specs.Typing.{Scope, after_action}
 use Rattle.scalar_words.specs.Layout.{Loose}
 use Rattle.loop_code.specs.Loosening.{loosen_action, covers_action, covers_block}
 
-pub no_statement : (xs : List Stmt) (i : ℕ) → length xs ≤ i → block_of (drop i xs) ≡ Done
-no_statement xs i h = ap block_of (drop_all i xs h)
-
 -- ---- statements and blocks call one another
 
-pub statement_below : (t : ℕ) (whole x more : Block) (a : Action) → 2 * block_depth whole + 1 ≡ t → block_depth x ≤ block_depth whole → x ≡ Then a more → 2 * action_depth a < t
-statement_below t whole x more a h le e = omega (arith, ap block_depth e)
+pub two_statement_below : (t : ℕ) (whole x more : Block) (a : Action) → 2 * block_depth whole + 1 ≡ t → block_depth x ≤ block_depth whole → x ≡ Then a more → 2 * action_depth a < t
+two_statement_below t whole x more a h le e = omega (arith, ap block_depth e)
 
 pub less_deep : (x more : Block) (a : Action) (d : ℕ) → x ≡ Then a more → block_depth x ≤ d → block_depth more ≤ d
 less_deep x more a d e h = omega (arith, ap block_depth e)
 
-pub if_below : (t : ℕ) (a : Action) (c : Term) (b : Block) → 2 * action_depth a ≡ t → a ≡ Choose c b Nothing → 2 * block_depth b + 1 < t
-if_below t a c b h e = omega (arith, ap action_depth e)
+pub two_only_block_below : (t : ℕ) (a : Action) (c : Term) (b : Block) → 2 * action_depth a ≡ t → a ≡ Choose c b Nothing → 2 * block_depth b + 1 < t
+two_only_block_below t a c b h e = omega (arith, ap action_depth e)
 
-pub first_below : (t : ℕ) (a : Action) (c : Term) (b d : Block) → 2 * action_depth a ≡ t → a ≡ Choose c b (Else d) → 2 * block_depth b + 1 < t
-first_below t a c b d h e = omega (arith, ap action_depth e)
+pub two_first_block_below : (t : ℕ) (a : Action) (c : Term) (b d : Block) → 2 * action_depth a ≡ t → a ≡ Choose c b (Else d) → 2 * block_depth b + 1 < t
+two_first_block_below t a c b d h e = omega (arith, ap action_depth e)
 
-pub second_below : (t : ℕ) (a : Action) (c : Term) (b d : Block) → 2 * action_depth a ≡ t → a ≡ Choose c b (Else d) → 2 * block_depth d + 1 < t
-second_below t a c b d h e = omega (arith, ap action_depth e)
+pub two_second_block_below : (t : ℕ) (a : Action) (c : Term) (b d : Block) → 2 * action_depth a ≡ t → a ≡ Choose c b (Else d) → 2 * block_depth d + 1 < t
+two_second_block_below t a c b d h e = omega (arith, ap action_depth e)
 
 -- ---- with blocks in a scope of their own between them
 
-pub inner_statement_below : (t : ℕ) (whole x more : Block) (a : Action) → 3 * block_depth whole + 1 ≡ t → block_depth x ≤ block_depth whole → x ≡ Then a more → 3 * action_depth a < t
-inner_statement_below t whole x more a h le e = omega (arith, ap block_depth e)
+pub three_only_block_below : (t : ℕ) (a : Action) (c : Term) (b : Block) → 3 * action_depth a ≡ t → a ≡ Choose c b Nothing → 3 * block_depth b + 2 < t
+three_only_block_below t a c b h e = omega (arith, ap action_depth e)
 
-pub inner_if_below : (t : ℕ) (a : Action) (c : Term) (b : Block) → 3 * action_depth a ≡ t → a ≡ Choose c b Nothing → 3 * block_depth b + 2 < t
-inner_if_below t a c b h e = omega (arith, ap action_depth e)
+pub three_first_block_below : (t : ℕ) (a : Action) (c : Term) (b d : Block) → 3 * action_depth a ≡ t → a ≡ Choose c b (Else d) → 3 * block_depth b + 2 < t
+three_first_block_below t a c b d h e = omega (arith, ap action_depth e)
 
-pub inner_first_below : (t : ℕ) (a : Action) (c : Term) (b d : Block) → 3 * action_depth a ≡ t → a ≡ Choose c b (Else d) → 3 * block_depth b + 2 < t
-inner_first_below t a c b d h e = omega (arith, ap action_depth e)
-
-pub inner_second_below : (t : ℕ) (a : Action) (c : Term) (b d : Block) → 3 * action_depth a ≡ t → a ≡ Choose c b (Else d) → 3 * block_depth d + 2 < t
-inner_second_below t a c b d h e = omega (arith, ap action_depth e)
-
-pub inner_below : (t d : ℕ) → 3 * d + 2 ≡ t → 3 * d + 1 < t
-inner_below t d h = omega arith
-
--- ---- expressions, and what stands between them and their operands
-
-pub left_below : (t d e : ℕ) → 2 * max d e + 1 ≡ t → 2 * d < t
-left_below t d e h = omega arith
-
-pub right_below : (t d e : ℕ) → 2 * max d e + 1 ≡ t → 2 * e < t
-right_below t d e h = omega arith
-
-pub index_below : (t d : ℕ) → 2 * d + 1 ≡ t → 2 * d < t
-index_below t d h = omega arith
+pub three_second_block_below : (t : ℕ) (a : Action) (c : Term) (b d : Block) → 3 * action_depth a ≡ t → a ≡ Choose c b (Else d) → 3 * block_depth d + 2 < t
+three_second_block_below t a c b d h e = omega (arith, ap action_depth e)
 
 -- ---- what is left by the kinds that do nothing
 
@@ -77,10 +57,6 @@ loosen_other s all (part.Break c) ls f g h = refl
 pub and_true : (b : Bool) → b ≡ (b && true)
 and_true true = refl
 and_true false = refl
-
-and_assoc : (a b c : Bool) → ((a && b) && c) ≡ (a && (b && c))
-and_assoc true b c = refl
-and_assoc false b c = refl
 
 -- after a statement the rest of the block is asked
 pub covers_on : (ls : List Loose) (s t : Scope) (a : Action) (more x : Block) (before here now : Bool) → x ≡ Then a more → t ≡ after_action s a → here ≡ covers_action ls s a → now ≡ (before && here) → (now && covers_block ls t more) ≡ (before && covers_block ls s x)

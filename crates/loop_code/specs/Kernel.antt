@@ -6,6 +6,7 @@ use Rattle.kernel_tree.specs.Items.{term_size, loop_index, loop_start, loop_end}
 use Rattle.kernel_tree.specs.Typing.{Scope, declared, param_scope, var_scope}
 pub use Rattle.kernel_scope.specs.Scopes.{after_var}
 use Rattle.label_fix.specs.DraftRun.{DraftEntry as Line, Place, ins}
+use Rattle.label_fix.specs.Registers.{iteration}
 use Rattle.scalar_words.specs.Layout.{Layout, Homes}
 use Rattle.value_code.specs.ValueRegisters.{home}
 use Rattle.scalar_words.specs.Words.{settle_word, copy_word, word_code}
@@ -50,7 +51,7 @@ vars_labels i (v ∷ vs) = labels i v.init + vars_labels i vs
 
 -- X9 = 0
 abbrev pub zero_index : List Line → List Line
-zero_index rest = ins movz (9 ∷ 0 ∷ 0 ∷ []) ∷ rest
+zero_index rest = ins movz (iteration ∷ 0 ∷ 0 ∷ []) ∷ rest
 
 -- the code before the loop, from label n on
 abbrev pub begin_code : (ℕ → ℕ) → Program → ℕ → List Line → List Line

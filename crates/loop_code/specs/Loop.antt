@@ -2,14 +2,16 @@
 use Rattle.std.specs.Prelude.{ℕ, true, false, cond, ◌+◌, ◌*◌, ◌<◌, ◌≤◌, ◌⊎◌, List, [], ◌∷◌, ◌++◌, Option, Some, None, option_and_then, ◌≡◌}
 use Rattle.machine_model.specs.InstructionTable.{Listed}
 use Rattle.a64_code.specs.Table.{movz, add, sub, subs, add_imm, svc}
-use Rattle.kernel_tree.specs.declared.ops.Ty.{Ty}
 use Rattle.kernel_tree.specs.declared.ops.Ty.TheVariants as ty
+use Rattle.kernel_tree.specs.Wrap.{log_bytes}
 use Rattle.kernel_tree.specs.declared.fault.Binding.TheVariants.{Scalar}
 use Rattle.kernel_tree.specs.Plain.{PlainLoop, Returned}
 use Rattle.kernel_tree.specs.Items.{term_size, block_size}
 use Rattle.kernel_meaning.specs.Operators.{word}
 use Rattle.kernel_tree.specs.Typing.{Scope, lookup, element_type, accumulator_type, in_loop, after_for_loop}
 use Rattle.label_fix.specs.DraftRun.{DraftEntry, Put, Branch, Place, If, NotZero, word_of, ins}
+use Rattle.label_fix.specs.Registers.{iteration, call_number, xzr}
+use Rattle.label_fix.specs.Conditions as conditions
 use Rattle.scalar_words.specs.Layout.{Key, OfNumber, OfAddress, Constant, Form, LowBits, Ahead, Behind, Loose, loose_in, Layout, Home, Homes, with_constants, with_loose, is_home, register_at, NameLasts}
 use Rattle.value_code.specs.ValueRegisters.{home}
 use Rattle.scalar_words.specs.Words.{const_code, copy_word, settle_word, word_code}
@@ -23,10 +25,10 @@ use Rattle.loop_code.specs.Loosening.{covers_block, after_loop, covers_answer}
 use Rattle.scalar_words.specs.Safe.{Others, Only}
 
 abbrev pub index_home : List ℕ → Home
-index_home x = record { name = x; register = 9; last_use = None }
+index_home x = record { name = x; register = iteration; last_use = None }
 
 abbrev pub exit_code : List DraftEntry → List DraftEntry
-exit_code rest = ins movz (8 ∷ 93 ∷ 0 ∷ []) ∷ ins svc (0 ∷ []) ∷ rest
+exit_code rest = ins movz (call_number ∷ 93 ∷ 0 ∷ []) ∷ ins svc (0 ∷ []) ∷ rest
 
 -- the returned value into X0, and the end
 abbrev pub answer_code : Layout → Homes → Scope → (b n : ℕ) → Option Returned → List DraftEntry → List DraftEntry
@@ -46,23 +48,12 @@ leave_code L hs s l b2 n2 answer rest = answer_code L (with_index hs l) (after_f
 
 -- the loop variable is compared with the bound, in register r
 abbrev pub bound_code : ℕ → List DraftEntry → List DraftEntry
-bound_code r rest = ins subs (31 ∷ 9 ∷ 0 ∷ r ∷ 0 ∷ []) ∷ rest
-
--- an element of a type has 2^n bytes
-abbrev pub element_shift : Ty → ℕ
-element_shift ty.I8 = 0
-element_shift ty.U8 = 0
-element_shift ty.I16 = 1
-element_shift ty.U16 = 1
-element_shift ty.I32 = 2
-element_shift ty.U32 = 2
-element_shift ty.I64 = 3
-element_shift ty.U64 = 3
+bound_code r rest = ins subs (xzr ∷ iteration ∷ 0 ∷ r ∷ 0 ∷ []) ∷ rest
 
 -- before the first iteration: a name's register, by what is to stand in it, with the bound in register r
 abbrev pub enter_word : (r q : ℕ) → Form → Option Listed
 enter_word r q (LowBits t) = None
-enter_word r q (Ahead t) = Some (word_of add (q ∷ q ∷ element_shift t ∷ r ∷ 0 ∷ []))
+enter_word r q (Ahead t) = Some (word_of add (q ∷ q ∷ log_bytes t ∷ r ∷ 0 ∷ []))
 enter_word r q Behind = Some (word_of sub (q ∷ q ∷ 0 ∷ r ∷ 0 ∷ []))
 
 abbrev pub enter_code : (r : ℕ) → Homes → List Loose → List DraftEntry → List DraftEntry
@@ -85,12 +76,12 @@ settled_code r n hs ls rest = Place (n + 3) ∷ settle_code r hs ls (Place (n + 
 
 -- back to label n + 2 below the bound, or where the loop variable, which stands behind by the bound, is not zero
 abbrev pub back_code : Option Form → (r n : ℕ) → List DraftEntry → List DraftEntry
-back_code (Some Behind) r n rest = Branch (NotZero 9) (n + 2) ∷ rest
-back_code _ r n rest = bound_code r (Branch (If 3) (n + 2) ∷ rest)
+back_code (Some Behind) r n rest = Branch (NotZero iteration) (n + 2) ∷ rest
+back_code _ r n rest = bound_code r (Branch (If conditions.lo) (n + 2) ∷ rest)
 
 -- the end of an iteration, and of the loop
 abbrev pub again_code : Option Form → (r n : ℕ) → Homes → List Loose → List DraftEntry → List DraftEntry
-again_code f r n hs ls rest = ins add_imm (9 ∷ 9 ∷ 1 ∷ 0 ∷ []) ∷ back_code f r n (settled_code r n hs ls rest)
+again_code f r n hs ls rest = ins add_imm (iteration ∷ iteration ∷ 1 ∷ 0 ∷ []) ∷ back_code f r n (settled_code r n hs ls rest)
 
 -- the iterations, after the place of label n + 2; a `break` goes to label n + 3
 abbrev pub body_code : Layout → Homes → Scope → PlainLoop → (b n : ℕ) → List DraftEntry → List DraftEntry
@@ -108,7 +99,7 @@ numbers_code (c ∷ cs) rest = key_code c.key c.register (numbers_code cs rest)
 -- the head of a loop, label n: past its end, label n + 1, where there is no iteration, and else what stands in registers
 -- while iterations last
 abbrev pub head_code : (r n : ℕ) → Homes → Layout → List DraftEntry → List DraftEntry
-head_code r n hs L rest = bound_code r (Branch (If 2) (n + 1) ∷ enter_code r hs L.loose (numbers_code L.constants (Place (n + 2) ∷ rest)))
+head_code r n hs L rest = bound_code r (Branch (If conditions.hs) (n + 1) ∷ enter_code r hs L.loose (numbers_code L.constants (Place (n + 2) ∷ rest)))
 
 abbrev pub entry_code : (r n : ℕ) → Homes → Layout → List DraftEntry → List DraftEntry
 entry_code r n hs L rest = Place n ∷ head_code r n hs L rest
@@ -146,7 +137,7 @@ FitsAnswer L hs s b (Some a) = Fits L hs s (Some a.type) b (b + term_size s.inde
 -- names have registers below those of numbers, by the number of parameters, or above them
 abbrev pub AreClear : ℕ → Homes → Type 0
 AreClear p [] = Unit {0}
-AreClear p (h ∷ hs) = ((h.register < p) ⊎ (9 ≤ h.register)) × AreClear p hs
+AreClear p (h ∷ hs) = ((h.register < p) ⊎ (iteration ≤ h.register)) × AreClear p hs
 
 -- no name of these is this one
 abbrev pub NoHome : List ℕ → Homes → Type 0
@@ -183,11 +174,11 @@ moving_words (l ∷ ls) = form_words l.form + moving_words ls
 -- No more words go before and after the iterations than one of them saves.
 pub record FitsLoop (L : Layout) (hs : Homes) (s : Scope) (l : PlainLoop) (b b2 : ℕ) (answer : Option Returned) : Type 0 where
   pub bound : NameLasts hs l.bound b
-  pub bound_low : register_at hs l.bound < 9
+  pub bound_low : register_at hs l.bound < iteration
   pub bound_known : lookup s l.bound ≡ Some (Scalar ty.U64)
   pub free : NoHome l.index hs
   pub body : FitsBlock L (with_index hs l) (in_loop s l) (b + 1) l.body
-  pub nine : Others hs 9 b
+  pub nine : Others hs iteration b
   pub params : ℕ
   pub next : AreNext params 0 L.constants
   pub clear : AreClear params hs

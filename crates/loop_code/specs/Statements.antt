@@ -1,6 +1,7 @@
 -- The code of statements, before the entries that follow it, and when registers fit them.
 use Rattle.std.specs.Prelude.{ℕ, List, [], ◌∷◌, Bool, true, false, ◌||◌, ◌+◌, ◌≤◌, ℤ, ◌++◌, Option, Some, None, option_and_then, nat_lt, if◌then◌else◌}
 use Rattle.label_fix.specs.DraftRun.{DraftEntry, Branch, Place, Always}
+use Rattle.label_fix.specs.Registers.{iteration, xzr}
 use Rattle.kernel_tree.specs.Plain.{Term, Conversion, Action, Define, Put, Update, Choose, Leave, Block, Done, Then, Otherwise, Nothing, Else}
 use Rattle.kernel_tree.specs.declared.ops.Ty.{Ty}
 use Rattle.kernel_tree.specs.declared.ops.BinaryOp.{BinaryOp}
@@ -72,7 +73,7 @@ is_bare s w _ = false
 
 abbrev pub operand_home : Layout → Homes → Option (List ℕ) → (b : ℕ) → Term → ℕ
 operand_home L hs i b (Conversion e t) = home L hs i b e
-operand_home L hs i b _ = 31
+operand_home L hs i b _ = xzr
 
 -- what is stored, of which so much is asked for, and its register: the operand of such a cast in its place
 abbrev pub stored_code : Layout → Homes → Scope → Extent → Option Ty → (b n : ℕ) → Term → List DraftEntry → List DraftEntry
@@ -87,7 +88,7 @@ put_code (Some c) t from p rest = word_code (index_word c) (store_code t from p 
 
 -- a value to an address that a register holds, where one does
 abbrev pub placed_put : Option ℕ → (inner : List DraftEntry → List DraftEntry) → Option Ty → ℕ → List DraftEntry → List DraftEntry
-placed_put (Some r) inner t from rest = store_code t from r 9 rest
+placed_put (Some r) inner t from rest = store_code t from r iteration rest
 placed_put None inner t from rest = inner rest
 
 -- what an update asks of the accumulator and of the value

@@ -1,6 +1,6 @@
 -- Laws of the intervals of a kernel: they stand in the order in which they begin, none ends before it begins, they are few,
 -- and the need of a class is their greatest overlap.
-use Rattle.std.proofs.Common.{◌≡◌, ℕ, zero, suc, ◌+◌, ◌-◌, ◌*◌, ◌<◌, ◌≤◌, Bool, true, false, cond, List, [], ◌∷◌, ◌++◌, length, Option, Some, None, refl, ap, ◌∙◌, arith, length-append}
+use Rattle.std.proofs.Common.{◌≡◌, ℕ, zero, suc, ◌+◌, ◌-◌, ◌*◌, ◌<◌, ◌≤◌, Bool, true, false, cond, List, [], ◌∷◌, ◌++◌, length, Option, Some, None, refl, ap, arith, length-append}
 use Rattle.std.specs.Prelude.{map, filter, max, fold}
 use Rattle.std.specs.List.{list_any, cons_option}
 use Rattle.std.proofs.Math.Nat.{le-max_left, le-max_right, max-le}
@@ -76,13 +76,6 @@ intervals-forward k class = whole-forward k (throughout k class) (values k class
 
 -- ---- intervals over all items
 
-pub replicate-more : {A : Type 0} (n : ℕ) (x : A) → replicate n x ++ x ∷ [] ≡ replicate (n + 1) x
-replicate-more n x = push n ∙ ap (λ m. replicate m x) (let e : suc n ≡ n + 1 = omega arith in e)
-  where
-    push : (n : ℕ) → replicate n x ++ x ∷ [] ≡ replicate (suc n) x
-    push zero = refl
-    push (suc n) = ap (λ l. x ∷ l) (push n)
-
 pub whole-replicate : (k : Program) (ts : List Throughout) → map (whole k) ts ≡ replicate (length ts) (record { from = 0; last_use = size_of k })
 whole-replicate k [] = refl
 whole-replicate k (t ∷ ts) = ap (λ l. whole k t ∷ l) (whole-replicate k ts)
@@ -109,7 +102,7 @@ constant-few before e (IsLiteral n) = by (list_any (is_constant e.type n) before
 constant-few before e (IsName x) = omega arith
 constant-few before e other = omega arith
 
-constants-few : (before es : List Entry) → length (constants before es) ≤ length es
+pub constants-few : (before es : List Entry) → length (constants before es) ≤ length es
 unfolding constants
 constants-few before [] = omega arith
 constants-few before (e ∷ es) = let a = length-append (new_constant before e.type e.content) (constants (before ++ e ∷ []) es) in let b = constant-few before e e.content in let c = constants-few (before ++ e ∷ []) es in omega (arith, a, b, c)

@@ -34,21 +34,21 @@ drop_next (x ∷ xs) zero y ys e = let f : xs ≡ ys = cc in f
 drop_next (x ∷ xs) (suc b) y ys e = drop_next xs b y ys e
 
 module _ (k : Program) where
-  on : (xs ys : List Entry) (ts us : List (Option Ty)) → Matches k xs ts → Matches k ys us → Matches k (xs ++ ys) (ts ++ us)
-  on [] ys [] us none h = h
-  on [] ys (t ∷ ts) us m h = elim m [ ]
-  on (x ∷ xs) ys [] us m h = elim m [ ]
-  on (x ∷ xs) ys (t ∷ ts) us (more is g) h = more is (on xs ys ts us g h)
+  matches_append : (xs ys : List Entry) (ts us : List (Option Ty)) → Matches k xs ts → Matches k ys us → Matches k (xs ++ ys) (ts ++ us)
+  matches_append [] ys [] us none h = h
+  matches_append [] ys (t ∷ ts) us m h = elim m [ ]
+  matches_append (x ∷ xs) ys [] us m h = elim m [ ]
+  matches_append (x ∷ xs) ys (t ∷ ts) us (more is g) h = more is (matches_append xs ys ts us g h)
 
-  pub inner : (o : Option ℤ) (es : List Entry) (ts : List (Option Ty)) → Matches k es ts → Matches k (inner_entries o es) (inner_types o ts)
-  inner (Some c) es ts h = none
-  inner None es ts h = h
+  pub matches_inner : (o : Option ℤ) (es : List Entry) (ts : List (Option Ty)) → Matches k es ts → Matches k (inner_entries o es) (inner_types o ts)
+  matches_inner (Some c) es ts h = none
+  matches_inner None es ts h = h
 
-  one : (item : ℕ) (c : Content) (user : ℕ) (t : Option Ty) → Matches k (entry k item c user ∷ []) (t ∷ [])
-  one item c user t = more refl none
+  matches_one_entry : (item : ℕ) (c : Content) (user : ℕ) (t : Option Ty) → Matches k (entry k item c user ∷ []) (t ∷ [])
+  matches_one_entry item c user t = more refl none
 
-  ahead : (item : ℕ) (c : Content) (user : ℕ) (t : Option Ty) (es : List Entry) (ts : List (Option Ty)) → Matches k es ts → Matches k (entry k item c user ∷ es) (t ∷ ts)
-  ahead item c user t es ts h = more refl h
+  matches_cons : (item : ℕ) (c : Content) (user : ℕ) (t : Option Ty) (es : List Entry) (ts : List (Option Ty)) → Matches k es ts → Matches k (entry k item c user ∷ es) (t ∷ ts)
+  matches_cons item c user t es ts h = more refl h
 
   pub term_matches : (t : Term) (s : Scope) (role : Role) (b user : ℕ) → s.index ≡ loop_index k → Matches k (term_entries k b user t) (term_types s role t)
   term_matches (Literal n) s role b user e = more refl none
@@ -57,38 +57,38 @@ module _ (k : Program) where
       let item = b + index_items (loop_index k) j in
       let es = term_entries k b item j in
       let ts = term_types s (Value (index_type s j)) j in
-      on (inner_entries (stream_offset (loop_index k) j) es) (entry k item (IsRead a j) user ∷ []) (inner_types (stream_offset s.index j) ts) (wanted role ∷ [])
-      (subst (λ o. Matches k (inner_entries (stream_offset (loop_index k) j) es) (inner_types (stream_offset o j) ts)) (sym e) (inner (stream_offset (loop_index k) j) es ts (term_matches j s (Value (index_type s j)) b item e)))
+      matches_append (inner_entries (stream_offset (loop_index k) j) es) (entry k item (IsRead a j) user ∷ []) (inner_types (stream_offset s.index j) ts) (wanted role ∷ [])
+      (subst (λ o. Matches k (inner_entries (stream_offset (loop_index k) j) es) (inner_types (stream_offset o j) ts)) (sym e) (matches_inner (stream_offset (loop_index k) j) es ts (term_matches j s (Value (index_type s j)) b item e)))
       (more refl none)
-  term_matches (Unary op x) s role b user e = on (term_entries k b _ x) _ (term_types s _ x) _ (term_matches x s _ b _ e) (one _ _ _ _)
+  term_matches (Unary op x) s role b user e = matches_append (term_entries k b _ x) _ (term_types s _ x) _ (term_matches x s _ b _ e) (matches_one_entry _ _ _ _)
   term_matches (Operation op x y) s role b user e =
-      on (term_entries k b _ x) _ (term_types s _ x) _ (term_matches x s _ b _ e) (on (term_entries k _ _ y) _ (term_types s _ y) _ (term_matches y s _ _ _ e) (one _ _ _ _))
-  term_matches (Shift l x n) s role b user e = on (term_entries k b _ x) _ (term_types s _ x) _ (term_matches x s _ b _ e) (one _ _ _ _)
-  term_matches (Conversion x t) s role b user e = on (term_entries k b _ x) _ (term_types s _ x) _ (term_matches x s _ b _ e) (one _ _ _ _)
+      matches_append (term_entries k b _ x) _ (term_types s _ x) _ (term_matches x s _ b _ e) (matches_append (term_entries k _ _ y) _ (term_types s _ y) _ (term_matches y s _ _ _ e) (matches_one_entry _ _ _ _))
+  term_matches (Shift l x n) s role b user e = matches_append (term_entries k b _ x) _ (term_types s _ x) _ (term_matches x s _ b _ e) (matches_one_entry _ _ _ _)
+  term_matches (Conversion x t) s role b user e = matches_append (term_entries k b _ x) _ (term_types s _ x) _ (term_matches x s _ b _ e) (matches_one_entry _ _ _ _)
   term_matches (Choice c x y) s role b user e =
-      on (term_entries k b _ x) _ (term_types s _ x) _ (term_matches x s _ b _ e)
-      (on (term_entries k _ _ y) _ (term_types s _ y) _ (term_matches y s _ _ _ e) (on (term_entries k _ _ c) _ (term_types s _ c) _ (term_matches c s _ _ _ e) (one _ _ _ _)))
+      matches_append (term_entries k b _ x) _ (term_types s _ x) _ (term_matches x s _ b _ e)
+      (matches_append (term_entries k _ _ y) _ (term_types s _ y) _ (term_matches y s _ _ _ e) (matches_append (term_entries k _ _ c) _ (term_types s _ c) _ (term_matches c s _ _ _ e) (matches_one_entry _ _ _ _)))
   term_matches (Comparison op x y) s role b user e =
-      on (term_entries k b _ x) _ (term_types s _ x) _ (term_matches x s _ b _ e) (on (term_entries k _ _ y) _ (term_types s _ y) _ (term_matches y s _ _ _ e) (one _ _ _ _))
+      matches_append (term_entries k b _ x) _ (term_types s _ x) _ (term_matches x s _ b _ e) (matches_append (term_entries k _ _ y) _ (term_types s _ y) _ (term_matches y s _ _ _ e) (matches_one_entry _ _ _ _))
   term_matches (Both x y) s role b user e =
-      on (term_entries k b _ x) _ (term_types s _ x) _ (term_matches x s _ b _ e) (on (term_entries k _ _ y) _ (term_types s _ y) _ (term_matches y s _ _ _ e) (one _ _ _ _))
+      matches_append (term_entries k b _ x) _ (term_types s _ x) _ (term_matches x s _ b _ e) (matches_append (term_entries k _ _ y) _ (term_types s _ y) _ (term_matches y s _ _ _ e) (matches_one_entry _ _ _ _))
   term_matches (Either x y) s role b user e =
-      on (term_entries k b _ x) _ (term_types s _ x) _ (term_matches x s _ b _ e) (ahead _ _ _ _ _ _ (on (term_entries k _ _ y) _ (term_types s _ y) _ (term_matches y s _ _ _ e) (one _ _ _ _)))
-  term_matches (Not x) s role b user e = on (term_entries k b _ x) _ (term_types s _ x) _ (term_matches x s _ b _ e) (one _ _ _ _)
+      matches_append (term_entries k b _ x) _ (term_types s _ x) _ (term_matches x s _ b _ e) (matches_cons _ _ _ _ _ _ (matches_append (term_entries k _ _ y) _ (term_types s _ y) _ (term_matches y s _ _ _ e) (matches_one_entry _ _ _ _)))
+  term_matches (Not x) s role b user e = matches_append (term_entries k b _ x) _ (term_types s _ x) _ (term_matches x s _ b _ e) (matches_one_entry _ _ _ _)
 
   mutual
     pub action_matches : (a : Action) (s : Scope) (b : ℕ) → s.index ≡ loop_index k → Matches k (action_entries k b a) (action_types s a)
-    action_matches (Define x t v) s b e = on (term_entries k b _ v) _ (term_types s _ v) _ (term_matches v s _ b _ e) (one _ _ _ _)
-    action_matches (Put a i v) s b e = on (term_entries k b _ v) _ (term_types s _ v) _ (term_matches v s _ b _ e) (one _ _ _ _)
-    action_matches (Update x op v) s b e = on (term_entries k b _ v) _ (term_types s _ v) _ (term_matches v s _ b _ e) (one _ _ _ _)
+    action_matches (Define x t v) s b e = matches_append (term_entries k b _ v) _ (term_types s _ v) _ (term_matches v s _ b _ e) (matches_one_entry _ _ _ _)
+    action_matches (Put a i v) s b e = matches_append (term_entries k b _ v) _ (term_types s _ v) _ (term_matches v s _ b _ e) (matches_one_entry _ _ _ _)
+    action_matches (Update x op v) s b e = matches_append (term_entries k b _ v) _ (term_types s _ v) _ (term_matches v s _ b _ e) (matches_one_entry _ _ _ _)
     action_matches (Choose c t d) s b e =
-        on (term_entries k b _ c) _ (term_types s _ c) _ (term_matches c s _ b _ e)
-        (ahead _ _ _ _ _ _ (on (block_entries k _ t) _ (block_types s t) _ (block_matches t s _ e) (on (otherwise_entries k _ _ d) _ (otherwise_types (left s (after_block s t)) d) _ (otherwise_matches d (left s (after_block s t)) _ _ e) (one _ _ _ _))))
-    action_matches (Leave c) s b e = on (term_entries k b _ c) _ (term_types s _ c) _ (term_matches c s _ b _ e) (one _ _ _ _)
+        matches_append (term_entries k b _ c) _ (term_types s _ c) _ (term_matches c s _ b _ e)
+        (matches_cons _ _ _ _ _ _ (matches_append (block_entries k _ t) _ (block_types s t) _ (block_matches t s _ e) (matches_append (otherwise_entries k _ _ d) _ (otherwise_types (left s (after_block s t)) d) _ (otherwise_matches d (left s (after_block s t)) _ _ e) (matches_one_entry _ _ _ _))))
+    action_matches (Leave c) s b e = matches_append (term_entries k b _ c) _ (term_types s _ c) _ (term_matches c s _ b _ e) (matches_one_entry _ _ _ _)
 
     pub block_matches : (t : Block) (s : Scope) (b : ℕ) → s.index ≡ loop_index k → Matches k (block_entries k b t) (block_types s t)
     block_matches Done s b e = none
-    block_matches (Then a t) s b e = on (action_entries k b a) _ (action_types s a) _ (action_matches a s b e) (block_matches t (after_action s a) _ (index_after s a ∙ e))
+    block_matches (Then a t) s b e = matches_append (action_entries k b a) _ (action_types s a) _ (action_matches a s b e) (block_matches t (after_action s a) _ (index_after s a ∙ e))
 
     pub otherwise_matches : (d : Otherwise) (s : Scope) (b end : ℕ) → s.index ≡ loop_index k → Matches k (otherwise_entries k b end d) (otherwise_types s d)
     otherwise_matches Nothing s b end e = none
@@ -100,7 +100,7 @@ module _ (k : Program) where
 
   vars_match : (vs : List Accumulator) (s : Scope) (b : ℕ) → s.index ≡ loop_index k → Matches k (vars_entries k b vs) (vars_types s vs)
   vars_match [] s b e = none
-  vars_match (v ∷ vs) s b e = on (term_entries k b _ v.init) _ (term_types s _ v.init) _ (term_matches v.init s _ b _ e) (ahead _ _ _ _ _ _ (vars_match vs (declared s v.name (binding.Accumulator v.type)) _ e))
+  vars_match (v ∷ vs) s b e = matches_append (term_entries k b _ v.init) _ (term_types s _ v.init) _ (term_matches v.init s _ b _ e) (matches_cons _ _ _ _ _ _ (vars_match vs (declared s v.name (binding.Accumulator v.type)) _ e))
 
   for_loop_matches : (o : Option PlainLoop) (s : Scope) (b : ℕ) → s.index ≡ loop_index k → Matches k (for_loop_entries k b o) (for_loop_types s o)
   for_loop_matches None s b e = none
@@ -108,13 +108,13 @@ module _ (k : Program) where
 
   answer_match : (o : Option Returned) (s : Scope) (b : ℕ) → s.index ≡ loop_index k → Matches k (answer_entries k b o) (answer_types s o)
   answer_match None s b e = none
-  answer_match (Some a) s b e = on (term_entries k b _ a.value) _ (term_types s _ a.value) _ (term_matches a.value s _ b _ e) (one _ _ _ _)
+  answer_match (Some a) s b e = matches_append (term_entries k b _ a.value) _ (term_types s _ a.value) _ (term_matches a.value s _ b _ e) (matches_one_entry _ _ _ _)
 
   all_match : Matches k (entries_of k) (types_of k)
   all_match =
-      on (params_entries k 0 k.params) _ (params_types k.params) _ (params_match k.params 0)
-      (on (vars_entries k _ k.vars) _ (vars_types (param_scope k) k.vars) _ (vars_match k.vars (param_scope k) _ (param_index k))
-      (on (loop_entries k) _ (for_loop_types (var_scope k) k.for_loop) _ (for_loop_matches k.for_loop (var_scope k) _ (scope_index k)) (answer_match k.answer (after_for_loop (var_scope k) k.for_loop) _ (last_index k))))
+      matches_append (params_entries k 0 k.params) _ (params_types k.params) _ (params_match k.params 0)
+      (matches_append (vars_entries k _ k.vars) _ (vars_types (param_scope k) k.vars) _ (vars_match k.vars (param_scope k) _ (param_index k))
+      (matches_append (loop_entries k) _ (for_loop_types (var_scope k) k.for_loop) _ (for_loop_matches k.for_loop (var_scope k) _ (scope_index k)) (answer_match k.answer (after_for_loop (var_scope k) k.for_loop) _ (last_index k))))
 
   -- ---- the types of some items
 

@@ -9,27 +9,27 @@ use Rattle.kernel_tree.specs.declared.ops.Ty.{Ty}
 use Rattle.kernel_tree.specs.Plain.{Program}
 use Rattle.kernel_tree.specs.Wrap.{bits_of}
 use Rattle.loop_form.specs.Entries.{Entry, loop_entries}
-use Rattle.loop_form.specs.Lanes.{width_of, wider, target_type, widest, lane_width_of}
+use Rattle.loop_form.specs.Lanes.{type_width, wider, target_type, widest, lane_width_of}
 use Rattle.kernel_tree.specs.declared.ops.Ty.TheVariants as ty
 
-width-is : (t : Ty) → width_bits (width_of t) ≡ bits_of t
+width-is : (t : Ty) → width_bits (type_width t) ≡ bits_of t
 width-is ty.I8 = refl
 width-is other = refl
 
 wider-left : (w : Width) (o : Option Ty) → width_bits w ≤ width_bits (wider w o)
 wider-left w None = omega arith
-wider-left w (Some t) = by (nat_lt (width_bits w) (width_bits (width_of t))) refl
+wider-left w (Some t) = by (nat_lt (width_bits w) (width_bits (type_width t))) refl
   where
-    by : (b : Bool) → nat_lt (width_bits w) (width_bits (width_of t)) ≡ b → width_bits w ≤ width_bits (cond b (width_of t) w)
-    by true e = let lt = ltb-true (width_bits w) (width_bits (width_of t)) e in omega (arith, lt)
+    by : (b : Bool) → nat_lt (width_bits w) (width_bits (type_width t)) ≡ b → width_bits w ≤ width_bits (cond b (type_width t) w)
+    by true e = let lt = ltb-true (width_bits w) (width_bits (type_width t)) e in omega (arith, lt)
     by false e = omega arith
 
 wider-right : (w : Width) (t : Ty) → bits_of t ≤ width_bits (wider w (Some t))
-wider-right w t = let is = width-is t in by (nat_lt (width_bits w) (width_bits (width_of t))) refl is
+wider-right w t = let is = width-is t in by (nat_lt (width_bits w) (width_bits (type_width t))) refl is
   where
-    by : (b : Bool) → nat_lt (width_bits w) (width_bits (width_of t)) ≡ b → width_bits (width_of t) ≡ bits_of t → bits_of t ≤ width_bits (cond b (width_of t) w)
+    by : (b : Bool) → nat_lt (width_bits w) (width_bits (type_width t)) ≡ b → width_bits (type_width t) ≡ bits_of t → bits_of t ≤ width_bits (cond b (type_width t) w)
     by true e is = omega (arith, is)
-    by false e is = let le = ltb-false (width_bits w) (width_bits (width_of t)) e in omega (arith, le, is)
+    by false e is = let le = ltb-false (width_bits w) (width_bits (type_width t)) e in omega (arith, le, is)
 
 widest-grows : (k : Program) (w : Width) (es : List Entry) → width_bits w ≤ width_bits (widest k w es)
 unfolding widest

@@ -13,3 +13,4 @@ pub mod ReachLaws
 pub mod ArrayNames
 pub mod Kernels
 mod Examples
+pub mod Places

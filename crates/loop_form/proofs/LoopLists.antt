@@ -1,5 +1,6 @@
 -- What the lists of a loop's items want: a statement has an item, and the names at the loop's head.
-use Rattle.std.proofs.Common.{◌≡◌, ℕ, suc, ◌+◌, ◌<◌, ◌≤◌, List, [], ◌∷◌, ◌++◌, length, map, drop, get_or, Option, refl, sym, ap, ap₂, ◌∙◌, subst, arith, true, add-one, drop-cons, append_assoc}
+use Rattle.std.proofs.Common.{◌≡◌, ℕ, suc, ◌+◌, ◌≤◌, List, [], ◌∷◌, ◌++◌, length, map, Option, sym, ap, ap₂, ◌∙◌, subst, arith, true, append_assoc}
+use Rattle.std.proofs.lemmas.List.{map_push}
 use Rattle.kernel_tree.specs.Plain.{Action, Define, PlainLoop, Program}
 use Rattle.kernel_tree.specs.Items.{loop_index, action_size}
 use Rattle.kernel_tree.specs.Typing.{Local, local, var_scope, in_loop}
@@ -16,17 +17,9 @@ pub some_item : (i : Option (List ℕ)) (s : Action) → 1 ≤ action_size i s
 some_item i (Define x t e) = omega arith
 some_item i other = omega arith
 
--- what is left of a list at a place
-pub next-entry : {A : Type 0} (xs : List A) (i : ℕ) (x : A) → i < length xs → x ≡ get_or xs i x → drop i xs ≡ x ∷ drop (i + 1) xs
-next-entry xs i x h g = drop-cons xs i x h ∙ ap₂ (λ y n. y ∷ drop n xs) (sym g) (sym (add-one i))
-
 -- one more value of a list that is made of another one by one
 pub one-more : {A B C : Type 0} (g : A → B) (f : B → C) (xs ys : List A) (x : A) (new old whole : List C) (y : C) → ys ≡ x ∷ xs → new ≡ old ++ y ∷ [] → y ≡ f (g x) → old ++ map f (map g ys) ≡ whole → new ++ map f (map g xs) ≡ whole
 one-more g f xs ys x new old whole y e n h w = ap (λ l. l ++ map f (map g xs)) (n ∙ ap (λ z. old ++ z ∷ []) h) ∙ append_assoc old (f (g x) ∷ []) (map f (map g xs)) ∙ sym (ap (λ l. old ++ map f (map g l)) e) ∙ w
-
-map-push : {A B : Type 0} (f : A → B) (xs : List A) (y : A) → map f (xs ++ y ∷ []) ≡ map f xs ++ f y ∷ []
-map-push f [] y = refl
-map-push f (x ∷ xs) y = ap (λ l. f x ∷ l) (map-push f xs y)
 
 -- ---- the names at the head
 
@@ -38,7 +31,7 @@ pub loop-head : (k : Program) (l : PlainLoop) (ps vs names : List Visible) (v : 
 loop-head k l ps vs names v p q n a b = (scope, env)
   where
     entries_view : locals names ≡ (var_scope k).visible ++ local l.index binding.Index ∷ []
-    entries_view = ap locals n ∙ map-push local_of vs v ∙ ap₂ (λ (xs : List Local) (y : Local). xs ++ y ∷ []) (q.0 ∙ ap (λ xs. xs ++ map var_local k.vars) p.0 ∙ sym (var_visible k)) a
+    entries_view = ap locals n ∙ map_push local_of vs v ∙ ap₂ (λ (xs : List Local) (y : Local). xs ++ y ∷ []) (q.0 ∙ ap (λ xs. xs ++ map var_local k.vars) p.0 ∙ sym (var_visible k)) a
 
     scope : in_loop (var_scope k) l ≡ scope_of (loop_index k) names (in_loop (var_scope k) l).taken
     scope = ap₂ (λ (xs : List Local) (i : Option (List ℕ)). record { visible = xs; taken = (in_loop (var_scope k) l).taken; index = i; inside = true }) (sym entries_view) (scope_index k)
@@ -47,7 +40,7 @@ loop-head k l ps vs names v p q n a b = (scope, env)
     places = q.1 ∙ ap₂ (λ (xs ys : List Bound). xs ++ ys) p.1 (ap (λ m. outer_env m (map var_local k.vars)) p.2) ∙ sym (outer-append 0 (map param_local k.params) (map var_local k.vars)) ∙ ap (outer_env 0) (sym (var_visible k))
 
     env : loop_env (var_scope k) l.index ≡ env_of names
-    env = sym (ap env_of n ∙ map-push bound_of vs v ∙ ap₂ (λ (xs : List Bound) (y : Bound). xs ++ y ∷ []) places b)
+    env = sym (ap env_of n ∙ map_push bound_of vs v ∙ ap₂ (λ (xs : List Bound) (y : Bound). xs ++ y ∷ []) places b)
 
 -- the same names, said otherwise
 pub adds-same : (more more' : List Local) (old old' new : List Visible) → more ≡ more' → old ≡ old' → AddsOuter more old new → AddsOuter more' old' new

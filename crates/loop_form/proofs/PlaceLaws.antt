@@ -25,9 +25,9 @@ record Placed (class : RegClass) (all es : List Entry) (j n m : ℕ) : Type 0 wh
   at : m ≡ j + i
   interval : slice_get (spans_of class all es) i ≡ Some (record { from = entry.item; last_use = last_use })
 
-placed : (class : RegClass) (all es : List Entry) (j n m : ℕ) → slice_get (places_from class all j es) n ≡ Some (Some m) → Placed class all es j n m
-placed class all [] j n m e = absurd cc
-placed class all (x ∷ es) j n m e = by (last_use_in class all x) refl n e (λ i k q. placed class all es i k m q)
+placed_of_places_from : (class : RegClass) (all es : List Entry) (j n m : ℕ) → slice_get (places_from class all j es) n ≡ Some (Some m) → Placed class all es j n m
+placed_of_places_from class all [] j n m e = absurd cc
+placed_of_places_from class all (x ∷ es) j n m e = by (last_use_in class all x) refl n e (λ i k q. placed_of_places_from class all es i k m q)
   where
     by : (o : Option ℕ) → last_use_in class all x ≡ o → (n : ℕ) → slice_get (place_of j o (λ i. places_from class all i es)) n ≡ Some (Some m) → ((i k : ℕ) → slice_get (places_from class all i es) k ≡ Some (Some m) → Placed class all es i k m) → Placed class all (x ∷ es) j n m
     by None q zero e more = absurd cc
@@ -65,7 +65,7 @@ counted-numbers k P = (loop-listed k).numbered
 
 pub place-value : (k : Program) (class : RegClass) (n m : ℕ) → slice_get (value_places k class) n ≡ Some (Some m) → IsValueOf (first_counted k class + n) (slice_get (intervals k class) m)
 place-value k class n m e =
-    let p = placed class (entries_of k) (counted k class) (length (throughout k class)) n m e in
+    let p = placed_of_places_from class (entries_of k) (counted k class) (length (throughout k class)) n m e in
     let number = item-at (first_counted k class) n (counted k class) p.entry (counted-numbers k class) p.is in
     (p.last_use, ap (slice_get (intervals k class)) p.at ∙ interval-following k class p.i ∙ p.interval ∙ ap (λ q. Some (record { from = q; last_use = p.last_use })) number)
 

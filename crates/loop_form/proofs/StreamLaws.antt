@@ -21,12 +21,12 @@ any_next test x xs h = by_test (test x)
     by_test true = refl
     by_test false = h
 
-any_here : {A : Type 0} (test : A → Bool) (x : A) (xs : List A) → test x ≡ true → list_any test (x ∷ xs) ≡ true
-any_here test x xs h = ap (λ b. b || list_any test xs) h
+list_any_of_head : {A : Type 0} (test : A → Bool) (x : A) (xs : List A) → test x ≡ true → list_any test (x ∷ xs) ≡ true
+list_any_of_head test x xs h = ap (λ b. b || list_any test xs) h
 
 pub in_any : (test : Stream → Bool) (s : Stream) (ss : List Stream) → In s ss → test s ≡ true → list_any test ss ≡ true
 in_any test s [] h e = elim h [ ]
-in_any test s (t ∷ ts) (inl same) e = any_here test t ts (ap test same ∙ e)
+in_any test s (t ∷ ts) (inl same) e = list_any_of_head test t ts (ap test same ∙ e)
 in_any test s (t ∷ ts) (inr h) e = any_next test t ts (in_any test s ts h e)
 
 -- ---- offsets

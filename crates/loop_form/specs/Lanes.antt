@@ -1,28 +1,23 @@
 -- The width of a loop's lanes.
 use Rattle.std.specs.Prelude.{ℕ, List, [], ◌∷◌, Option, Some, None, nat_lt, bytes_eq, if◌then◌else◌}
 use Rattle.guest_types.specs.declared.length.Width.{Width}
-use Rattle.guest_types.specs.declared.length.Width.TheVariants.{B, H, S, D}
+use Rattle.guest_types.specs.declared.length.Width.TheVariants.{B}
 use Rattle.guest_types.specs.Length.{width_bits}
+use Rattle.guest_types.specs.LaneMemory.{width_of_size}
 use Rattle.kernel_tree.specs.declared.ops.Ty.{Ty}
+use Rattle.kernel_tree.specs.Wrap.{log_bytes}
 use Rattle.kernel_tree.specs.Plain.{Parameter, Accumulator, Program}
 use Rattle.loop_form.specs.Entries.{Content, IsStore, IsUpdate, Entry, loop_entries}
 use Rattle.loop_form.specs.Streams.{elements_of}
-use Rattle.kernel_tree.specs.declared.ops.Ty.TheVariants as ty
 
-abbrev pub width_of : Ty → Width
-width_of ty.I8 = B
-width_of ty.U8 = B
-width_of ty.I16 = H
-width_of ty.U16 = H
-width_of ty.I32 = S
-width_of ty.U32 = S
-width_of ty.I64 = D
-width_of ty.U64 = D
+-- the width of the values of a type
+abbrev pub type_width : Ty → Width
+type_width t = width_of_size (log_bytes t)
 
 -- the wider one of a width and that of a type, where there is one
 abbrev pub wider : Width → Option Ty → Width
 wider w None = w
-wider w (Some t) = if nat_lt (width_bits w) (width_bits (width_of t)) then width_of t else w
+wider w (Some t) = if nat_lt (width_bits w) (width_bits (type_width t)) then type_width t else w
 
 -- the type of the elements of an array parameter, by its name
 abbrev pub type_of_array : List ℕ → List Parameter → Option Ty

@@ -1,27 +1,9 @@
 //! What is known of a computed index by the type that its value comes from.
 
-ghost use Rattle.std.specs.Prelude.{◌≡◌, not};
-ghost use Rattle.kernel_tree.specs.Wrap.{bits_of, is_signed};
+ghost use Rattle.std.specs.Prelude.{◌≡◌};
 ghost use Rattle.loop_form.specs.Reaches.{is_widened, reach_of_type};
 
 use kernel_tree::Ty;
-
-fn bits(ty: Ty) -> u32
-    ensures { result ≡ bits_of ty }
-{
-    match ty {
-        Ty::I8 | Ty::U8 => 8,
-        Ty::I16 | Ty::U16 => 16,
-        Ty::I32 | Ty::U32 => 32,
-        Ty::I64 | Ty::U64 => 64,
-    }
-}
-
-fn is_unsigned(ty: Ty) -> bool
-    ensures { result ≡ not (is_signed ty) }
-{
-    matches!(ty, Ty::U8 | Ty::U16 | Ty::U32 | Ty::U64)
-}
 
 /// Whether a cast leaves each value as it is.
 pub fn widens(from: Option<Ty>, to: Ty) -> bool
@@ -29,7 +11,7 @@ pub fn widens(from: Option<Ty>, to: Ty) -> bool
 {
     match from {
         None => false,
-        Some(from) => is_unsigned(from) && is_unsigned(to) && bits(from) <= bits(to),
+        Some(from) => !from.is_signed() && !to.is_signed() && from.bits() <= to.bits(),
     }
 }
 

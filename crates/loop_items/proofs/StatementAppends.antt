@@ -1,8 +1,7 @@
 -- What the calls of the walk over statements append, put together. Each list stands before whatever follows.
-use Rattle.std.proofs.Common.{◌≡◌, ℕ, ◌+◌, ◌-◌, ◌≤◌, ◌<◌, List, [], ◌∷◌, ◌++◌, ◌∙◌, Option, Some, length, take, drop, get_or, refl, sym, ap, ap₂, subst, arith}
+use Rattle.std.proofs.Common.{◌≡◌, ℕ, ◌+◌, ◌-◌, List, ◌∷◌, ◌++◌, ◌∙◌, Option, Some, length, take, sym, ap, ap₂, subst, arith}
 use Rattle.std.specs.Prelude.{min}
 use Rattle.std.proofs.lemmas.List.{length-take, take-take}
-use Rattle.std.proofs.lemmas.Slice.{first_rest}
 use Rattle.kernel_tree.specs.Plain.{Term, Action, Choose, Block, Nothing, Else, Then}
 use Rattle.kernel_tree.specs.Items.{term_size, action_size, block_size}
 use Rattle.kernel_tree.specs.Typing.{Scope, after_action, after_block}
@@ -10,14 +9,6 @@ use Rattle.loop_form.specs.declared.visible.Visible.{Visible}
 use Rattle.loop_form.specs.LoopItems.{Bound, Item, item, truth_home, cond_items, action_items, block_items, after_env}
 use Rattle.loop_form.specs.LoopItems as ops
 use Rattle.loop_form.specs.LoopView.{env_of, scope_of, Declares}
-
--- a slice by its first element and what is left
-pub opened : {A : Type 0} (xs : List A) (x : A) → 1 ≤ length xs → x ≡ get_or xs 0 x → xs ≡ x ∷ take (length xs - 1) (drop 1 xs)
-opened xs x n is = first_rest xs x n ∙ ap (λ y. y ∷ take (length xs - 1) (drop 1 xs)) (sym is)
-
-pub empty : {A : Type 0} (xs : List A) → length xs < 1 → xs ≡ []
-empty [] n = refl
-empty (x ∷ xs) n = absurd (omega (arith, n))
 
 -- names that only grow begin as before
 pub kept_names : {A : Type 0} (n0 n1 n2 n3 : List A) → n1 ≡ n0 → take (length n1) n2 ≡ n1 → take (length n2) n3 ≡ n2 → take (length n0) n3 ≡ n0

@@ -30,23 +30,23 @@ module _ (c : Checked) (tree : Kernel) (is : tree ≡ kernel_of c) where
   started n v vs p q e = ap₂ (λ (m w : ℕ). m + w) (params_counted n p) (q ∙ ap (vars_size (loop_index (program c))) (vars_listed vs e))
 
   module _ (f : Loop) (at : tree.body ≡ Some f) where
-    pub found : (program c).for_loop ≡ Some (for_loop_of f)
+    pub loop_is_program_loop : (program c).for_loop ≡ Some (for_loop_of f)
     unfolding program
-    found = sym (ap (λ (t : Kernel). option_map for_loop_of t.body) is) ∙ ap (option_map for_loop_of) at
+    loop_is_program_loop = sym (ap (λ (t : Kernel). option_map for_loop_of t.body) is) ∙ ap (option_map for_loop_of) at
 
     pub body_fits : (start : ℕ) (b : List Stmt) → start ≡ loop_start (program c) → b ≡ f.body.items → size_of (program c) ≤ 1000 → start + 1 + block_size (loop_index (program c)) (block_of b) ≤ 1000
     body_fits start b s e few =
-        let size : for_loop_size (program c).for_loop ≡ 1 + block_size (Some (name_of f.index)) (block_of f.body.items) = ap for_loop_size found in
-        let index : loop_index (program c) ≡ Some (name_of f.index) = ap (option_map index_of) found in
+        let size : for_loop_size (program c).for_loop ≡ 1 + block_size (Some (name_of f.index)) (block_of f.body.items) = ap for_loop_size loop_is_program_loop in
+        let index : loop_index (program c) ≡ Some (name_of f.index) = ap (option_map index_of) loop_is_program_loop in
         let block : block_size (loop_index (program c)) (block_of b) ≡ block_size (Some (name_of f.index)) (block_of f.body.items) = ap₂ (λ (i : Option (List ℕ)) (x : List Stmt). block_size i (block_of x)) index e in
         omega (arith, s, few, size, block)
 
     pub body_near : (b : List Stmt) → b ≡ f.body.items → NearForLoop (loop_index (program c)) (program c).for_loop → NearBlock (loop_index (program c)) (block_of b)
-    body_near b e near = subst (λ (x : List Stmt). NearBlock (loop_index (program c)) (block_of x)) (sym e) (subst (NearForLoop (loop_index (program c))) found near)
+    body_near b e near = subst (λ (x : List Stmt). NearBlock (loop_index (program c)) (block_of x)) (sym e) (subst (NearForLoop (loop_index (program c))) loop_is_program_loop near)
 
-  pub not_found : tree.body ≡ None → (program c).for_loop ≡ None
+  pub no_loop_of_no_body : tree.body ≡ None → (program c).for_loop ≡ None
   unfolding program
-  not_found at = sym (ap (λ (t : Kernel). option_map for_loop_of t.body) is) ∙ ap (option_map for_loop_of) at
+  no_loop_of_no_body at = sym (ap (λ (t : Kernel). option_map for_loop_of t.body) is) ∙ ap (option_map for_loop_of) at
 
 module _ (k : Program) (old new : List Item) (none : old ≡ []) where
   pub loop_listed : (l : PlainLoop) (names : List Visible) (start : ℕ) → k.for_loop ≡ Some l → IsLoopHead k l names → start ≡ loop_start k

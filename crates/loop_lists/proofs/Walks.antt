@@ -21,11 +21,11 @@ module _ (i : Option (List ℕ)) (t from len : ℕ) (whole : Term) (falls : 2 * 
   pub has_place : (e : Term) → whole ≡ e → term_size i e ≡ 1 → len < 1000
   has_place e is z = let size = ap (term_size i) is in omega (arith, following, fits, size, z)
 
-pub listed : (k : Program) (from last_use : ℕ) (e whole : Term) (old new : List Entry) → new ≡ old ++ term_entries k from last_use e → whole ≡ e → new ≡ old ++ term_entries k from last_use whole
-listed k from last_use e whole old new n is = n ∙ ap (λ (x : Term). old ++ term_entries k from last_use x) (sym is)
+pub entries_of_same_term : (k : Program) (from last_use : ℕ) (e whole : Term) (old new : List Entry) → new ≡ old ++ term_entries k from last_use e → whole ≡ e → new ≡ old ++ term_entries k from last_use whole
+entries_of_same_term k from last_use e whole old new n is = n ∙ ap (λ (x : Term). old ++ term_entries k from last_use x) (sym is)
 
-pub counted : (i : Option (List ℕ)) (e whole : Term) (old new : ℕ) → new ≡ old + term_size i e → whole ≡ e → new ≡ old + term_size i whole
-counted i e whole old new n is = n ∙ ap (λ (x : Term). old + term_size i x) (sym is)
+pub size_of_same_term : (i : Option (List ℕ)) (e whole : Term) (old new : ℕ) → new ≡ old + term_size i e → whole ≡ e → new ≡ old + term_size i whole
+size_of_same_term i e whole old new n is = n ∙ ap (λ (x : Term). old + term_size i x) (sym is)
 
 -- ---- an index, by its offset where it is a stream index
 
@@ -89,8 +89,8 @@ module _ (k : Program) (from last_use : ℕ) (old new : List Entry) where
       four_more old e1 e2 e3 new _ _ _ _ a b c d ∙ ap₂ (parts m) q r ∙ ap (λ (m : ℕ). parts m (term_size (loop_index k) f) (term_size (loop_index k) h)) p
 
 -- an item that stands for its own user
-pub ended : (k : Program) (from : ℕ) (x : Content) (old new : List Entry) (e : Term) (m : ℕ) (middle : List Entry) → m ≡ term_size (loop_index k) e → middle ≡ old ++ term_entries k from (from + m) e → new ≡ middle ++ entry k (from + m) x (from + m) ∷ []
+pub ended_by_operand : (k : Program) (from : ℕ) (x : Content) (old new : List Entry) (e : Term) (m : ℕ) (middle : List Entry) → m ≡ term_size (loop_index k) e → middle ≡ old ++ term_entries k from (from + m) e → new ≡ middle ++ entry k (from + m) x (from + m) ∷ []
     → let item = from + term_size (loop_index k) e in new ≡ old ++ (term_entries k from item e ++ entry k item x item ∷ [])
-ended k from x old new e m middle size a b =
+ended_by_operand k from x old new e m middle size a b =
     two_parts old middle new (term_entries k from (from + m) e) (entry k (from + m) x (from + m) ∷ []) a b
     ∙ ap (λ (n : ℕ). old ++ (term_entries k from (from + n) e ++ entry k (from + n) x (from + n) ∷ [])) size

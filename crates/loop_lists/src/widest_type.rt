@@ -4,7 +4,7 @@ ghost use Rattle.std.specs.Prelude.{◌≡◌};
 ghost use Rattle.kernel_tree.specs.Plain.{parameters_of, program_of};
 ghost use Rattle.kernel_tree.specs.Checked.{kernel_of};
 ghost use Rattle.kernel_tree.specs.Typing.{element_type, binding_of_shape};
-ghost use Rattle.loop_form.specs.Lanes.{width_of, wider, type_of_array, target_type, widest, lane_width_of};
+ghost use Rattle.loop_form.specs.Lanes.{type_width, wider, type_of_array, target_type, widest, lane_width_of};
 ghost use Rattle.loop_form.specs.View.{program, content_of, entries_view};
 
 use crate::entry_list::loop_entries;
@@ -14,14 +14,9 @@ use loop_form::{Content, Entry, var_type};
 
 /// The width of the values of a type.
 pub fn type_width(ty: Ty) -> Width
-    ensures { result ≡ width_of ty }
+    ensures { result ≡ type_width ty }
 {
-    match ty {
-        Ty::I8 | Ty::U8 => Width::B,
-        Ty::I16 | Ty::U16 => Width::H,
-        Ty::I32 | Ty::U32 => Width::S,
-        Ty::I64 | Ty::U64 => Width::D,
-    }
+    Width::of(ty.log_bytes())
 }
 
 // The wider one of a width and that of a type.

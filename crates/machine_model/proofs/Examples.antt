@@ -53,9 +53,9 @@ shown (Some (End m r n)) = Ends r n
 shown (Some (Stop k pc at m n)) = Stops k pc at n
 shown (Some (Spent pc m n)) = Spends pc n
 
-run_ends : shown (machine_run e1 (41 ∷ []) [] 128 100) ≡ Ends 42 3
+example_run_ends : shown (machine_run e1 (41 ∷ []) [] 128 100) ≡ Ends 42 3
 unfolding reads_word reads add_sub_imm add_sub_shifted logical move_wide multiply_add shift_variable bitfield select branch branch_if branch_zero ret_form exception start start_of pages_of page_bytes
-run_ends = refl
+example_run_ends = refl
 
 run_wraps : shown (machine_run e1 (0xffffffffffffffff ∷ []) [] 2048 3) ≡ Ends 0 3
 unfolding reads_word reads add_sub_imm add_sub_shifted logical move_wide multiply_add shift_variable bitfield select branch branch_if branch_zero ret_form exception start start_of pages_of page_bytes
@@ -79,8 +79,8 @@ refusal (Err fault) = Some fault
 abbrev edited : ℕ → ℕ → Option ElfFault
 edited place byte = refusal (load (slice_set e1 place byte))
 
-empty : refusal (load []) ≡ Some (Short 64 0)
-empty = refl
+empty_file_is_short : refusal (load []) ≡ Some (Short 64 0)
+empty_file_is_short = refl
 
 cut_in_header : refusal (load (take 63 e1)) ≡ Some (Short 64 63)
 cut_in_header = refl

@@ -99,6 +99,6 @@ case_196 = goes (state (0xc5419cbe ∷ []) (page 16 ReadWrite (zeros 64 ++ (165 
 abbrev cases : List Case
 cases = case_156 ∷ case_161 ∷ case_168 ∷ case_170 ∷ case_172 ∷ case_173 ∷ case_174 ∷ case_176 ∷ case_177 ∷ case_180 ∷ case_183 ∷ case_185 ∷ case_186 ∷ case_189 ∷ case_190 ∷ case_191 ∷ case_192 ∷ case_193 ∷ case_194 ∷ case_195 ∷ case_196 ∷ []
 
-cut : map cuts cases ≡ map cut_of cases
+load_cases_cut : map cuts cases ≡ map cut_of cases
 unfolding reads_word reads a64.add_sub_imm a64.add_sub_shifted a64.logical a64.move_wide a64.multiply_add a64.shift_variable a64.bitfield a64.select a64.branch a64.branch_if a64.branch_zero a64.ret_form a64.exception a64.nop_form a64.umov_form a64.byte_imm a64.wide_imm a64.byte_register a64.wide_register sve.true_form sve.false_form sve.while_below sve.test_form sve.pred_logic sve.break_form sve.read_ffr sve.read_ffr_zeroing sve.set_ffr sve.write_ffr sve.count sve.increment_by_count sve.count_true sve.duplicate sve.index sve.select sve.add_sub sve.logic sve.shift_imm sve.merging sve.unary sve.extend_byte sve.extend_half sve.extend_word sve.reduce sve.compare sve.load sve.load_first_fault sve.load_no_fault sve.load_gather sve.store elements bits_of folded broken
-cut = refl
+load_cases_cut = refl

@@ -48,12 +48,12 @@ load_go s d f (Err fault) = Unchanged s.memory
 load_stores : (s : State) (d address size : ℕ) (f : ℕ → ℕ) → ByStores (load_to s d address size f) s
 load_stores s d address size f = load_go s d f (loaded s.memory address size)
 
-store_go : (s : State) (address size v : ℕ) (o : Result Memory AccessFault) → stored s.memory address size v ≡ o → ByStores (elim o as (λ o. Step) [ Ok memory ↦ Went (next (record s { memory = memory })) | Err fault ↦ Stopped Write s.pc fault.address s.memory ]) s
-store_go s address size v (Ok m) is = Stored s.memory m m address size v is (Unchanged m)
-store_go s address size v (Err fault) is = Unchanged s.memory
+store_by_stores : (s : State) (address size v : ℕ) (o : Result Memory AccessFault) → stored s.memory address size v ≡ o → ByStores (elim o as (λ o. Step) [ Ok memory ↦ Went (next (record s { memory = memory })) | Err fault ↦ Stopped Write s.pc fault.address s.memory ]) s
+store_by_stores s address size v (Ok m) is = Stored s.memory m m address size v is (Unchanged m)
+store_by_stores s address size v (Err fault) is = Unchanged s.memory
 
 store_stores : (s : State) (d address size : ℕ) → ByStores (store_from s d address size) s
-store_stores s d address size = store_go s address size (x_at s d) (stored s.memory address size (x_at s d)) refl
+store_stores s d address size = store_by_stores s address size (x_at s d) (stored s.memory address size (x_at s d)) refl
 
 scalar_stores : (n : a64.Name) (ns : List ℕ) (s : State) → ByStores (act n ns s) s
 scalar_stores a64.add_imm ns s = or_sp_stores (nat_eq (arg ns 0) 31) s (arg ns 0) _

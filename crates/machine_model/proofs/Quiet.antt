@@ -129,11 +129,11 @@ word_quiet (Some word) s t q e = read_quiet (reads_word word) word s t q e
 pub step_quiet : (s t : State) → s.stops ≡ never → step s ≡ Went t → t.stops ≡ never
 step_quiet s t q e = word_quiet (fetched s.memory s.pc) s t q e
 
-after_one : (o : Step) (n : ℕ) (t : State) → ((u : State) → o ≡ Went u → u.stops ≡ never) → ((u : State) → u.stops ≡ never → after_steps n u ≡ Some t → t.stops ≡ never) → elim o as (λ o. Option State) [ Went u ↦ after_steps n u | Ended result ↦ None | Stopped kind pc at memory ↦ None ] ≡ Some t → t.stops ≡ never
-after_one (Went u) n t is rest e = rest u (is u refl) e
-after_one (Ended r) n t is rest e = absurd cc
-after_one (Stopped k p a m) n t is rest e = absurd cc
+never_after_step : (o : Step) (n : ℕ) (t : State) → ((u : State) → o ≡ Went u → u.stops ≡ never) → ((u : State) → u.stops ≡ never → after_steps n u ≡ Some t → t.stops ≡ never) → elim o as (λ o. Option State) [ Went u ↦ after_steps n u | Ended result ↦ None | Stopped kind pc at memory ↦ None ] ≡ Some t → t.stops ≡ never
+never_after_step (Went u) n t is rest e = rest u (is u refl) e
+never_after_step (Ended r) n t is rest e = absurd cc
+never_after_step (Stopped k p a m) n t is rest e = absurd cc
 
 pub steps_quiet : (n : ℕ) (s t : State) → s.stops ≡ never → after_steps n s ≡ Some t → t.stops ≡ never
 steps_quiet zero s t q e = let same : s ≡ t = cc in subst (λ (u : State). u.stops ≡ never) same q
-steps_quiet (suc n) s t q e = after_one (step s) n t (λ u is. step_quiet s u q is) (λ u is rest. steps_quiet n u t is rest) e
+steps_quiet (suc n) s t q e = never_after_step (step s) n t (λ u is. step_quiet s u q is) (λ u is rest. steps_quiet n u t is rest) e

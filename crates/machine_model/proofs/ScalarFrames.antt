@@ -12,8 +12,8 @@ use Rattle.machine_model.specs.Machine.{State, Step, Went, Ended, Stopped, x_at,
 use Rattle.machine_model.specs.Effects.{act, arg, jump_if, write, write_or_sp, write_with_flags, load_to, store_from, as_it_is, from_byte, from_half, from_word, at_offset, at_register, at_scaled}
 use Rattle.machine_model.specs.Frames.{Parts, LeavesOther, ScalarLeaves}
 
-same_state : (parts : Parts) (s : State) {u t : State} → Went u ≡ Went t → LeavesOther parts s u → LeavesOther parts s t
-same_state parts s {u = u} {t = t} e k = let same : u ≡ t = cc in subst (λ x. LeavesOther parts s x) same k
+leaves_other_of_went : (parts : Parts) (s : State) {u t : State} → Went u ≡ Went t → LeavesOther parts s u → LeavesOther parts s t
+leaves_other_of_went parts s {u = u} {t = t} e k = let same : u ≡ t = cc in subst (λ x. LeavesOther parts s x) same k
 
 -- one general register, and where `sp` or `flags` is true that part too
 abbrev one_x : ℕ → (sp flags : Bool) → Parts
@@ -23,17 +23,17 @@ abbrev no_x : (pc memory : Bool) → Parts
 no_x pc memory = record { pc = pc; x = None; sp = false; z = None; p = None; flags = false; ffr = false; stops = false; memory = memory }
 
 writes : (s t : State) (d v : ℕ) → write s d v ≡ Went t → LeavesOther (one_x d false false) s t
-writes s t d v e = same_state (one_x d false false) s e (record { pc = refl; sp = refl; vl = refl; code = λ a lt. refl; access = λ a. (refl, refl); memory = refl; flags = refl; ffr = refl; stops = refl; x = λ n ne. get_or-set_other s.x d n v 0 ne; z = refl; p = refl })
+writes s t d v e = leaves_other_of_went (one_x d false false) s e (record { pc = refl; sp = refl; vl = refl; code = λ a lt. refl; access = λ a. (refl, refl); memory = refl; flags = refl; ffr = refl; stops = refl; x = λ n ne. get_or-set_other s.x d n v 0 ne; z = refl; p = refl })
 
 or_sp : (b : Bool) (s : State) (d v : ℕ) → LeavesOther (one_x d b false) s (next (if b then record s { sp = v } else with_x s d v))
 or_sp true s d v = record { pc = refl; sp = tt; vl = refl; code = λ a lt. refl; access = λ a. (refl, refl); memory = refl; flags = refl; ffr = refl; stops = refl; x = λ n ne. refl; z = refl; p = refl }
 or_sp false s d v = record { pc = refl; sp = refl; vl = refl; code = λ a lt. refl; access = λ a. (refl, refl); memory = refl; flags = refl; ffr = refl; stops = refl; x = λ n ne. get_or-set_other s.x d n v 0 ne; z = refl; p = refl }
 
 writes_or_sp : (s t : State) (d v : ℕ) → write_or_sp s d v ≡ Went t → LeavesOther (one_x d (nat_eq d 31) false) s t
-writes_or_sp s t d v e = same_state (one_x d (nat_eq d 31) false) s e (or_sp (nat_eq d 31) s d v)
+writes_or_sp s t d v e = leaves_other_of_went (one_x d (nat_eq d 31) false) s e (or_sp (nat_eq d 31) s d v)
 
 with_flags : (s t : State) (d left right : ℕ) → write_with_flags s d left right ≡ Went t → LeavesOther (one_x d false true) s t
-with_flags s t d left right e = same_state (one_x d false true) s e (record { pc = refl; sp = refl; vl = refl; code = λ a lt. refl; access = λ a. (refl, refl); memory = refl; flags = tt; ffr = refl; stops = refl; x = λ n ne. get_or-set_other s.x d n (difference left right) 0 ne; z = refl; p = refl })
+with_flags s t d left right e = leaves_other_of_went (one_x d false true) s e (record { pc = refl; sp = refl; vl = refl; code = λ a lt. refl; access = λ a. (refl, refl); memory = refl; flags = tt; ffr = refl; stops = refl; x = λ n ne. get_or-set_other s.x d n (difference left right) 0 ne; z = refl; p = refl })
 
 load_go : (s t : State) (d : ℕ) (f : ℕ → ℕ) (o : Result ℕ AccessFault) → elim o as (λ o. Step) [ Ok v ↦ write s d (f v) | Err fault ↦ Stopped Read s.pc fault.address s.memory ] ≡ Went t → LeavesOther (one_x d false false) s t
 load_go s t d f (Ok v) e = writes s t d (f v) e
@@ -42,22 +42,22 @@ load_go s t d f (Err fault) e = absurd cc
 loads : (s t : State) (d address size : ℕ) (f : ℕ → ℕ) → load_to s d address size f ≡ Went t → LeavesOther (one_x d false false) s t
 loads s t d address size f e = load_go s t d f (loaded s.memory address size) e
 
-store_go : (s t : State) (address size v : ℕ) (o : Result Memory AccessFault) → stored s.memory address size v ≡ o → elim o as (λ o. Step) [ Ok memory ↦ Went (next (record s { memory = memory })) | Err fault ↦ Stopped Write s.pc fault.address s.memory ] ≡ Went t → LeavesOther (no_x false true) s t
-store_go s t address size v (Ok m) is e = same_state (no_x false true) s e (record { pc = refl; sp = refl; vl = refl; code = λ a lt. fetched-stored s.memory m address size v a lt is; access = λ a. (can_read-stored s.memory m address size v a is, can_write-stored s.memory m address size v a is); memory = tt; flags = refl; ffr = refl; stops = refl; x = refl; z = refl; p = refl })
-store_go s t address size v (Err fault) is e = absurd cc
+store_leaves_other : (s t : State) (address size v : ℕ) (o : Result Memory AccessFault) → stored s.memory address size v ≡ o → elim o as (λ o. Step) [ Ok memory ↦ Went (next (record s { memory = memory })) | Err fault ↦ Stopped Write s.pc fault.address s.memory ] ≡ Went t → LeavesOther (no_x false true) s t
+store_leaves_other s t address size v (Ok m) is e = leaves_other_of_went (no_x false true) s e (record { pc = refl; sp = refl; vl = refl; code = λ a lt. fetched-stored s.memory m address size v a lt is; access = λ a. (can_read-stored s.memory m address size v a is, can_write-stored s.memory m address size v a is); memory = tt; flags = refl; ffr = refl; stops = refl; x = refl; z = refl; p = refl })
+store_leaves_other s t address size v (Err fault) is e = absurd cc
 
 stores : (s t : State) (d address size : ℕ) → store_from s d address size ≡ Went t → LeavesOther (no_x false true) s t
-stores s t d address size e = store_go s t address size (x_at s d) (stored s.memory address size (x_at s d)) refl e
+stores s t d address size e = store_leaves_other s t address size (x_at s d) (stored s.memory address size (x_at s d)) refl e
 
 jumps : (s t : State) (to : ℕ) → Went (jump s to) ≡ Went t → LeavesOther (no_x true false) s t
-jumps s t to e = same_state (no_x true false) s e (record { pc = tt; sp = refl; vl = refl; code = λ a lt. refl; access = λ a. (refl, refl); memory = refl; flags = refl; ffr = refl; stops = refl; x = refl; z = refl; p = refl })
+jumps s t to e = leaves_other_of_went (no_x true false) s e (record { pc = tt; sp = refl; vl = refl; code = λ a lt. refl; access = λ a. (refl, refl); memory = refl; flags = refl; ffr = refl; stops = refl; x = refl; z = refl; p = refl })
 
 jumps_if : (b : Bool) (s t : State) (to : ℕ) → jump_if b s to ≡ Went t → LeavesOther (no_x true false) s t
 jumps_if true s t to e = jumps s t to e
 jumps_if false s t to e = jumps s t ((s.pc + 4) % 2 ^ 64) e
 
-goes_on : (s t : State) → Went (next s) ≡ Went t → LeavesOther (no_x false false) s t
-goes_on s t e = same_state (no_x false false) s e (record { pc = refl; sp = refl; vl = refl; code = λ a lt. refl; access = λ a. (refl, refl); memory = refl; flags = refl; ffr = refl; stops = refl; x = refl; z = refl; p = refl })
+next_leaves_other : (s t : State) → Went (next s) ≡ Went t → LeavesOther (no_x false false) s t
+next_leaves_other s t e = leaves_other_of_went (no_x false false) s e (record { pc = refl; sp = refl; vl = refl; code = λ a lt. refl; access = λ a. (refl, refl); memory = refl; flags = refl; ffr = refl; stops = refl; x = refl; z = refl; p = refl })
 
 calls : (b : Bool) (s t : State) → (if b then Ended (x_at s 0) else Stopped Call s.pc (x_at s 8) s.memory) ≡ Went t → LeavesOther (no_x false false) s t
 calls true s t e = absurd cc
@@ -75,7 +75,7 @@ scalar_leaves cbnz ns s t e = jumps_if (not (nat_eq (x_at s (arg ns 0)) 0)) s t 
 scalar_leaves ret ns s t e = jumps s t (x_at s (arg ns 0)) e
 scalar_leaves svc ns s t e = calls (nat_eq (arg ns 0) 0 && nat_eq (x_at s 8) 93) s t e
 scalar_leaves brk ns s t e = absurd cc
-scalar_leaves nop ns s t e = goes_on s t e
+scalar_leaves nop ns s t e = next_leaves_other s t e
 scalar_leaves ldrb ns s t e = loads s t (arg ns 0) (at_offset 1 ns s) 1 as_it_is e
 scalar_leaves ldrsb ns s t e = loads s t (arg ns 0) (at_offset 1 ns s) 1 from_byte e
 scalar_leaves strb ns s t e = stores s t (arg ns 0) (at_offset 1 ns s) 1 e

@@ -22,7 +22,7 @@ use Rattle.machine_model.specs.Arithmetic.{sum, difference, inverted, shifted_wo
 use Rattle.machine_model.specs.Machine.{State, Step, Went, Ended, Stopped, x_at, with_x, with_x_or_sp, z_at, jump, next}
 use Rattle.machine_model.specs.Effects.{act, arg, jump_if, write, write_or_sp, write_with_flags, load_to, store_from, as_it_is, from_byte, from_half, from_word, immediate, base, first, second, half_place, product, shift_by, at_offset, at_register, at_scaled}
 use Rattle.machine_model.specs.States.{IsVector, IsState}
-use Rattle.machine_model.proofs.StateSteps.{moved, wrapped, same_state, x_kept, sp_kept, jumped, flags_kept, memory_kept, x_put}
+use Rattle.machine_model.proofs.StateSteps.{next_is_state, wrapped, state_of_went, x_kept, sp_kept, jumped, flags_kept, memory_kept, x_put}
 
 -- ---- numbers of 64 bits
 
@@ -129,12 +129,12 @@ or_sp_kept true s d v h lt = sp_kept s v h lt
 or_sp_kept false s d v h lt = x_kept s d v h lt
 
 or_sp_keeps : (s t : State) (d v : ℕ) → IsState s → v < 2 ^ 64 → write_or_sp s d v ≡ Went t → IsState t
-or_sp_keeps s t d v h lt e = same_state e (moved (with_x_or_sp s d v) (or_sp_kept (nat_eq d 31) s d v h lt))
+or_sp_keeps s t d v h lt e = state_of_went e (next_is_state (with_x_or_sp s d v) (or_sp_kept (nat_eq d 31) s d v h lt))
 
 flags_keeps : (s t : State) (d left right : ℕ) → IsState s → write_with_flags s d left right ≡ Went t → IsState t
 flags_keeps s t d left right h e =
     let v = difference left right in
-    same_state e (moved (record (with_x s d v) { flags = _ }) (flags_kept (with_x s d v) _ (x_kept s d v h (wrapped (left + (2 ^ 64 - right))))))
+    state_of_went e (next_is_state (record (with_x s d v) { flags = _ }) (flags_kept (with_x s d v) _ (x_kept s d v h (wrapped (left + (2 ^ 64 - right))))))
 
 load_go : (s t : State) (d : ℕ) (f : ℕ → ℕ) (o : Result ℕ AccessFault) → IsState s → ((v : ℕ) → o ≡ Ok v → f v < 2 ^ 64) → elim o as (λ o. Step) [ Ok v ↦ write s d (f v) | Err fault ↦ Stopped Read s.pc fault.address s.memory ] ≡ Went t → IsState t
 load_go s t d f (Ok v) h lt e = write_keeps s t d (f v) h (lt v refl) e
@@ -144,20 +144,20 @@ load_keeps : (s t : State) (d address size : ℕ) (f : ℕ → ℕ) → IsState 
 load_keeps s t d address size f h lt e =
     load_go s t d f (loaded s.memory address size) h (λ v is. lt v (loaded-below s.memory address size v h.mapped is)) e
 
-store_go : (s t : State) (o : Result Memory AccessFault) → IsState s → ((m : Memory) → o ≡ Ok m → IsMemory m) → elim o as (λ o. Step) [ Ok memory ↦ Went (next (record s { memory = memory })) | Err fault ↦ Stopped Write s.pc fault.address s.memory ] ≡ Went t → IsState t
-store_go s t (Ok m) h is e = same_state e (moved (record s { memory = m }) (memory_kept s m h (is m refl)))
-store_go s t (Err fault) h is e = absurd cc
+store_keeps_state : (s t : State) (o : Result Memory AccessFault) → IsState s → ((m : Memory) → o ≡ Ok m → IsMemory m) → elim o as (λ o. Step) [ Ok memory ↦ Went (next (record s { memory = memory })) | Err fault ↦ Stopped Write s.pc fault.address s.memory ] ≡ Went t → IsState t
+store_keeps_state s t (Ok m) h is e = state_of_went e (next_is_state (record s { memory = m }) (memory_kept s m h (is m refl)))
+store_keeps_state s t (Err fault) h is e = absurd cc
 
 store_keeps : (s t : State) (d address size : ℕ) → IsState s → store_from s d address size ≡ Went t → IsState t
 store_keeps s t d address size h e =
-    store_go s t (stored s.memory address size (x_at s d)) h (λ m ok. IsMemory-stored s.memory m address size (x_at s d) ok h.mapped) e
+    store_keeps_state s t (stored s.memory address size (x_at s d)) h (λ m ok. IsMemory-stored s.memory m address size (x_at s d) ok h.mapped) e
 
 jump_keeps : (s t : State) (to : ℕ) → IsState s → to < 2 ^ 64 → Went (jump s to) ≡ Went t → IsState t
-jump_keeps s t to h lt e = same_state e (jumped s to h lt)
+jump_keeps s t to h lt e = state_of_went e (jumped s to h lt)
 
 jump_if_keeps : (b : Bool) (s t : State) (to : ℕ) → IsState s → to < 2 ^ 64 → jump_if b s to ≡ Went t → IsState t
 jump_if_keeps true s t to h lt e = jump_keeps s t to h lt e
-jump_if_keeps false s t to h lt e = same_state e (moved s h)
+jump_if_keeps false s t to h lt e = state_of_went e (next_is_state s h)
 
 call_keeps : (b : Bool) (s t : State) → (if b then Ended (x_at s 0) else Stopped Call s.pc (x_at s 8) s.memory) ≡ Went t → IsState t
 call_keeps true s t e = absurd cc
@@ -222,7 +222,7 @@ scalar_keeps cbnz ns s t fill h e = jump_if_keeps (not (nat_eq (x_at s (arg ns 0
 scalar_keeps ret ns s t fill h e = jump_keeps s t (x_at s (arg ns 0)) h (register_below s (arg ns 0) h) e
 scalar_keeps svc ns s t fill h e = call_keeps (nat_eq (arg ns 0) 0 && nat_eq (x_at s 8) 93) s t e
 scalar_keeps brk ns s t fill h e = absurd cc
-scalar_keeps nop ns s t fill h e = same_state e (moved s h)
+scalar_keeps nop ns s t fill h e = state_of_went e (next_is_state s h)
 scalar_keeps umov ns s t fill h e = write_keeps s t (arg ns 0) (element 8 (z_at s (arg ns 1)) 0) h (doubleword_below s (arg ns 1) h) e
 scalar_keeps ldrb ns s t fill h e = load_keeps s t (arg ns 0) (at_offset 1 ns s) 1 as_it_is h from_1 e
 scalar_keeps ldrsb ns s t fill h e = load_keeps s t (arg ns 0) (at_offset 1 ns s) 1 from_byte h signed_1 e

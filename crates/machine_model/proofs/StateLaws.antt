@@ -2,22 +2,24 @@
 -- that of the lanes in use; and the numbers of fields are in range.
 use Rattle.std.proofs.Common.{◌≡◌, ℕ, zero, suc, ◌+◌, ◌*◌, ◌/◌, ◌%◌, ◌^◌, ◌<◌, ◌≤◌, Bool, true, false, not, cond, List, [], ◌∷◌, Option, Some, None, inl, inr, refl, sym, ap, ◌∙◌, subst, arith, lit<}
 use Rattle.std.specs.Prelude.{slice_index, nat_eq, nat_lt, is_none, IfSome, ◌&&◌, if◌then◌else◌}
-use Rattle.std.proofs.lemmas.Bool.{and_parts, and_left, and_right, cases_lt, le-ltb, eqb-true}
+use Rattle.std.proofs.lemmas.Bool.{and_parts, and_left, and_right, cases_lt, cond-false, le-ltb, eqb-true, ne_eqb}
 use Rattle.std.proofs.Math.Nat.{one-le-pow}
 use Rattle.guest_types.specs.declared.length.Width.TheVariants.{B}
-use Rattle.guest_types.specs.Length.{IsLength, lanes}
+use Rattle.guest_types.specs.Length.{IsLength, lanes, width_bytes}
 use Rattle.guest_types.specs.declared.operation.PredOp.{PredOp}
 use Rattle.guest_types.specs.Elements.{predicate, element_bit, bit, both, first_true, last_true, true_at, pred_test}
 use Rattle.guest_types.specs.Lanes.{pred_bit, logic_at, logic_of, broken, brk_at, brk_of}
 use Rattle.guest_types.proofs.Predicates.{element_bit-bytes}
 use Rattle.guest_types.proofs.AtWidths.{bits_of-ext}
+use Rattle.guest_types.specs.declared.length.Width.{Width}
 use Rattle.word_rows.specs.Field.{Field}
 use Rattle.word_rows.specs.Row.{Instruction, IsInstruction, Fill}
 use Rattle.sve_code.specs.Table.{Name, row, sve_names, pn}
-use Rattle.machine_model.specs.Machine.{State, Went}
+use Rattle.machine_model.specs.Machine.{State, Went, x_at, x_or_sp}
 use Rattle.machine_model.specs.VectorEffects.{same_field, place_in, field_of, do_vector}
 use Rattle.machine_model.specs.States.{IsPredicate, IsState}
 use Rattle.machine_model.proofs.StateSteps.{all_past, went_keeps}
+use Rattle.machine_model.specs.Arithmetic.{shifted_word}
 
 -- bits that are false past the vector length
 bits_past : (vl : ℕ) (f : ℕ → Bool) (j : ℕ) → IsLength vl → ((i : ℕ) → vl / 8 ≤ i → f i ≡ false) → j < 256 → element_bit 1 f 256 j ≡ element_bit 1 f (lanes vl B) j
@@ -88,16 +90,31 @@ pred_test-ext m k t u n masks truths =
 some_value : (width : ℕ) → 0 < 2 ^ width
 some_value width = one-le-pow width 2 (lit< tt)
 
-found : (b : Bool) (first field : Field) (fields : List Field) (n : ℕ) (ns : List ℕ) → same_field first field ≡ b → n < 2 ^ first.width → slice_index ns (place_in fields field) < 2 ^ field.width → slice_index (n ∷ ns) (if b then 0 else suc (place_in fields field)) < 2 ^ field.width
-found true first field fields n ns is lt rest = let e = eqb-true first.width field.width (and_parts _ _ is).1 in subst (λ w. n < 2 ^ w) e lt
-found false first field fields n ns is lt rest = rest
+field_number_below : (b : Bool) (first field : Field) (fields : List Field) (n : ℕ) (ns : List ℕ) → same_field first field ≡ b → n < 2 ^ first.width → slice_index ns (place_in fields field) < 2 ^ field.width → slice_index (n ∷ ns) (if b then 0 else suc (place_in fields field)) < 2 ^ field.width
+field_number_below true first field fields n ns is lt rest = let e = eqb-true first.width field.width (and_parts _ _ is).1 in subst (λ w. n < 2 ^ w) e lt
+field_number_below false first field fields n ns is lt rest = rest
 
 pub field_below : (fields : List Field) (ns : List ℕ) (field : Field) → Fill fields ns → slice_index ns (place_in fields field) < 2 ^ field.width
 field_below [] [] field fill = some_value field.width
 field_below [] (n ∷ ns) field fill = absurd fill
 field_below (first ∷ fields) [] field fill = absurd fill
-field_below (first ∷ fields) (n ∷ ns) field fill = found (same_field first field) first field fields n ns refl fill.0 (field_below fields ns field fill.1)
+field_below (first ∷ fields) (n ∷ ns) field fill = field_number_below (same_field first field) first field fields n ns refl fill.0 (field_below fields ns field fill.1)
 
 -- a listed SVE instruction that goes on keeps the shape of the state
 pub vector_keeps : (i : Instruction Name) (s t : State) → IsInstruction row sve_names i → IsState s → do_vector i s ≡ Went t → IsState t
 vector_keeps i s t listed h e = went_keeps i.name (field_of i.name i.numbers) s t (field_below (row i.name).fields i.numbers pn listed.fits) h e
+
+-- ---- a register that is not the stack pointer, a word that is not shifted, and one element of any width
+
+pub x_or_sp-below : (s : State) (n : ℕ) → n < 31 → x_or_sp s n ≡ x_at s n
+x_or_sp-below s n lt = cond-false _ _ _ (ne_eqb n 31 (λ e. omega arith))
+
+pub x_or_sp-low : (s : State) (p : ℕ) → p ≤ 25 → x_or_sp s p ≡ x_at s p
+x_or_sp-low s p le = x_or_sp-below s p (omega arith)
+
+pub shifted_word-zero : (v : ℕ) → v < 2 ^ 64 → shifted_word 0 v 0 ≡ v
+shifted_word-zero v h = omega (arith, h)
+
+pub one_element-fits : (vl : ℕ) (w : Width) → IsLength vl → width_bytes w * 1 ≤ vl / 8
+one_element-fits vl B h = omega arith
+one_element-fits vl other h = omega arith

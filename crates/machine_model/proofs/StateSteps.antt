@@ -122,8 +122,8 @@ fills vl w h = omega (arith, width_bytes-lanes vl w h)
 pub wrapped : (n : ℕ) → n % 2 ^ 64 < 2 ^ 64
 wrapped n = mod-lt n (lit< tt)
 
-pub moved : (s : State) → IsState s → IsState (next s)
-moved s h = record {
+pub next_is_state : (s : State) → IsState s → IsState (next s)
+next_is_state s h = record {
   sized = h.sized;
   mapped = h.mapped;
   place = wrapped (s.pc + 4);
@@ -272,8 +272,8 @@ early_kept s d load h v p = record {
   ffr_is = p;
 }
 
-p_is : (s : State) (n : ℕ) → IsState s → n < 16 → IsPredicate s.vl (p_at s n)
-p_is s n h lt = All-get_or (IsPredicate s.vl) s.p n [] (omega (arith, h.p_count)) h.p_each
+predicate_of_state : (s : State) (n : ℕ) → IsState s → n < 16 → IsPredicate s.vl (p_at s n)
+predicate_of_state s n h lt = All-get_or (IsPredicate s.vl) s.p n [] (omega (arith, h.p_count)) h.p_each
 
 -- ---- the start
 
@@ -308,18 +308,18 @@ free_start_is image args pages vl stops h = image_start_is image args pages vl s
 
 -- ---- the shapes of rows
 
-pub same_state : {u t : State} → Went u ≡ Went t → IsState u → IsState t
-same_state {u = u} {t = t} e h = let f : u ≡ t = cc in subst IsState f h
+pub state_of_went : {u t : State} → Went u ≡ Went t → IsState u → IsState t
+state_of_went {u = u} {t = t} e h = let f : u ≡ t = cc in subst IsState f h
 
 pub lanes_put : (s t : State) (d : ℕ) (w : Width) (f : ℕ → ℕ) → IsState s → put_lanes s d w f ≡ Went t → IsState t
 lanes_put s t d w f h e =
     let v = vector_made s.vl (width_bytes w) f (lanes s.vl w) h.sized (fills s.vl w h.sized) in
-    same_state e (moved (with_z s d (register (width_bytes w) f (lanes s.vl w))) (z_kept s d (register (width_bytes w) f (lanes s.vl w)) h v))
+    state_of_went e (next_is_state (with_z s d (register (width_bytes w) f (lanes s.vl w))) (z_kept s d (register (width_bytes w) f (lanes s.vl w)) h v))
 
 pub one_put : (s t : State) (d : ℕ) (w : Width) (v : ℕ) → IsState s → Went (next (with_z s d (reduced w v))) ≡ Went t → IsState t
 one_put s t d w v h e =
     let is = vector_made s.vl (width_bytes w) (dup_at v) 1 h.sized (one_fits s.vl w h.sized) in
-    same_state e (moved (with_z s d (reduced w v)) (z_kept s d (reduced w v) h is))
+    state_of_went e (next_is_state (with_z s d (reduced w v)) (z_kept s d (reduced w v) h is))
   where
     one_fits : (vl : ℕ) (w : Width) → IsLength vl → width_bytes w * 1 ≤ vl / 8
     one_fits vl B h = omega arith
@@ -328,25 +328,25 @@ one_put s t d w v h e =
 pub truths_put : (s t : State) (d : ℕ) (w : Width) (f : ℕ → Bool) → IsState s → put_truths s d w f ≡ Went t → IsState t
 truths_put s t d w f h e =
     let p = truths_made s.vl (width_bytes w) f (lanes s.vl w) (fills s.vl w h.sized) in
-    same_state e (moved (with_p s d (predicate (width_bytes w) f (lanes s.vl w))) (p_kept s d (predicate (width_bytes w) f (lanes s.vl w)) h p))
+    state_of_went e (next_is_state (with_p s d (predicate (width_bytes w) f (lanes s.vl w))) (p_kept s d (predicate (width_bytes w) f (lanes s.vl w)) h p))
 
 pub tested_put : (s t : State) (d : ℕ) (w : Width) (mask f : ℕ → Bool) → IsState s → put_tested s d w mask f ≡ Went t → IsState t
 tested_put s t d w mask f h e =
     let bytes = predicate (width_bytes w) f (lanes s.vl w) in
     let p = truths_made s.vl (width_bytes w) f (lanes s.vl w) (fills s.vl w h.sized) in
-    same_state e (moved (with_flags (with_p s d bytes) _) (flags_kept (with_p s d bytes) _ (p_kept s d bytes h p)))
+    state_of_went e (next_is_state (with_flags (with_p s d bytes) _) (flags_kept (with_p s d bytes) _ (p_kept s d bytes h p)))
 
 pub p_put : (s t : State) (d : ℕ) (bytes : List ℕ) → IsState s → IsPredicate s.vl bytes → Went (next (with_p s d bytes)) ≡ Went t → IsState t
-p_put s t d bytes h p e = same_state e (moved (with_p s d bytes) (p_kept s d bytes h p))
+p_put s t d bytes h p e = state_of_went e (next_is_state (with_p s d bytes) (p_kept s d bytes h p))
 
 pub ffr_put : (s t : State) (bytes : List ℕ) → IsState s → IsPredicate s.vl bytes → Went (next (with_ffr s bytes)) ≡ Went t → IsState t
-ffr_put s t bytes h p e = same_state e (moved (with_ffr s bytes) (ffr_kept s bytes h p))
+ffr_put s t bytes h p e = state_of_went e (next_is_state (with_ffr s bytes) (ffr_kept s bytes h p))
 
 pub flags_put : (s t : State) (flags : Flags) → IsState s → Went (next (with_flags s flags)) ≡ Went t → IsState t
-flags_put s t flags h e = same_state e (moved (with_flags s flags) (flags_kept s flags h))
+flags_put s t flags h e = state_of_went e (next_is_state (with_flags s flags) (flags_kept s flags h))
 
 pub x_put : (s t : State) (d v : ℕ) → IsState s → v < 2 ^ 64 → put_x s d v ≡ Went t → IsState t
-x_put s t d v h lt e = same_state e (moved (with_x s d v) (x_kept s d v h lt))
+x_put s t d v h lt e = state_of_went e (next_is_state (with_x s d v) (x_kept s d v h lt))
 
 -- ---- loads and stores
 
@@ -362,7 +362,7 @@ cleared_is vl w (Some e) ffr p h = predicate_made vl (kept_bit ffr (width_bytes 
     none_past ffr j p le = all_past ffr p j le
 
 pub early_put : (s t : State) (d : ℕ) (load : EarlyLoad) → IsState s → IsVector s.vl load.loaded.z → IsPredicate s.vl load.loaded.ffr → Went (next (with_early s d load)) ≡ Went t → IsState t
-early_put s t d load h v p e = same_state e (moved (with_early s d load) (early_kept s d load h v p))
+early_put s t d load h v p e = state_of_went e (next_is_state (with_early s d load) (early_kept s d load h v p))
 
 pub first_put : (s t : State) (d : ℕ) (o : Option AccessFault) (load : EarlyLoad) → IsState s → IsVector s.vl load.loaded.z → IsPredicate s.vl load.loaded.ffr → after_early (unless_fault o load) d s ≡ Went t → IsState t
 first_put s t d None load h v p e = early_put s t d load h v p e
@@ -379,7 +379,7 @@ stored_memory on f v k (suc left) e m m2 h is =
     store_step (on e) (stored m (f e) k (v e)) m m2 (store_lanes on f v k left (e + 1)) (λ x ok. IsMemory-stored m x (f e) k (v e) ok h) h (λ x hx ex. stored_memory on f v k left (e + 1) x m2 hx ex) is
 
 pub store_put : (s t : State) (l : StoredLanes) → ((m : Memory) → l ≡ AllStored m → IsMemory m) → IsState s → after_store l s ≡ Went t → IsState t
-store_put s t (AllStored m) is h e = same_state e (moved (record s { memory = m }) (memory_kept s m h (is m refl)))
+store_put s t (AllStored m) is h e = state_of_went e (next_is_state (record s { memory = m }) (memory_kept s m h (is m refl)))
 store_put s t (StoreFault fault m) is h e = absurd cc
 
 -- ---- counts
@@ -391,17 +391,17 @@ lanes_small vl other h = omega arith
 in_64 : (n : ℕ) → n < 257 → n < 2 ^ 64
 in_64 n h = omega arith
 
-one_more : (b : Bool) (a n : ℕ) → a ≤ n → a + cond b 1 0 ≤ suc n
-one_more true a n h = omega arith
-one_more false a n h = omega arith
+count_le_suc : (b : Bool) (a n : ℕ) → a ≤ n → a + cond b 1 0 ≤ suc n
+count_le_suc true a n h = omega arith
+count_le_suc false a n h = omega arith
 
-counted : (w : Width) (pg p : List ℕ) (n : ℕ) → count_of w n pg p ≤ n
+count_of_le : (w : Width) (pg p : List ℕ) (n : ℕ) → count_of w n pg p ≤ n
 unfolding folded
-counted w pg p zero = omega arith
-counted w pg p (suc n) = one_more (active w pg n && active w p n) (folded plus 0 (count_at w pg p) n) n (counted w pg p n)
+count_of_le w pg p zero = omega arith
+count_of_le w pg p (suc n) = count_le_suc (active w pg n && active w p n) (folded plus 0 (count_at w pg p) n) n (count_of_le w pg p n)
 
 pub count_small : (vl : ℕ) (w : Width) (pg p : List ℕ) → IsLength vl → count_of w (lanes vl w) pg p < 2 ^ 64
-count_small vl w pg p h = in_64 (count_of w (lanes vl w) pg p) (omega (arith, counted w pg p (lanes vl w), lanes_small vl w h))
+count_small vl w pg p h = in_64 (count_of w (lanes vl w) pg p) (omega (arith, count_of_le w pg p (lanes vl w), lanes_small vl w h))
 
 -- ---- every row
 
@@ -484,7 +484,7 @@ went_keeps brkb f s t small h e = break_keeps false f s t h e
 went_keeps rdffr f s t small h e = p_put s t (f pd) s.ffr h h.ffr_is e
 went_keeps rdffr_z f s t small h e = truths_put s t (f pd) B (both (bit (p_at s (f pg_low))) (bit s.ffr)) h e
 went_keeps setffr f s t small h e = ffr_put s t (predicate 1 all_at (lanes s.vl B)) h (truths_made s.vl 1 all_at (lanes s.vl B) (fills s.vl B h.sized)) e
-went_keeps wrffr f s t small h e = ffr_put s t (p_at s (f pn)) h (p_is s (f pn) h small) e
+went_keeps wrffr f s t small h e = ffr_put s t (p_at s (f pn)) h (predicate_of_state s (f pn) h small) e
 went_keeps cntb f s t small h e = x_put s t (f rd) (lanes s.vl B) h (in_64 (lanes s.vl B) (lanes_small s.vl B h.sized)) e
 went_keeps cnth f s t small h e = x_put s t (f rd) (lanes s.vl H) h (in_64 (lanes s.vl H) (lanes_small s.vl H h.sized)) e
 went_keeps cntw f s t small h e = x_put s t (f rd) (lanes s.vl S) h (in_64 (lanes s.vl S) (lanes_small s.vl S h.sized)) e

@@ -1,12 +1,10 @@
 -- Every state of a run keeps its shape, whatever words are run.
-use Rattle.std.proofs.Common.{◌≡◌, ℕ, zero, suc, ◌/◌, ◌^◌, List, [], ◌∷◌, Option, Some, None, refl, sym, ◌∙◌, subst, inl, inr}
+use Rattle.std.proofs.Common.{◌≡◌, ℕ, zero, suc, List, [], ◌∷◌, Option, Some, None, refl, sym, ◌∙◌, subst, inl, inr}
 use Rattle.std.specs.Prelude.{◌==◌, bit_and}
 use Rattle.std.proofs.lemmas.Bool.{cases_Bool, cond-true, cond-false, and_parts}
-use Rattle.std.proofs.lemmas.Nat.{pow_pos}
-use Rattle.std.proofs.Math.Nat.{mod-lt}
 use Rattle.guest_types.specs.Memory.{fetched}
-use Rattle.word_rows.specs.Field.{Field}
-use Rattle.word_rows.specs.Row.{Row, Instruction, IsInstruction, Fill, reads, takes, numbers_in, mask_of}
+use Rattle.word_rows.specs.Row.{Row, Instruction, IsInstruction, reads, takes, numbers_in, mask_of}
+use Rattle.word_rows.proofs.TableLaws.{numbers_in-fit}
 use Rattle.a64_code.specs.Table as a64
 use Rattle.sve_code.specs.Table as sve
 use Rattle.machine_model.specs.declared.outcome.StopKind.TheVariants.{Undefined}
@@ -20,10 +18,6 @@ use Rattle.machine_model.proofs.StateLaws.{vector_keeps}
 
 -- ---- what is read is listed
 
-numbers_fit : (word : ℕ) (fields : List Field) → Fill fields (numbers_in word fields)
-numbers_fit word [] = tt
-numbers_fit word (f ∷ fields) = (mod-lt (word / 2 ^ f.low) (pow_pos f.width), numbers_fit word fields)
-
 read_row : {Name : Type 0} (row : Name → Row) (names : List Name) (word : ℕ) (i : Instruction Name) → reads row names word ≡ Some i → IsInstruction row names i
 unfolding reads
 read_row row [] word i e = cc
@@ -33,7 +27,7 @@ read_row row (n ∷ names) word i e =
           let found : Some (record { name = n; numbers = numbers_in word (row n).fields }) ≡ Some i = sym (cond-true _ _ _ takes_it) ∙ e in
           let same : record { name = n; numbers = numbers_in word (row n).fields } ≡ i = cc in
           subst (IsInstruction row (n ∷ names)) same
-          (record { place = zero; listed = refl; fits = numbers_fit word (row n).fields; admitted = (and_parts (bit_and word (mask_of (row n)) == (row n).base) _ takes_it).1 })
+          (record { place = zero; listed = refl; fits = numbers_in-fit word (row n).fields; admitted = (and_parts (bit_and word (mask_of (row n)) == (row n).base) _ takes_it).1 })
       | inr other ↦
           let rest = read_row row names word i (sym (cond-false _ _ _ other) ∙ e) in
           record { place = suc rest.place; listed = rest.listed; fits = rest.fits; admitted = rest.admitted }
@@ -70,11 +64,11 @@ word_keeps (Some word) s t h e = read_keeps word (listed word) s t refl h e
 pub step_keeps : (s t : State) → IsState s → step s ≡ Went t → IsState t
 step_keeps s t h e = word_keeps (fetched s.memory s.pc) s t h e
 
-after_one : (o : Step) (n : ℕ) (t : State) → ((u : State) → o ≡ Went u → IsState u) → ((u : State) → IsState u → after_steps n u ≡ Some t → IsState t) → elim o as (λ o. Option State) [ Went u ↦ after_steps n u | Ended result ↦ None | Stopped kind pc at memory ↦ None ] ≡ Some t → IsState t
-after_one (Went u) n t is rest e = rest u (is u refl) e
-after_one (Ended r) n t is rest e = absurd cc
-after_one (Stopped k p a m) n t is rest e = absurd cc
+state_after_step : (o : Step) (n : ℕ) (t : State) → ((u : State) → o ≡ Went u → IsState u) → ((u : State) → IsState u → after_steps n u ≡ Some t → IsState t) → elim o as (λ o. Option State) [ Went u ↦ after_steps n u | Ended result ↦ None | Stopped kind pc at memory ↦ None ] ≡ Some t → IsState t
+state_after_step (Went u) n t is rest e = rest u (is u refl) e
+state_after_step (Ended r) n t is rest e = absurd cc
+state_after_step (Stopped k p a m) n t is rest e = absurd cc
 
 pub steps_keep : (n : ℕ) (s t : State) → IsState s → after_steps n s ≡ Some t → IsState t
 steps_keep zero s t h e = let same : s ≡ t = cc in subst IsState same h
-steps_keep (suc n) s t h e = after_one (step s) n t (λ u is. step_keeps s u h is) (λ u is rest. steps_keep n u t is rest) e
+steps_keep (suc n) s t h e = state_after_step (step s) n t (λ u is. step_keeps s u h is) (λ u is rest. steps_keep n u t is rest) e

@@ -5,6 +5,7 @@ use Rattle.std.specs.List.{range_with_len}
 use Rattle.guest_types.specs.declared.memory.Perm.{Perm}
 use Rattle.guest_types.specs.declared.memory.Perm.TheVariants.{Read, ReadWrite, ReadExec}
 use Rattle.guest_types.specs.Memory.{Memory}
+use Rattle.guest_types.specs.declared.memory.TheConstants.{PAGE_BYTES, MOST_PAGES}
 use Rattle.machine_model.specs.declared.elf_fault.ElfFault.{ElfFault}
 use Rattle.machine_model.specs.declared.elf_fault.ElfFault.TheVariants.{Short, NotElf, NotAarch64, NotStatic, BadSegment, SegmentsClash, TooManyPages}
 
@@ -78,10 +79,10 @@ any_segment test [] = false
 any_segment test (segment ∷ segments) = test segment || any_segment test segments
 
 abbrev pub first_page : Segment → ℕ
-first_page segment = segment.vaddr / 4096
+first_page segment = segment.vaddr / PAGE_BYTES
 
 abbrev pub page_count : Segment → ℕ
-page_count segment = (segment.vaddr + segment.memsz - 1) / 4096 + 1 - first_page segment
+page_count segment = (segment.vaddr + segment.memsz - 1) / PAGE_BYTES + 1 - first_page segment
 
 abbrev pub have_common_page : Segment → Segment → Bool
 have_common_page a b =
@@ -113,7 +114,7 @@ segment_byte bytes segment address =
 
 -- a page of a segment
 unfoldable pub page_bytes : List ℕ → Segment → ℕ → List ℕ
-page_bytes bytes segment n = map (λ a. segment_byte bytes segment a) (range_with_len (4096 * n) 4096)
+page_bytes bytes segment n = map (λ a. segment_byte bytes segment a) (range_with_len (PAGE_BYTES * n) PAGE_BYTES)
 
 abbrev pub pages_from : List ℕ → Segment → ℕ → ℕ → Memory
 pages_from bytes segment n zero = []
@@ -158,7 +159,7 @@ load_segments bytes entry segments =
       | Some index ↦ Err (BadSegment index)
       | None ↦
           let loaded = filter is_loaded segments in
-          if nat_lt 16384 (sum_by page_count loaded) then Err TooManyPages
+          if nat_lt MOST_PAGES (sum_by page_count loaded) then Err TooManyPages
           else if clash loaded then Err SegmentsClash
           else Ok (image_of bytes entry loaded)
     ]

@@ -2,6 +2,7 @@
 
 ghost use Rattle.std.specs.Prelude.{◌≡◌, ℕ, ◌+◌, ◌≤◌, ◌<◌, ◌^◌, List, length, IfOk};
 ghost use Rattle.guest_types.specs.Memory.{DoNotMeet};
+ghost use Rattle.guest_types.specs.declared.memory.TheConstants.{MOST_PAGES};
 ghost use Rattle.paged_memory.specs.Runs.{IsRun};
 
 use guest_types::guest::GuestMemory;
@@ -19,7 +20,7 @@ const NOP: [u8; 4] = [0x1f, 0x20, 0x03, 0xd5];
 // One page of code, and pages that are mapped above it, each of which begins with NOP.
 fn built(alloc: Global, from: u64, count: u64, perm: Perm) -> Result<Pages, AllocError>
     requires above { 0x400 < from }
-    requires few { count < 16384 }
+    requires few { count < MOST_PAGES }
     requires below { from + count ≤ 2 ^ 36 }
 {
     let image = Image {
@@ -50,7 +51,7 @@ fn image(alloc: Global, from: u64, count: u64, perm: Perm) -> Result<Image, Allo
 // The pages of an image, beside which those of a lower one came then.
 fn both(alloc: Global, high: &Image, low: &Image) -> Result<Pages, AllocError>
     requires apart { DoNotMeet low.now.pages.items high.now.pages.items }
-    requires few { length low.now.pages.items + length high.now.pages.items ≤ 16384 }
+    requires few { length low.now.pages.items + length high.now.pages.items ≤ MOST_PAGES }
 {
     let mut pages = Pages::empty(alloc);
     pages.map_image(alloc, high)?;

@@ -28,13 +28,13 @@ first memory m a b bytes e = go (can_read memory a) refl
     go true r = record { readable = r; rest = sym (cond-true _ _ _ r) ∙ e }
     go false r = let no : None ≡ Some m = sym (cond-false _ _ _ r) ∙ e in cc
 
-nothing : (memory m : Memory) (a : ℕ) → put_bytes memory a [] ≡ Some m → memory ≡ m
+put_no_bytes : (memory m : Memory) (a : ℕ) → put_bytes memory a [] ≡ Some m → memory ≡ m
 unfolding put_bytes
-nothing memory m a e = same_some memory m e
+put_no_bytes memory m a e = same_some memory m e
 
 -- addresses are counted without a wrap in a, and with one in b
 kept_by : (memory m : Memory) (a b c : ℕ) (bytes : List ℕ) → b ≡ a % 2 ^ 64 → a + length bytes ≤ 2 ^ 64 → put_bytes memory b bytes ≡ Some m → (c < a) ⊎ (a + length bytes ≤ c) → byte_at m c ≡ byte_at memory c
-kept_by memory m a b c [] low l e out = ap (λ (m : Memory). byte_at m c) (sym (nothing memory m b e))
+kept_by memory m a b c [] low l e out = ap (λ (m : Memory). byte_at m c) (sym (put_no_bytes memory m b e))
 kept_by memory m a b c (x ∷ bytes) low l e out =
     let f = first memory m b x bytes e in
     let same : b ≡ a = omega arith in
@@ -50,9 +50,9 @@ kept_by memory m a b c (x ∷ bytes) low l e out =
     apart (inl h) same e = omega arith
     apart (inr h) same e = omega arith
 
-put_by : (memory m : Memory) (a b i : ℕ) (bytes : List ℕ) → IsMemory memory → All (λ b. b < 256) bytes → b ≡ a % 2 ^ 64 → a + length bytes ≤ 2 ^ 64 → put_bytes memory b bytes ≡ Some m → i < length bytes → byte_at m (a + i) ≡ Some (slice_index bytes i)
-put_by memory m a b i [] is small low l e h = absurd (omega arith)
-put_by memory m a b zero (x ∷ bytes) is small low l e h =
+put_bytes_at_residue : (memory m : Memory) (a b i : ℕ) (bytes : List ℕ) → IsMemory memory → All (λ b. b < 256) bytes → b ≡ a % 2 ^ 64 → a + length bytes ≤ 2 ^ 64 → put_bytes memory b bytes ≡ Some m → i < length bytes → byte_at m (a + i) ≡ Some (slice_index bytes i)
+put_bytes_at_residue memory m a b i [] is small low l e h = absurd (omega arith)
+put_bytes_at_residue memory m a b zero (x ∷ bytes) is small low l e h =
     let f = first memory m b x bytes e in
     let same : a + zero ≡ b = omega arith in
     let next : next_address b ≡ (a + 1) % 2 ^ 64 = omega arith in
@@ -60,19 +60,19 @@ put_by memory m a b zero (x ∷ bytes) is small low l e h =
     ap (byte_at m) same
     ∙ kept_by (put_byte memory b x) m (a + 1) (next_address b) b bytes next (omega arith) f.rest (inl under)
     ∙ byte_at-put_byte_same memory b x is f.readable
-put_by memory m a b (suc i) (x ∷ bytes) is small low l e h =
+put_bytes_at_residue memory m a b (suc i) (x ∷ bytes) is small low l e h =
     let f = first memory m b x bytes e in
     let next : next_address b ≡ (a + 1) % 2 ^ 64 = omega arith in
     let at : a + suc i ≡ a + 1 + i = omega arith in
     ap (byte_at m) at
-    ∙ put_by (put_byte memory b x) m (a + 1) (next_address b) i bytes (IsMemory-put_byte memory b x is (All-head (λ b. b < 256) x bytes small)) (All-tail (λ b. b < 256) x bytes small) next (omega arith) f.rest (omega arith)
+    ∙ put_bytes_at_residue (put_byte memory b x) m (a + 1) (next_address b) i bytes (IsMemory-put_byte memory b x is (All-head (λ b. b < 256) x bytes small)) (All-tail (λ b. b < 256) x bytes small) next (omega arith) f.rest (omega arith)
 
 pub kept : (memory m : Memory) (a c : ℕ) (bytes : List ℕ) → a + length bytes ≤ 2 ^ 64 → put_bytes memory a bytes ≡ Some m → (c < a) ⊎ (a + length bytes ≤ c) → byte_at m c ≡ byte_at memory c
-kept memory m a c [] l e out = ap (λ (m : Memory). byte_at m c) (sym (nothing memory m a e))
+kept memory m a c [] l e out = ap (λ (m : Memory). byte_at m c) (sym (put_no_bytes memory m a e))
 kept memory m a c (x ∷ bytes) l e out = kept_by memory m a a c (x ∷ bytes) (omega arith) l e out
 
 pub put : (memory m : Memory) (a i : ℕ) (bytes : List ℕ) → IsMemory memory → All (λ b. b < 256) bytes → a + length bytes ≤ 2 ^ 64 → put_bytes memory a bytes ≡ Some m → i < length bytes → byte_at m (a + i) ≡ Some (slice_index bytes i)
-put memory m a i bytes is small l e h = put_by memory m a a i bytes is small (omega arith) l e h
+put memory m a i bytes is small l e h = put_bytes_at_residue memory m a a i bytes is small (omega arith) l e h
 
 -- ---- where bytes are put
 

@@ -1,7 +1,5 @@
 -- The words of a line.
-use Rattle.std.proofs.Common.{◌≡◌, ◌≢◌, ℕ, List, [], ◌∷◌, length, None, refl, arith}
-use Rattle.std.proofs.lemmas.List.Splits.{length-slice_split}
-use Rattle.text_parts.specs.Parts.{is_byte, parts_at}
+use Rattle.std.proofs.Common.{◌≡◌, ◌≢◌, ℕ, List, [], ◌∷◌, length, None, refl}
 use Rattle.map_text.specs.Lines.{line_of_words}
 
 -- five words or more have no form
@@ -9,6 +7,3 @@ pub five_words : (a b c d : List ℕ) (more : List (List ℕ)) → length more �
 unfolding line_of_words
 five_words a b c d [] some = absurd (some refl)
 five_words a b c d (e ∷ more) some = refl
-
-pub some_part : (mark : ℕ) (text : List ℕ) → length (parts_at mark text) ≢ 0
-some_part mark text e = absurd (omega (arith, length-slice_split (is_byte mark) text, e))

@@ -5,6 +5,7 @@ use Rattle.hex.specs.Hex.{decode_of}
 use Rattle.hex.specs.declared.error.FromHexError.{FromHexError}
 use Rattle.guest_types.specs.declared.memory.Perm.{Perm}
 use Rattle.guest_types.specs.declared.memory.Perm.TheVariants.{Read, ReadWrite}
+use Rattle.guest_types.specs.declared.memory.TheConstants.{PAGE_BYTES}
 use Rattle.number_text.specs.Numbers.{number_of}
 use Rattle.text_parts.specs.Parts.{words_of}
 
@@ -23,7 +24,7 @@ perm_of word =
 -- whole pages, at least one of them, none beyond 2^48
 abbrev pub are_pages : (address count : ℕ) → Bool
 are_pages address count =
-    nat_eq (address % 4096) 0 && nat_le 1 count && nat_le (address + 4096 * count) (2 ^ 48)
+    nat_eq (address % PAGE_BYTES) 0 && nat_le 1 count && nat_le (address + PAGE_BYTES * count) (2 ^ 48)
 
 abbrev pub maps_pages : (address count : ℕ) → Perm → Option MapLine
 maps_pages address count perm = if are_pages address count then Some (Maps address count perm) else None

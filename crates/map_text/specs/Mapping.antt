@@ -5,6 +5,7 @@ use Rattle.std.specs.Prelude.{ℕ, ◌+◌, ◌/◌, ◌&&◌, ◌||◌, Bool, L
 use Rattle.std.specs.List.{list_any, range_with_len}
 use Rattle.guest_types.specs.declared.memory.Perm.{Perm}
 use Rattle.guest_types.specs.Memory.{Page, Memory, can_read, page_numbers, put_byte, next_address, merged}
+use Rattle.guest_types.specs.declared.memory.TheConstants.{PAGE_BYTES, MOST_PAGES}
 use Rattle.map_text.specs.declared.fault.MapFault.{MapFault}
 use Rattle.map_text.specs.declared.fault.MapFault.TheVariants.{BadLine, Clash, Unmapped, TooManyPages}
 use Rattle.map_text.specs.Lines.{MapLine, Blank, Maps, Sets, map_line_of}
@@ -20,7 +21,7 @@ has_any memory first count = list_any (is_within first count) (page_numbers memo
 
 -- a page of zeros
 abbrev pub zero_page : Perm → ℕ → Page
-zero_page perm number = record { page = number; perm = perm; bytes = replicate 4096 0 }
+zero_page perm number = record { page = number; perm = perm; bytes = replicate PAGE_BYTES 0 }
 
 unfoldable pub zero_pages : Perm → (first count : ℕ) → Memory
 zero_pages perm first count = map (zero_page perm) (range_with_len first count)
@@ -35,7 +36,7 @@ put_bytes memory address (b ∷ bytes) =
 unfoldable pub with_pages : (image : Memory) (line : ℕ) → Perm → (first count : ℕ) → Memory → Result Memory MapFault
 with_pages image line perm first count pages =
     if has_any pages first count || has_any image first count then Err (Clash line)
-    else if nat_lt 16384 (length image + length pages + count) then Err TooManyPages
+    else if nat_lt MOST_PAGES (length image + length pages + count) then Err TooManyPages
     else Ok (merged pages (zero_pages perm first count))
 
 abbrev pub put_or_fault : (line : ℕ) → Option Memory → Result Memory MapFault
@@ -45,7 +46,7 @@ put_or_fault line None = Err (Unmapped line)
 -- the pages after a line, by what it says
 abbrev pub after_map_line : (image : Memory) (line : ℕ) → MapLine → Memory → Result Memory MapFault
 after_map_line image line Blank pages = Ok pages
-after_map_line image line (Maps address count perm) pages = with_pages image line perm (address / 4096) count pages
+after_map_line image line (Maps address count perm) pages = with_pages image line perm (address / PAGE_BYTES) count pages
 after_map_line image line (Sets address bytes) pages = put_or_fault line (put_bytes pages address bytes)
 
 abbrev pub after_read : (image : Memory) (line : ℕ) → Option MapLine → Memory → Result Memory MapFault

@@ -1,6 +1,7 @@
 -- What the reader's values stand for.
 use Rattle.std.specs.Prelude.{◌≡◌, ℕ, ◌+◌, ◌<◌, ◌≤◌, List, length, slice_index, Option, None, Result, Err}
 use Rattle.guest_types.specs.Memory.{Memory, IsMemory, DoNotMeet, page_numbers}
+use Rattle.guest_types.specs.declared.memory.TheConstants.{MOST_PAGES}
 use Rattle.map_text.specs.declared.fault.MapFault.{MapFault}
 use Rattle.map_text.specs.declared.fault.MapFault.TheVariants as faults
 use Rattle.map_text.specs.declared.map_line.MapLine.{MapLine as ReadLine}
@@ -34,7 +35,7 @@ IsLineFault line form fault = (form ≡ None) × (fault ≡ faults.BadLine line)
 pub record IsBeside (image pages : Memory) : Type 0 where
   pub memory : IsMemory pages
   pub apart : DoNotMeet image pages
-  pub few : length image + length pages ≤ 16384
+  pub few : length image + length pages ≤ MOST_PAGES
 
 -- numbers before place `low` are below this one, and those from place `high` on are not
 pub record IsAround (number : ℕ) (numbers : List ℕ) (low high : ℕ) : Type 0 where

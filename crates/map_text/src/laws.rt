@@ -3,6 +3,7 @@
 ghost use Rattle.std.specs.Prelude.{◌≡◌, ℕ, ◌+◌, ◌*◌, ◌^◌, ◌<◌, ◌≤◌, ◌⊎◌, ◌↔◌, true, List, [], length, slice_index, Some, IsSome, Ok, All};
 ghost use Rattle.guest_types.specs.declared.memory.Perm.{Perm};
 ghost use Rattle.guest_types.specs.Memory.{Memory, IsMemory, DoNotMeet, byte_at, can_read, merged};
+ghost use Rattle.guest_types.specs.declared.memory.TheConstants.{PAGE_BYTES};
 ghost use Rattle.map_text.specs.Mapping.{put_bytes, zero_pages, map_of};
 
 /// Bytes are put exactly where each of their addresses is mapped; each then stands at its own, and no other byte changes.
@@ -23,11 +24,11 @@ pub fn bytes_are_put()
 pub fn pages_are_zeros()
     ensures zero { (pages : Memory) (perm : Perm) (first count address : ℕ) → first + count ≤ 2 ^ 36
         → DoNotMeet pages (zero_pages perm first count)
-        → 4096 * first ≤ address → address < 4096 * (first + count)
+        → PAGE_BYTES * first ≤ address → address < PAGE_BYTES * (first + count)
         → byte_at (merged pages (zero_pages perm first count)) address ≡ Some 0 }
     ensures kept { (pages : Memory) (perm : Perm) (first count other : ℕ)
         → DoNotMeet pages (zero_pages perm first count)
-        → (other < 4096 * first) ⊎ (4096 * (first + count) ≤ other)
+        → (other < PAGE_BYTES * first) ⊎ (PAGE_BYTES * (first + count) ≤ other)
         → byte_at (merged pages (zero_pages perm first count)) other ≡ byte_at pages other }
 {}
 

@@ -6,7 +6,7 @@ ghost use Rattle.map_text.specs.View.{range_view, patch_view};
 ghost use Rattle.number_text.specs.View.{items_in};
 
 use crate::map_line::{MappedRange, Patch};
-use guest_types::memory::Perm;
+use guest_types::memory::{PAGE_BYTES, Perm};
 use hex::FromHexError;
 use number_text::number;
 use std::alloc::{AllocError, Global};
@@ -26,7 +26,9 @@ fn perm(word: &[u8]) -> Option<Perm>
 fn are_pages(address: u64, count: u64) -> bool
     ensures { result ≡ are_pages address count }
 {
-    address % 4096 == 0 && 1 <= count && u128::from(address) + 4096 * u128::from(count) <= 1 << 48
+    address % PAGE_BYTES == 0
+        && 1 <= count
+        && u128::from(address) + u128::from(PAGE_BYTES) * u128::from(count) <= 1 << 48
 }
 
 // The pages that a line of these words maps.

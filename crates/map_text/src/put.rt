@@ -8,7 +8,7 @@ ghost use Rattle.map_text.specs.View.{IsBeside, Refuses};
 use crate::fault::MapFault;
 use crate::map_line::Patch;
 use crate::place::place_of;
-use guest_types::memory::PageSpec;
+use guest_types::memory::{PAGE_BYTES, PageSpec};
 
 // Replaces the byte at an address, and answers whether it is mapped.
 fn put_byte(pages: &mut [PageSpec], address: u64, byte: u8) -> bool
@@ -16,10 +16,12 @@ fn put_byte(pages: &mut [PageSpec], address: u64, byte: u8) -> bool
     ensures mapped { result ≡ can_read pages.old address }
     ensures put { pages.new ≡ put_byte pages.old address byte }
 {
-    let number = address / 4096;
+    let number = address / PAGE_BYTES;
     let place = place_of(pages, number);
     if place < pages.len() && pages[place].page.number() == number {
-        pages[place].bytes.put((address % 4096) as usize, byte);
+        pages[place]
+            .bytes
+            .put((address % PAGE_BYTES) as usize, byte);
         true
     } else {
         false

@@ -2,6 +2,7 @@
 
 ghost use Rattle.std.specs.Prelude.{◌≡◌, ◌+◌, ◌≤◌, length, Some, Ok, IfOk, IfErr, OnOk};
 ghost use Rattle.guest_types.specs.Memory.{Memory, IsMemory, DoNotMeet};
+ghost use Rattle.guest_types.specs.declared.memory.TheConstants.{MOST_PAGES};
 ghost use Rattle.map_text.specs.Lines.{map_line_of};
 ghost use Rattle.map_text.specs.Mapping.{after_line, after_lines, map_of};
 ghost use Rattle.map_text.specs.View.{Refuses, IsBeside, IsLineFault, line_view};
@@ -54,7 +55,7 @@ fn read_line(
 #[tactic(auto, unfolding(crate::specs::Mapping::after_lines))]
 fn read_lines(alloc: Global, text: &[u8], image: &[PageSpec]) -> Result<Vec<PageSpec>, MapFault>
     requires image { IsMemory image.now }
-    requires few { length image.now ≤ 16384 }
+    requires few { length image.now ≤ MOST_PAGES }
     ensures map { IfOk result (λ pages. map_of text.now image.now ≡ Ok pages.items) }
     ensures beside { IfOk result (λ pages. IsBeside image.now pages.items) }
     ensures refused { IfErr result (λ fault. Refuses (map_of text.now image.now) fault) }
@@ -76,11 +77,11 @@ fn read_lines(alloc: Global, text: &[u8], image: &[PageSpec]) -> Result<Vec<Page
 /// The first line that fails is told, and in a line its form comes before a page that is mapped twice, that before too
 /// many pages, and that before a byte in no page of an earlier line. No page is made before its line has passed.
 pub fn read_map(alloc: Global, text: &[u8], image: &Image) -> Result<PageMap, MapFault>
-    requires { length image.now.pages.items ≤ 16384 }
+    requires { length image.now.pages.items ≤ MOST_PAGES }
     ensures map { IfOk result (λ map. map_of text.now image.now.pages.items ≡ Ok map.pages.items) }
     ensures refused { IfErr result (λ fault. Refuses (map_of text.now image.now.pages.items) fault) }
     ensures apart { IfOk result (λ map. DoNotMeet image.now.pages.items map.pages.items) }
-    ensures few { IfOk result (λ map. length image.now.pages.items + length map.pages.items ≤ 16384) }
+    ensures few { IfOk result (λ map. length image.now.pages.items + length map.pages.items ≤ MOST_PAGES) }
 {
     let pages = read_lines(alloc, text, &image.pages)?;
     Ok(PageMap { pages })

@@ -21,7 +21,7 @@ pub struct LineWords<'a> {
 }
 
 // The words of a line, where there are three or four.
-#[tactic(auto, unfolding(crate::specs::Lines::line_of_words), using(crate::proofs::LineWords::five_words, crate::proofs::LineWords::some_part))]
+#[tactic(auto, unfolding(crate::specs::Lines::line_of_words), using(crate::proofs::LineWords::five_words, text_parts::proofs::Parts::some_part))]
 fn words(line: &[u8]) -> Option<LineWords<'_>>
     ensures some { IfSome result (λ words. words_of line.now ≡ words_view words) }
     ensures none { IfNone result (line_of_words (words_of line.now) ≡ None) }

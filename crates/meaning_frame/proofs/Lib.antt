@@ -1,3 +1,4 @@
 mod MorePages
 mod MoreValues
 pub mod MoreRuns
+pub mod OtherBytes

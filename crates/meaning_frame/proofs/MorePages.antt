@@ -11,8 +11,8 @@ use Rattle.guest_types.proofs.Merges.{page_at-merged_right, page_at-apart}
 -- ---- tests of addresses
 
 -- the first address passes, and no later one fails
-passes : (test : ℕ → Bool) (a n : ℕ) → first_fault test a (suc n) ≡ None → (test a ≡ true) × (first_fault test (next_address a) n ≡ None)
-passes test a n e = go (test a) e
+first_byte_passes : (test : ℕ → Bool) (a n : ℕ) → first_fault test a (suc n) ≡ None → (test a ≡ true) × (first_fault test (next_address a) n ≡ None)
+first_byte_passes test a n e = go (test a) e
   where
     go : (t : Bool) → cond t (first_fault test (next_address a) n) (Some a) ≡ None → (t ≡ true) × (first_fault test (next_address a) n ≡ None)
     go true e = (refl, e)
@@ -22,7 +22,7 @@ passes test a n e = go (test a) e
 weaker_test : (test other : ℕ → Bool) → ((c : ℕ) → test c ≡ true → other c ≡ true) → (a n : ℕ) → first_fault test a n ≡ None → first_fault other a n ≡ None
 weaker_test test other h a zero e = refl
 weaker_test test other h a (suc n) e =
-    let p = passes test a n e in
+    let p = first_byte_passes test a n e in
     cond-true _ _ _ (h a p.0) ∙ weaker_test test other h (next_address a) n p.1
 
 module _ (others : Memory) where
@@ -62,7 +62,7 @@ module _ (others : Memory) where
   number-merged : (memory : Memory) → DoNotMeet others memory → (a n : ℕ) → first_fault (can_read memory) a n ≡ None → number_at (merged others memory) a n ≡ number_at memory a n
   number-merged memory apart a zero e = refl
   number-merged memory apart a (suc n) e =
-      let p = passes (can_read memory) a n e in
+      let p = first_byte_passes (can_read memory) a n e in
       ap₂ (λ b rest. b + 256 * rest) (byte-merged memory apart a p.0) (number-merged memory apart (next_address a) n p.1)
 
   pub loaded-merged : (memory : Memory) → DoNotMeet others memory → (a n v : ℕ) → loaded memory a n ≡ Ok v → loaded (merged others memory) a n ≡ Ok v
@@ -111,7 +111,7 @@ apart-put_number others (suc n) a v memory apart =
 put_number-merged : (others : Memory) (n a v : ℕ) (memory : Memory) → DoNotMeet others memory → first_fault (can_write memory) a n ≡ None → put_number (merged others memory) a n v ≡ merged others (put_number memory a n v)
 put_number-merged others zero a v memory apart e = refl
 put_number-merged others (suc n) a v memory apart e =
-    let p = passes (can_write memory) a n e in
+    let p = first_byte_passes (can_write memory) a n e in
     let next = put_byte memory a (v % 256) in
     ap (λ m. put_number m (next_address a) n (v / 256)) (put_byte-merged others memory a (v % 256) (not_other others memory apart a p.0))
     ∙ put_number-merged others n (next_address a) (v / 256) next (apart-put_byte others memory a (v % 256) apart)

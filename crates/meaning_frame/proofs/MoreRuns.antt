@@ -9,9 +9,10 @@ use Rattle.kernel_tree.specs.declared.fault.Binding.TheVariants as binding
 use Rattle.kernel_tree.specs.Plain.{Accumulator, Action, Define, Put, Update, Choose, Leave, Block, Done, Then, Otherwise, Nothing, Else, PlainLoop, Returned, Program}
 use Rattle.kernel_tree.specs.Items.{stream_offset}
 use Rattle.kernel_tree.specs.Typing.{Scope, lookup, own, first, element_type, accumulator_type, index_type, after_action, after_block, after_for_loop, left, in_loop, declared, param_scope, var_scope}
+use Rattle.kernel_tree.specs.Wrap.{byte_count}
 use Rattle.kernel_meaning.specs.Ends.{BlockEnd, Next, Broke, Faulted, LoopState, Going, Left, Failed, go_on}
 use Rattle.kernel_meaning.specs.Operators.{word}
-use Rattle.kernel_meaning.specs.Eval.{Names, value_at, byte_count, address, iteration, value}
+use Rattle.kernel_meaning.specs.Eval.{Names, value_at, address, iteration, value}
 use Rattle.kernel_meaning.specs.Iterate.{with_name, cut, define, update, write, put, choose, leave, then_do, act, do_block, do_otherwise, iterate}
 use Rattle.kernel_meaning.specs.ScalarRun.{initial, iterations, bound_of, Run, End, Fault, returned, ended, closed, finish, run_for_loop, run_named, started, scalar_run, argument_names}
 use Rattle.meaning_frame.proofs.MorePages.{stored-merged, apart-stored}
@@ -162,9 +163,9 @@ module _ (others : Memory) where
   named_ends k memory (Some names) b apart h =
       subst (λ o. Ends (run_for_loop (var_scope k) k.for_loop k.answer memory names) (run_named k (merged others memory) o)) (sym h) (for_loop_ends (var_scope k) k.for_loop k.answer memory names apart)
 
-  run_ends : (k : Program) (args : List ℕ) (memory : Memory) → DoNotMeet others memory → Ends (scalar_run k args memory) (scalar_run k args (merged others memory))
-  run_ends k args memory apart = named_ends k memory (started k args memory) (started k args (merged others memory)) apart (initial_gives k.vars (param_scope k) memory (argument_names k.params args) apart)
+  scalar_run_ends_with_more : (k : Program) (args : List ℕ) (memory : Memory) → DoNotMeet others memory → Ends (scalar_run k args memory) (scalar_run k args (merged others memory))
+  scalar_run_ends_with_more k args memory apart = named_ends k memory (started k args memory) (started k args (merged others memory)) apart (initial_gives k.vars (param_scope k) memory (argument_names k.params args) apart)
 
   pub run-merged : (k : Program) (args : List ℕ) (memory after : Memory) (result m : ℕ) → DoNotMeet others memory → scalar_run k args memory ≡ End after result m
       → (scalar_run k args (merged others memory) ≡ End (merged others after) result m) × DoNotMeet others after
-  run-merged k args memory after result m apart e = subst (λ r. Ends r (scalar_run k args (merged others memory))) e (run_ends k args memory apart)
+  run-merged k args memory after result m apart e = subst (λ r. Ends r (scalar_run k args (merged others memory))) e (scalar_run_ends_with_more k args memory apart)

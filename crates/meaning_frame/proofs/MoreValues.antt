@@ -5,11 +5,11 @@ use Rattle.guest_types.specs.declared.memory.AccessFault.{AccessFault}
 use Rattle.guest_types.specs.Memory.{Memory, loaded, merged, DoNotMeet}
 use Rattle.kernel_tree.specs.declared.ops.Ty.{Ty}
 use Rattle.kernel_tree.specs.Plain.{Term, Literal, Variable, Element, Unary, Operation, Shift, Conversion, Choice, Comparison, Both, Either, Not}
-use Rattle.kernel_tree.specs.Wrap.{wrap}
+use Rattle.kernel_tree.specs.Wrap.{wrap, byte_count}
 use Rattle.kernel_tree.specs.Items.{stream_offset}
 use Rattle.kernel_tree.specs.Typing.{Scope, lookup, own, element_type, index_type, side_type}
 use Rattle.kernel_meaning.specs.Operators.{unary_value, binary_value, shift_value, compare_on}
-use Rattle.kernel_meaning.specs.Eval.{Names, value_at, byte_count, address, iteration, element_number, read_value, read_element, on_both, choose_value, chosen, and_then, or_else, value, holds}
+use Rattle.kernel_meaning.specs.Eval.{Names, value_at, address, iteration, element_number, read_value, read_element, on_both, choose_value, chosen, and_then, or_else, value, holds}
 use Rattle.meaning_frame.proofs.MorePages.{loaded-merged}
 
 -- what the one gives, the other gives too

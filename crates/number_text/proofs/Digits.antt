@@ -14,11 +14,11 @@ grows base h [] n = omega arith
 grows base h (d ∷ ds) n = omega (arith, grow base n (digit_value d) h, grows base h ds (appended base n d))
 
 -- one more digit
-pub one_more : (base : ℕ) (ds : List ℕ) (i n : ℕ) → i < length ds → value_of base ds ≡ fold (appended base) n (drop i ds) → value_of base ds ≡ fold (appended base) (base * n + digit_value (get_or ds i 0)) (drop (suc i) ds)
-one_more base ds i n h e = rw (drop-cons ds i 0 h) at e
+pub value_of_digit_on : (base : ℕ) (ds : List ℕ) (i n : ℕ) → i < length ds → value_of base ds ≡ fold (appended base) n (drop i ds) → value_of base ds ≡ fold (appended base) (base * n + digit_value (get_or ds i 0)) (drop (suc i) ds)
+value_of_digit_on base ds i n h e = rw (drop-cons ds i 0 h) at e
 
 pub too_large : (base : ℕ) (ds : List ℕ) (i n m : ℕ) → 1 ≤ base → i < length ds → value_of base ds ≡ fold (appended base) n (drop i ds) → m ≤ base * n + digit_value (get_or ds i 0) → m ≤ value_of base ds
-too_large base ds i n m h l e k = let f = one_more base ds i n l e in omega (arith, f, grows base h (drop (suc i) ds) (base * n + digit_value (get_or ds i 0)))
+too_large base ds i n m h l e k = let f = value_of_digit_on base ds i n l e in omega (arith, f, grows base h (drop (suc i) ds) (base * n + digit_value (get_or ds i 0)))
 
 pub not_below : (a b : ℕ) → (a < b → ⊥) → b ≤ a
 not_below a b h = omega arith

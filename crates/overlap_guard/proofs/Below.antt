@@ -8,6 +8,7 @@ use Rattle.guest_types.specs.Length.{width_bytes}
 use Rattle.machine_model.specs.Machine.{State, x_at, next, jump}
 use Rattle.machine_model.specs.Arithmetic.{shifted_word, holds}
 use Rattle.a64_code.specs.Table.{subs}
+use Rattle.machine_model.proofs.StateLaws.{shifted_word-zero}
 use Rattle.label_fix.specs.DraftRun.{DraftEntry, Branch, If, Laid, following, address_of, ins}
 use Rattle.label_fix.proofs.StretchSteps.{Goes, put_goes, taken_goes, passed_goes, chain}
 use Rattle.dependence.specs.declared.used.Extent.{Extent}
@@ -16,7 +17,7 @@ use Rattle.dependence.specs.declared.used.Used.{Used}
 use Rattle.dependence.specs.Apart.{base_in, begin_in, end_in, IsBased}
 use Rattle.overlap_guard.specs.Guard.{IsFit, IsFitExtent, left_over, gap, shift_code, below_code}
 use Rattle.overlap_guard.proofs.Ends.{IsWithin, near-bytes, near-gap, ordered, turned}
-use Rattle.overlap_guard.proofs.Extents.{Entered, low, ends, words_end}
+use Rattle.overlap_guard.proofs.Extents.{Entered, extent_runs, words_end}
 use Rattle.overlap_guard.proofs.Shifts.{shifts}
 use Rattle.overlap_guard.proofs.Tests.{tested, Same, same_on, same_tested, same_jump, Tests, goes_on, goes_off}
 
@@ -58,7 +59,7 @@ module _ (D : Laid) where
         let back = pos (width_bytes v.width) *ℤ v.least in
         let over = left_over u.width u.extent in
         let test = ins subs (31 ∷ v.place ∷ 0 ∷ 26 ∷ 0 ∷ []) ∷ rest in
-        let e = ends D r n reg few s (shift_code (gap u v) test) u.place (base_in args u) u.width u.least u.extent ent fu.0 bu hu fu.2 in
+        let e = extent_runs D r n reg few s (shift_code (gap u v) test) u.place (base_in args u) u.width u.least u.extent ent fu.0 bu hu fu.2 in
         let moved = shifts D e.end test (gap u v) e.word (e.same.sized ∙ ent.sized) e.held e.high e.low (near-gap over back (near_over u.width u.least u.extent fu.2) (near-bytes v.width v.least fv.1)) in
         let t = moved.leaves.end in
         let k = same_on e.same moved.leaves.same in
@@ -66,7 +67,7 @@ module _ (D : Laid) where
         let y = base_in args v in
         let t2 = tested t v.place 26 in
         let hy : x_at t v.place ≡ y = k.others v.place (let f = fv.0 in omega (arith, f)) ∙ hv in
-        let flag : holds 2 t2.flags ≡ nat_le x y = ap₂ (λ a b. nat_le (shifted_word 0 b 0) a) hy moved.leaves.held ∙ ap (λ b. nat_le b y) (low x (let l = moved.low in omega (arith, l))) in
+        let flag : holds 2 t2.flags ≡ nat_le x y = ap₂ (λ a b. nat_le (shifted_word 0 b 0) a) hy moved.leaves.held ∙ ap (λ b. nat_le b y) (shifted_word-zero x (let l = moved.low in omega (arith, l))) in
         record {
           end = t2;
           goes = chain (words_end u.extent + 3) (omega arith) e.goes (chain 3 (omega arith) moved.leaves.goes (put_goes refl));

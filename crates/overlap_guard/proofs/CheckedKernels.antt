@@ -15,7 +15,7 @@ use Rattle.loop_form.proofs.ReachLaws.{AreReaches, reaches-given}
 use Rattle.loop_form.specs.Entries.{loop_entries}
 use Rattle.loop_form.specs.Near.{AreNear}
 use Rattle.loop_form.specs.Streams.{streams_of, is_of}
-use Rattle.loop_form.specs.Lanes.{width_of}
+use Rattle.loop_form.specs.Lanes.{type_width}
 use Rattle.loop_form.proofs.StreamLaws.{NearStreams, streams-near}
 use Rattle.dependence.specs.declared.used.Used.{Used}
 use Rattle.dependence.specs.Apart.{least_of, greatest_of, is_reach_of, most_reach, greatest_reach, used_by, with_reach, used_at, used_from, used_of}
@@ -56,21 +56,21 @@ upper-max : (b : Bool) (c d : ℤ) → int_lt d c ≡ b → c ≤ℤ cond b c d
 upper-max true c d e = omega (arith, ints)
 upper-max false c d e = grind (arith, ints)
 
-in-order : (a b c : ℤ) → a ≤ℤ b → b ≤ℤ c → a ≤ℤ c
-in-order a b c h k = omega (arith, ints)
+pub le_z_trans : (a b c : ℤ) → a ≤ℤ b → b ≤ℤ c → a ≤ℤ c
+le_z_trans a b c h k = omega (arith, ints)
 
 least-low : (c : ℤ) (ss : List Stream) → least_of c ss ≤ℤ c
 unfolding least_of
 least-low c [] = omega (arith, ints)
-least-low c (s ∷ ss) = in-order (least_of (int_min c s.offset) ss) (int_min c s.offset) c (least-low (int_min c s.offset) ss) (lower-min (int_lt s.offset c) c s.offset refl)
+least-low c (s ∷ ss) = le_z_trans (least_of (int_min c s.offset) ss) (int_min c s.offset) c (least-low (int_min c s.offset) ss) (lower-min (int_lt s.offset c) c s.offset refl)
 
 greatest-high : (c : ℤ) (ss : List Stream) → c ≤ℤ greatest_of c ss
 unfolding greatest_of
 greatest-high c [] = omega (arith, ints)
-greatest-high c (s ∷ ss) = in-order c (int_max c s.offset) (greatest_of (int_max c s.offset) ss) (upper-max (int_lt s.offset c) c s.offset refl) (greatest-high (int_max c s.offset) ss)
+greatest-high c (s ∷ ss) = le_z_trans c (int_max c s.offset) (greatest_of (int_max c s.offset) ss) (upper-max (int_lt s.offset c) c s.offset refl) (greatest-high (int_max c s.offset) ss)
 
 least-first : (c : ℤ) (ss : List Stream) → least_of c ss ≤ℤ greatest_of c ss
-least-first c ss = in-order (least_of c ss) c (greatest_of c ss) (least-low c ss) (greatest-high c ss)
+least-first c ss = le_z_trans (least_of c ss) c (greatest_of c ss) (least-low c ss) (greatest-high c ss)
 
 -- ---- the parameters that the loop uses
 
@@ -116,7 +116,7 @@ reach-fit n w (Some r) (s ∷ ss) h k g = ((h, lower-near (least_of s.offset ss)
 
 at-fit : (ss : List Stream) (rs : List Reach) (n : ℕ) (h : Shape) → n ≤ 7 → NearStreams ss → AreReaches rs → AreFit (used_at ss rs n h)
 at-fit ss rs n (shape.Scalar t) h k g = tt
-at-fit ss rs n (shape.Array t) h k g = reach-fit n (width_of t) (greatest_reach (filter (is_reach_of n) rs)) (filter (is_of n) ss) h (filtered-near (is_of n) ss k) (greatest-given (filter (is_reach_of n) rs) (filtered-given (is_reach_of n) rs g))
+at-fit ss rs n (shape.Array t) h k g = reach-fit n (type_width t) (greatest_reach (filter (is_reach_of n) rs)) (filter (is_of n) ss) h (filtered-near (is_of n) ss k) (greatest-given (filter (is_reach_of n) rs) (filtered-given (is_reach_of n) rs g))
 
 fit-append : (us vs : List Used) → AreFit us → AreFit vs → AreFit (us ++ vs)
 fit-append [] vs h k = k

@@ -10,6 +10,7 @@ use Rattle.guest_types.specs.Length.{width_bytes}
 use Rattle.machine_model.specs.Machine.{State, Went, x_at}
 use Rattle.machine_model.specs.Arithmetic.{sum, shifted_word, holds}
 use Rattle.a64_code.specs.Table.{add, csel}
+use Rattle.machine_model.proofs.StateLaws.{x_or_sp-low, shifted_word-zero}
 use Rattle.label_fix.specs.DraftRun.{DraftEntry, Laid, effect, word_of}
 use Rattle.label_fix.proofs.StretchSteps.{Goes, put_goes, chain}
 use Rattle.dependence.specs.declared.used.Extent.{Extent}
@@ -17,7 +18,7 @@ use Rattle.dependence.specs.declared.used.Extent.TheVariants.{Streams, Computed,
 use Rattle.dependence.specs.Apart.{highest, IsBased}
 use Rattle.overlap_guard.specs.Guard.{IsReach, IsFitExtent, log_bytes, bytes_at, reach_code, greater_code, extent_code, left_over, is_point}
 use Rattle.overlap_guard.proofs.Ends.{IsWithin, element_word, element-is, near-bytes, wider, distributed}
-use Rattle.overlap_guard.proofs.Tests.{wrote, wrote_same, wrote_other, wrote_sized, tested, not_sp, Same, same_on, same_wrote, same_tested}
+use Rattle.overlap_guard.proofs.Tests.{wrote, wrote_same, wrote_other, wrote_sized, tested, Same, same_on, same_wrote, same_tested}
 use Rattle.overlap_guard.proofs.Shifts.{shifts}
 
 -- the loop's bound in its register
@@ -31,9 +32,6 @@ entered_same {r = r} le k e = record { sized = k.sized ∙ e.sized; bound = k.ot
 pub element_does : (s : State) (p b r n : ℕ) (w : Width) → x_at s p ≡ b → x_at s r ≡ n → effect (word_of add (26 ∷ p ∷ log_bytes w ∷ r ∷ 0 ∷ [])) s ≡ Went (wrote s 26 (element_word w b n))
 element_does s p b r n w e f = ap₂ (λ b n. Went (wrote s 26 (element_word w b n))) e f
 
-pub low : (v : ℕ) → v < 2 ^ 64 → shifted_word 0 v 0 ≡ v
-low v h = omega (arith, h)
-
 -- ---- the end of a reach
 
 sum_low : (b c : ℕ) → b < 2 ^ 48 → c < 2 ^ 20 → sum b c ≡ b + c
@@ -45,24 +43,24 @@ scratch false = 26
 scratch true = 27
 
 reach_256 : (d : Bool) (w : Width) (s : State) (p b : ℕ) → p ≤ 7 → x_at s p ≡ b → effect (bytes_at (scratch d) p (width_bytes w * 256)) s ≡ Went (wrote s (scratch d) (sum b (width_bytes w * 256)))
-reach_256 false B s p b lp e = ap (λ b. Went (wrote s 26 (sum b 256))) (not_sp s p (omega (arith, lp)) ∙ e)
-reach_256 false H s p b lp e = ap (λ b. Went (wrote s 26 (sum b 512))) (not_sp s p (omega (arith, lp)) ∙ e)
-reach_256 false S s p b lp e = ap (λ b. Went (wrote s 26 (sum b 1024))) (not_sp s p (omega (arith, lp)) ∙ e)
-reach_256 false D s p b lp e = ap (λ b. Went (wrote s 26 (sum b 2048))) (not_sp s p (omega (arith, lp)) ∙ e)
-reach_256 true B s p b lp e = ap (λ b. Went (wrote s 27 (sum b 256))) (not_sp s p (omega (arith, lp)) ∙ e)
-reach_256 true H s p b lp e = ap (λ b. Went (wrote s 27 (sum b 512))) (not_sp s p (omega (arith, lp)) ∙ e)
-reach_256 true S s p b lp e = ap (λ b. Went (wrote s 27 (sum b 1024))) (not_sp s p (omega (arith, lp)) ∙ e)
-reach_256 true D s p b lp e = ap (λ b. Went (wrote s 27 (sum b 2048))) (not_sp s p (omega (arith, lp)) ∙ e)
+reach_256 false B s p b lp e = ap (λ b. Went (wrote s 26 (sum b 256))) (x_or_sp-low s p (omega (arith, lp)) ∙ e)
+reach_256 false H s p b lp e = ap (λ b. Went (wrote s 26 (sum b 512))) (x_or_sp-low s p (omega (arith, lp)) ∙ e)
+reach_256 false S s p b lp e = ap (λ b. Went (wrote s 26 (sum b 1024))) (x_or_sp-low s p (omega (arith, lp)) ∙ e)
+reach_256 false D s p b lp e = ap (λ b. Went (wrote s 26 (sum b 2048))) (x_or_sp-low s p (omega (arith, lp)) ∙ e)
+reach_256 true B s p b lp e = ap (λ b. Went (wrote s 27 (sum b 256))) (x_or_sp-low s p (omega (arith, lp)) ∙ e)
+reach_256 true H s p b lp e = ap (λ b. Went (wrote s 27 (sum b 512))) (x_or_sp-low s p (omega (arith, lp)) ∙ e)
+reach_256 true S s p b lp e = ap (λ b. Went (wrote s 27 (sum b 1024))) (x_or_sp-low s p (omega (arith, lp)) ∙ e)
+reach_256 true D s p b lp e = ap (λ b. Went (wrote s 27 (sum b 2048))) (x_or_sp-low s p (omega (arith, lp)) ∙ e)
 
 reach_65536 : (d : Bool) (w : Width) (s : State) (p b : ℕ) → p ≤ 7 → x_at s p ≡ b → effect (bytes_at (scratch d) p (width_bytes w * 65536)) s ≡ Went (wrote s (scratch d) (sum b (width_bytes w * 65536)))
-reach_65536 false B s p b lp e = ap (λ b. Went (wrote s 26 (sum b 65536))) (not_sp s p (omega (arith, lp)) ∙ e)
-reach_65536 false H s p b lp e = ap (λ b. Went (wrote s 26 (sum b 131072))) (not_sp s p (omega (arith, lp)) ∙ e)
-reach_65536 false S s p b lp e = ap (λ b. Went (wrote s 26 (sum b 262144))) (not_sp s p (omega (arith, lp)) ∙ e)
-reach_65536 false D s p b lp e = ap (λ b. Went (wrote s 26 (sum b 524288))) (not_sp s p (omega (arith, lp)) ∙ e)
-reach_65536 true B s p b lp e = ap (λ b. Went (wrote s 27 (sum b 65536))) (not_sp s p (omega (arith, lp)) ∙ e)
-reach_65536 true H s p b lp e = ap (λ b. Went (wrote s 27 (sum b 131072))) (not_sp s p (omega (arith, lp)) ∙ e)
-reach_65536 true S s p b lp e = ap (λ b. Went (wrote s 27 (sum b 262144))) (not_sp s p (omega (arith, lp)) ∙ e)
-reach_65536 true D s p b lp e = ap (λ b. Went (wrote s 27 (sum b 524288))) (not_sp s p (omega (arith, lp)) ∙ e)
+reach_65536 false B s p b lp e = ap (λ b. Went (wrote s 26 (sum b 65536))) (x_or_sp-low s p (omega (arith, lp)) ∙ e)
+reach_65536 false H s p b lp e = ap (λ b. Went (wrote s 26 (sum b 131072))) (x_or_sp-low s p (omega (arith, lp)) ∙ e)
+reach_65536 false S s p b lp e = ap (λ b. Went (wrote s 26 (sum b 262144))) (x_or_sp-low s p (omega (arith, lp)) ∙ e)
+reach_65536 false D s p b lp e = ap (λ b. Went (wrote s 26 (sum b 524288))) (x_or_sp-low s p (omega (arith, lp)) ∙ e)
+reach_65536 true B s p b lp e = ap (λ b. Went (wrote s 27 (sum b 65536))) (x_or_sp-low s p (omega (arith, lp)) ∙ e)
+reach_65536 true H s p b lp e = ap (λ b. Went (wrote s 27 (sum b 131072))) (x_or_sp-low s p (omega (arith, lp)) ∙ e)
+reach_65536 true S s p b lp e = ap (λ b. Went (wrote s 27 (sum b 262144))) (x_or_sp-low s p (omega (arith, lp)) ∙ e)
+reach_65536 true D s p b lp e = ap (λ b. Went (wrote s 27 (sum b 524288))) (x_or_sp-low s p (omega (arith, lp)) ∙ e)
 
 few_bytes : (w : Width) (r : ℕ) → r ≤ 65536 → width_bytes w * r < 2 ^ 20
 few_bytes B r h = omega arith
@@ -115,7 +113,7 @@ greater_goes L s rest a c z e f h =
     let t = tested s 26 27 in
     let e2 : x_at t 26 ≡ a = get_or-set_other s.x 31 26 _ 0 (λ q. absurd (omega (arith, q))) ∙ e in
     let f2 : x_at t 27 ≡ c = get_or-set_other s.x 31 27 _ 0 (λ q. absurd (omega (arith, q))) ∙ f in
-    let flag : holds 2 t.flags ≡ nat_le c a = ap₂ (λ x y. nat_le (shifted_word 0 y 0) x) e f ∙ ap (λ y. nat_le y a) (low c h) in
+    let flag : holds 2 t.flags ≡ nat_le c a = ap₂ (λ x y. nat_le (shifted_word 0 y 0) x) e f ∙ ap (λ y. nat_le y a) (shifted_word-zero c h) in
     let chosen : effect (word_of csel (26 ∷ 26 ∷ 2 ∷ 27 ∷ [])) t ≡ Went (wrote t 26 (if nat_le c a then a else c)) = ap (λ b. Went (wrote t 26 (if b then x_at t 26 else x_at t 27))) flag ∙ ap₂ (λ x y. Went (wrote t 26 (if nat_le c a then x else y))) e2 f2 in
     chain 2 (omega arith) (put_goes refl) (put_goes chosen)
 
@@ -142,8 +140,8 @@ plain : (x : ℕ) → pos x ≡ pos x +ℤ pos 0
 plain x = omega (arith, ints)
 
 module _ (L : Laid) (r n : ℕ) (reg : r ≤ 7) (few : n < 2 ^ 40) where
-  pub ends : (s : State) (rest : List DraftEntry) (p b : ℕ) (w : Width) (least : ℤ) (e : Extent) → Entered r n s → p ≤ 7 → IsBased b → x_at s p ≡ b → IsFitExtent least e → EndsAt L (extent_code r p w e rest) rest s (pos b +ℤ pos (width_bytes w) *ℤ highest n e) (left_over w e) (words_end e)
-  ends s rest p b w least (Streams g) ent lp based hp fit =
+  pub extent_runs : (s : State) (rest : List DraftEntry) (p b : ℕ) (w : Width) (least : ℤ) (e : Extent) → Entered r n s → p ≤ 7 → IsBased b → x_at s p ≡ b → IsFitExtent least e → EndsAt L (extent_code r p w e rest) rest s (pos b +ℤ pos (width_bytes w) *ℤ highest n e) (left_over w e) (words_end e)
+  extent_runs s rest p b w least (Streams g) ent lp based hp fit =
       let v = element_word w b n in
       let a = element-is w b n few based.0 based.1 in
       record {
@@ -156,7 +154,7 @@ module _ (L : Laid) (r n : ℕ) (reg : r ≤ 7) (few : n < 2 ^ 40) where
         low = (let l = a.low in omega (arith, l));
         is = distributed w b n g ∙ ap (λ z. z +ℤ pos (width_bytes w) *ℤ g) a.is;
       }
-  ends s rest p b w least (Computed q) ent lp based hp fit =
+  extent_runs s rest p b w least (Computed q) ent lp based hp fit =
       let v = b + width_bytes w * q in
       let few = few_bytes w q (few_reach q fit.0) in
       record {
@@ -169,7 +167,7 @@ module _ (L : Laid) (r n : ℕ) (reg : r ≤ 7) (few : n < 2 ^ 40) where
         low = (let hi = based.1 in omega (arith, hi, few));
         is = reach-is w b q ∙ plain v;
       }
-  ends s rest p b w least (Both g q) ent lp based hp fit =
+  extent_runs s rest p b w least (Both g q) ent lp based hp fit =
       let v1 = element_word w b n in
       let addr = element-is w b n few based.0 based.1 in
       let s1 = wrote s 26 v1 in

@@ -13,13 +13,14 @@ ghost use Rattle.a64_code.specs.View.{add_sub_imm_name};
 ghost use Rattle.guest_types.specs.Length.{width_bytes};
 ghost use Rattle.kernel_tree.specs.Limits.{most_offset};
 
-use crate::instructions::{bytes_at, compare, element_at, greater, part, step, tested, with_top};
+use crate::instructions::{bytes_at, compare, element_at, greater, step, with_top};
 use crate::laws::{few_arrays, fit_arrays};
 use crate::used::arrays;
 use a64_code::{AddSubOp, Cond, Reg, zero};
 use dependence::{Extent, Used, bound_place};
 use guest_types::length::Width;
 use kernel_tree::Checked;
+use label_fix::registers::{SCRATCH, SECOND_SCRATCH};
 use label_fix::{BranchKind, Draft, Label};
 use std::alloc::AllocError;
 use word_rows::Bits;
@@ -39,7 +40,7 @@ fn emit_step(draft: &mut Draft, op: AddSubOp, by: u32, sh: bool) -> Result<(), A
         (guard.step_code (add_sub_imm_name op) by (flag_number sh))) }
 {
     if by != 0 {
-        draft.put(step(op, tested(), tested(), by, sh))
+        draft.put(step(op, SCRATCH, SCRATCH, by, sh))
     } else {
         Ok(())
     }
@@ -109,8 +110,8 @@ fn emit_both(
 {
     draft.put(element_at(bound, register(place), width))?;
     emit_shift(draft, bytes_of(width, greatest))?;
-    draft.put(bytes_at(part(), register(place), reach_bytes(width, reach)))?;
-    draft.put(compare(tested(), part()))?;
+    draft.put(bytes_at(SECOND_SCRATCH, register(place), reach_bytes(width, reach)))?;
+    draft.put(compare(SCRATCH, SECOND_SCRATCH))?;
     draft.put(greater())
 }
 
@@ -123,7 +124,7 @@ fn emit_end(draft: &mut Draft, bound: Reg, u: Used) -> Result<(), AllocError>
     match u.extent {
         Extent::Streams { .. } => draft.put(element_at(bound, register(u.place), u.width)),
         Extent::Computed { reach } => draft.put(bytes_at(
-            tested(),
+            SCRATCH,
             register(u.place),
             reach_bytes(u.width, reach),
         )),
@@ -162,7 +163,7 @@ fn emit_below(draft: &mut Draft, bound: Reg, u: Used, v: Used) -> Result<(), All
 {
     emit_end(draft, bound, u)?;
     emit_shift(draft, gap(u, v))?;
-    draft.put(compare(register(v.place), tested()))
+    draft.put(compare(register(v.place), SCRATCH))
 }
 
 // Whether a parameter has one element for each iteration.
@@ -286,9 +287,9 @@ fn emit_base(draft: &mut Draft, place: u32) -> Result<(), AllocError>
     ensures { OnOk result (Emits draft.old draft.new draft.old.labels
         (guard.base_code place)) }
 {
-    draft.put(step(AddSubOp::Sub, part(), register(place), 16, true))?;
-    draft.put(with_top(tested(), part(), 48))?;
-    draft.put(with_top(tested(), register(place), 48))
+    draft.put(step(AddSubOp::Sub, SECOND_SCRATCH, register(place), 16, true))?;
+    draft.put(with_top(SCRATCH, SECOND_SCRATCH, 48))?;
+    draft.put(with_top(SCRATCH, register(place), 48))
 }
 
 fn emit_bases(draft: &mut Draft, fail: Label, used: &[Used]) -> Result<(), AllocError>
@@ -300,7 +301,7 @@ fn emit_bases(draft: &mut Draft, fail: Label, used: &[Used]) -> Result<(), Alloc
     for u in used {
         emit_base(draft, u.place)?;
     }
-    draft.branch(BranchKind::NotZero(26), fail)
+    draft.branch(BranchKind::NotZero(SCRATCH.number), fail)
 }
 
 fn emit_pairs(draft: &mut Draft, bound: Reg, fail: Label, used: &[Used]) -> Result<(), AllocError>

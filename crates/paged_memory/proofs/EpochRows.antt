@@ -15,10 +15,10 @@ older xs count n eight few (inr h) =
     ∙ sym (take-take 7 count xs (omega (arith, h.0)))
 
 -- the last one comes to the front as x
-pub begun : {X : Type 0} (xs : List X) (count k : ℕ) (x : X) → length xs ≡ 8 → count ≤ 8 → ((count < 8) × (k ≡ count + 1)) ⊎ ((8 ≤ count) × (k ≡ 8)) → take k (set (drop 7 xs ++ take 7 xs) 0 x) ≡ x ∷ take 7 (take count xs)
-begun xs count zero x eight few (inl h) = absurd (omega (arith, h.1))
-begun xs count zero x eight few (inr h) = absurd (omega (arith, h.1))
-begun {X} xs count (suc n) x eight few how = front (drop 7 xs) (length-drop 7 xs)
+pub row_of_new_epoch : {X : Type 0} (xs : List X) (count k : ℕ) (x : X) → length xs ≡ 8 → count ≤ 8 → ((count < 8) × (k ≡ count + 1)) ⊎ ((8 ≤ count) × (k ≡ 8)) → take k (set (drop 7 xs ++ take 7 xs) 0 x) ≡ x ∷ take 7 (take count xs)
+row_of_new_epoch xs count zero x eight few (inl h) = absurd (omega (arith, h.1))
+row_of_new_epoch xs count zero x eight few (inr h) = absurd (omega (arith, h.1))
+row_of_new_epoch {X} xs count (suc n) x eight few how = front (drop 7 xs) (length-drop 7 xs)
   where
     rest : ((count < 8) × (n ≡ count)) ⊎ ((8 ≤ count) × (n ≡ 7))
     rest = sides how

@@ -27,11 +27,11 @@ rising heads read bs same laid = subst (λ (l : List Head). IsStrictlyIncreasing
 pub stands : (heads read : List Head) (n i : ℕ) → read ≡ heads → StandsAt read n i → StandsAt heads n i
 stands heads read n i same here = subst (λ (l : List Head). StandsAt l n i) same here
 
-pub found : (heads : List Head) (bs : List ℕ) (m : Memory) (n i : ℕ) → memory_of heads bs ≡ m → IsLaidOut heads bs → StandsAt heads n i → page_at m n ≡ Some (page_of heads bs i)
-found heads bs m n i is laid here = ap (λ m. page_at m n) (sym is) ∙ page_at-stands heads bs n i laid here
+pub page_of_standing_head : (heads : List Head) (bs : List ℕ) (m : Memory) (n i : ℕ) → memory_of heads bs ≡ m → IsLaidOut heads bs → StandsAt heads n i → page_at m n ≡ Some (page_of heads bs i)
+page_of_standing_head heads bs m n i is laid here = ap (λ m. page_at m n) (sym is) ∙ page_at-stands heads bs n i laid here
 
-pub absent : (heads read : List Head) (bs : List ℕ) (m : Memory) (n : ℕ) → memory_of heads bs ≡ m → read ≡ heads → All (λ here. here ≢ n) (head_numbers read) → page_at m n ≡ None
-absent heads read bs m n is same each =
+pub no_page_of_no_head : (heads read : List Head) (bs : List ℕ) (m : Memory) (n : ℕ) → memory_of heads bs ≡ m → read ≡ heads → All (λ here. here ≢ n) (head_numbers read) → page_at m n ≡ None
+no_page_of_no_head heads read bs m n is same each =
     ap (λ m. page_at m n) (sym is) ∙ page_at-no_head heads bs n (subst (λ (l : List Head). All (λ here. here ≢ n) (head_numbers l)) same each)
 
 pub head-read : (heads : List Head) (i : ℕ) (h : Head) → i < length heads → h ≡ get_or heads i h → h.perm ≡ (get_or heads i no_head).perm
@@ -52,7 +52,7 @@ byte-found heads bs m a i x is laid here e =
     let byte : slice_index (page_of heads bs i).bytes (a % 4096) ≡ slice_index bs (start_at heads i + a % 4096) =
     get_or-take 4096 rest (a % 4096) 0 (omega arith) ∙ get_or-drop (start_at heads i) bs (a % 4096) 0 in
     ap Some (get_or_read bs (start_at heads i + a % 4096) x (omega (arith, (within heads bs i laid here.below))) e 0 ∙ sym byte)
-    ∙ sym (ap (λ o. option_map (λ page. byte_of page a) o) (found heads bs m (a / 4096) i is laid here))
+    ∙ sym (ap (λ o. option_map (λ page. byte_of page a) o) (page_of_standing_head heads bs m (a / 4096) i is laid here))
 
 -- ---- permissions
 
@@ -67,7 +67,7 @@ write-found m a p here = sym (ap may_write here)
 pub load-found : (heads : List Head) (bs : List ℕ) (m : Memory) (a s i n : ℕ) → memory_of heads bs ≡ m → IsLaidOut heads bs → StandsAt heads (a / 4096) i → a < 2 ^ 64 → a % 4096 + s ≤ 4096 → n ≡ number_in bs (start_at heads i + a % 4096) s → Ok n ≡ loaded m a s
 load-found heads bs m a s i n is laid here low fits e =
     sym (
-    loaded-within m a s (page_of heads bs i) low (found heads bs m (a / 4096) i is laid here) (length-page_of heads bs i laid here.below) fits
+    loaded-within m a s (page_of heads bs i) low (page_of_standing_head heads bs m (a / 4096) i is laid here) (length-page_of heads bs i laid here.below) fits
     ∙ ap Ok (number_in-page_of heads bs i (a % 4096) s fits ∙ sym e)
     )
 
@@ -94,7 +94,7 @@ fetch-refused m a p here whole not = sym (ap (word_of m a) here ∙ cond-true _ 
 
 pub fetch-found : (heads : List Head) (bs : List ℕ) (m : Memory) (a i w : ℕ) → memory_of heads bs ≡ m → IsLaidOut heads bs → StandsAt heads (a / 4096) i → a < 2 ^ 64 → a % 4 ≡ 0 → is_executable (get_or heads i no_head).perm ≡ true → w ≡ number_in bs (start_at heads i + a % 4096) 4 → Some w ≡ fetched m a
 fetch-found heads bs m a i w is laid here low whole runs e =
-    let page = found heads bs m (a / 4096) i is laid here in
+    let page = page_of_standing_head heads bs m (a / 4096) i is laid here in
     let fits : a % 4096 + 4 ≤ 4096 = omega arith in
     let number : number_at m a 4 ≡ w = number-within m a 4 (page_of heads bs i) low page (length-page_of heads bs i laid here.below) fits ∙ number_in-page_of heads bs i (a % 4096) 4 fits ∙ sym e in
     sym (ap (word_of m a) page ∙ cond-true _ _ _ (eq-eqb (a % 4) 0 whole) ∙ cond-true _ _ _ runs ∙ ap Some number)
@@ -145,7 +145,7 @@ part-span heads bs m a len i at n is laid here fits e size =
     let whole : o + (4096 - o) ≡ 4096 = omega arith in
     ap₂ (λ n k. take n (drop k bs)) size e
     ∙ sym (
-    ap (λ p. take len (drop o (bytes_or_none p))) (found heads bs m (a / 4096) i is laid here)
+    ap (λ p. take len (drop o (bytes_or_none p))) (page_of_standing_head heads bs m (a / 4096) i is laid here)
     ∙ ap (λ n. take len (drop o (take n rest))) (sym whole)
     ∙ ap (take len) (drop-take o (4096 - o) rest)
     ∙ take-take len (4096 - o) (drop o rest) (omega arith)

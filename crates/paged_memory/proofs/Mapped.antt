@@ -97,7 +97,7 @@ within-wider : (heads : List Head) (size wide : ℕ) → size ≤ wide → All (
 within-wider heads size wide l each =
     All-weaker (IsWithin size) (IsWithin wide) (λ head h. omega (arith, l, h)) heads each
 
-turned : (here there : Head) → AreApart here there → AreApart there here
+pub turned : (here there : Head) → AreApart here there → AreApart there here
 turned here there (inl below) = inr below
 turned here there (inr above) = inl above
 

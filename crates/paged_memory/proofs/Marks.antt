@@ -47,13 +47,13 @@ set_there (m ∷ marks) zero = refl
 set_there (m ∷ marks) (suc p) = set_there marks p
 
 -- where each mark is at one of the places, none is left
-none_left : (places : List ℕ) (marks : List Bool) (q : ℕ) → (get_or marks q false ≡ true → has_place q places ≡ true) → get_or (unmarked places marks) q false ≡ false
-none_left [] marks q h = go (get_or marks q false) h
+unmarked_place_is_off : (places : List ℕ) (marks : List Bool) (q : ℕ) → (get_or marks q false ≡ true → has_place q places ≡ true) → get_or (unmarked places marks) q false ≡ false
+unmarked_place_is_off [] marks q h = go (get_or marks q false) h
   where
     go : (b : Bool) → (b ≡ true → false ≡ true) → b ≡ false
     go true h = sym (h refl)
     go false h = refl
-none_left (p ∷ places) marks q h = none_left places (set marks p false) q (λ stands. go (cases_eq q p) stands)
+unmarked_place_is_off (p ∷ places) marks q h = unmarked_place_is_off places (set marks p false) q (λ stands. go (cases_eq q p) stands)
   where
     go : (q ≡ p) ⊎ (q ≡ p → ⊥) → get_or (set marks p false) q false ≡ true → has_place q places ≡ true
     go (inl same) stands = let not : get_or (set marks p false) q false ≡ false = ap (λ j. get_or (set marks p false) j false) same ∙ set_there marks p in let never = sym not ∙ stands in absurd cc
@@ -66,7 +66,7 @@ all_false [] h = refl
 all_false (m ∷ marks) h = ap₂ (λ b bs. b ∷ bs) (h zero) (all_false marks (λ q. h (suc q)))
 
 pub unmarked-all : (places : List ℕ) (marks : List Bool) → ((q : ℕ) → get_or marks q false ≡ true → has_place q places ≡ true) → unmarked places marks ≡ replicate (length marks) false
-unmarked-all places marks saved = all_false (unmarked places marks) (λ q. none_left places marks q (saved q)) ∙ ap (λ n. replicate n false) (length-unmarked places marks)
+unmarked-all places marks saved = all_false (unmarked places marks) (λ q. unmarked_place_is_off places marks q (saved q)) ∙ ap (λ n. replicate n false) (length-unmarked places marks)
 
 -- none is saved
 pub none_saved : (pages n : ℕ) (places images : List ℕ) → pages ≡ n → places ≡ [] → images ≡ [] → ◌≡◌ {A = Saved} (record { pages = pages; places = places; images = images }) (record { pages = n; places = []; images = [] })

@@ -7,6 +7,7 @@ use Rattle.std.proofs.lemmas.List.{append-nil, nil_from_length, length-drop, len
 use Rattle.std.proofs.lemmas.List.Elements.{All-head, All-tail}
 use Rattle.guest_types.specs.Memory.{Memory, Page, page_numbers, put_byte, put_number, next_address}
 use Rattle.guest_types.specs.Spans.{with_span}
+use Rattle.guest_types.proofs.Writes.{page_numbers-put_byte}
 use Rattle.paged_memory.specs.declared.head.Head.{Head}
 use Rattle.paged_memory.specs.Layout.{page_in, memory_of, head_numbers, IsWithin, AreApart, IsLaidOut, StandsAt}
 use Rattle.paged_memory.specs.Loans.{place_in}
@@ -15,6 +16,7 @@ use Rattle.paged_memory.specs.Epochs.{bytes_at, with_page}
 use Rattle.paged_memory.proofs.Bytes.{with_number-zero, with_number-suc}
 use Rattle.paged_memory.proofs.Parts.{put_at, part-here, part-other}
 use Rattle.paged_memory.proofs.Places.{IsFirst, first-stands, no_head, page_of, start_at, length-page_of}
+use Rattle.paged_memory.proofs.Mapped.{turned}
 
 -- ---- other bytes in a page
 
@@ -60,10 +62,6 @@ page-other head there bs o w within apart fits =
     go : AreApart head there → (head.start + 4096 ≤ there.start + o) ⊎ (there.start + o + length w ≤ head.start)
     go (inl below) = inl (omega (arith, below))
     go (inr above) = inr (omega (arith, above, fits))
-
-turned : (here there : Head) → AreApart here there → AreApart there here
-turned here there (inl below) = inr below
-turned here there (inr above) = inl above
 
 pages-other : (heads : List Head) (there : Head) (bs : List ℕ) (o : ℕ) (w : List ℕ) → All (IsWithin (length bs)) heads → All (AreApart there) heads → o + length w ≤ 4096 → memory_of heads (put_at (there.start + o) w bs) ≡ memory_of heads bs
 pages-other [] there bs o w each apart fits = refl
@@ -226,12 +224,9 @@ put_byte-place (page ∷ pages) a b l = go (nat_eq page.page (a / 4096)) refl (p
         let up : place_in (page ∷ pages) (a / 4096) ≡ suc (place_in pages (a / 4096)) = cond-false _ _ _ e in
         cond-false _ _ _ e ∙ ap (λ (rest : Memory). page ∷ rest) (more (omega (arith, l, up))) ∙ sym (ap written up)
 
-pub numbers-put_byte : (m : Memory) (a b : ℕ) → page_numbers (put_byte m a b) ≡ page_numbers m
-numbers-put_byte m a b = sym (numbers-with_page (place_in m (a / 4096)) [] (put_byte m a b)) ∙ ap page_numbers (put_byte-page m a b) ∙ numbers-with_page (place_in m (a / 4096)) [] m
-
 pub numbers-put_number : (m : Memory) (a s v : ℕ) → page_numbers (put_number m a s v) ≡ page_numbers m
 numbers-put_number m a zero v = refl
-numbers-put_number m a (suc s) v = numbers-put_number (put_byte m a (v % 256)) (next_address a) s (v / 256) ∙ numbers-put_byte m a (v % 256)
+numbers-put_number m a (suc s) v = numbers-put_number (put_byte m a (v % 256)) (next_address a) s (v / 256) ∙ page_numbers-put_byte m a (v % 256)
 
 pub numbers-with_span : (m : Memory) (a : ℕ) (w : List ℕ) → page_numbers (with_span m a w) ≡ page_numbers m
 numbers-with_span m a w = sym (numbers-with_page (place_in m (a / 4096)) [] (with_span m a w)) ∙ ap page_numbers (with_span-page m a w) ∙ numbers-with_page (place_in m (a / 4096)) [] m

@@ -3,7 +3,7 @@ use Rattle.std.proofs.Common.{◌≡◌, ◌≢◌, ℕ, zero, suc, ◌+◌, ◌
 use Rattle.std.specs.Prelude.{nat_eq, ◌||◌, Result, Ok, Err, OnOk, OnErr}
 use Rattle.std.proofs.Math.Nat.{mul-suc, mul-zero}
 use Rattle.std.proofs.lemmas.Bool.{eq-eqb, eqb-true, cases_lt}
-use Rattle.std.proofs.lemmas.List.{take_all, length-drop, nil_from_length, take-append-le, drop-append-le, drop-drop, get_or-take}
+use Rattle.std.proofs.lemmas.List.{take_all, length-drop, nil_from_length, take-append-le, drop-append-le, drop-drop, get_or-take, get_or_push}
 use mathlib.Core.Bool.{or-true}
 use Rattle.guest_types.specs.declared.memory.AccessFault.{AccessFault}
 use Rattle.guest_types.specs.Memory.{Memory, page_numbers, put_byte, put_number, next_address, stored}
@@ -11,8 +11,9 @@ use Rattle.guest_types.specs.Spans.{with_span}
 use Rattle.guest_types.proofs.Stores.{stored-Ok}
 use Rattle.paged_memory.specs.Loans.{place_in}
 use Rattle.guest_types.specs.Kept.{kept_more}
+use Rattle.guest_types.proofs.Writes.{page_numbers-put_byte}
 use Rattle.paged_memory.specs.Epochs.{Saved, with_page, put_back, undone, has_place, past_of, undone_first, cleared_first, IsSavedAt, IsSaved, Epochs, IsKept}
-use Rattle.paged_memory.proofs.PageLaws.{with_page-twice, with_page-swap, with_page-none, numbers-with_page, place_in-numbers, length-numbers, put_byte-page, with_span-page, numbers-put_byte, numbers-put_number}
+use Rattle.paged_memory.proofs.PageLaws.{with_page-twice, with_page-swap, with_page-none, numbers-with_page, place_in-numbers, length-numbers, put_byte-page, with_span-page, numbers-put_number}
 
 -- ---- places
 
@@ -157,7 +158,7 @@ past_of-put_number es m a (suc s) v low saved =
     let first : (a + 0) % 2 ^ 64 / 4096 ≡ a / 4096 = omega arith in
     past_of-put_number es (put_byte m a (v % 256)) (next_address a) s (v / 256) (omega arith) (λ k l.
     let next : (a + suc k) % 2 ^ 64 / 4096 ≡ (next_address a + k) % 2 ^ 64 / 4096 = omega arith in
-    saved-numbers es m (put_byte m a (v % 256)) ((next_address a + k) % 2 ^ 64 / 4096) (numbers-put_byte m a (v % 256)) (subst (IsSaved es m) next (saved (suc k) (omega arith))))
+    saved-numbers es m (put_byte m a (v % 256)) ((next_address a + k) % 2 ^ 64 / 4096) (page_numbers-put_byte m a (v % 256)) (subst (IsSaved es m) next (saved (suc k) (omega arith))))
     ∙ past_of-put_byte es m a (v % 256) (subst (IsSaved es m) first (saved 0 (omega arith)))
 
 -- bytes of one page
@@ -204,18 +205,12 @@ pub back-last : (es : List Saved) (m : Memory) (n : ℕ) → length es ≡ n + 1
 back-last [] m n l = absurd (omega (arith, l))
 back-last (e ∷ es) m n l = sym (take_all (n + 1) (past_of (e ∷ es) m) (omega (arith, l, length-past_of (e ∷ es) m)))
 
-last_of : {X : Type 0} (xs : List X) (x d : X) (n : ℕ) → length xs ≡ n → get_or (xs ++ x ∷ []) n d ≡ x
-last_of [] x d zero l = refl
-last_of [] x d (suc n) l = absurd (omega (arith, l))
-last_of (y ∷ xs) x d zero l = absurd (omega (arith, l))
-last_of (y ∷ xs) x d (suc n) l = last_of xs x d n (omega (arith, l))
-
 pub back-memory : (es : List Saved) (m : Memory) (n : ℕ) (all : List Memory) (d : Memory) → length es ≡ n + 1 → take (n + 1) (past_of es m) ≡ take (n + 1) all → get_or all n d ≡ undone_first es m
 back-memory [] m n all d l same = absurd (omega (arith, l))
 back-memory (e ∷ es) m n all d l same =
     sym (get_or-take (n + 1) all n d (omega arith))
     ∙ ap (λ k. get_or k n d) (sym same ∙ take_all (n + 1) (past_of (e ∷ es) m) (omega (arith, l, length-past_of (e ∷ es) m)))
-    ∙ last_of (past_of es (undone e m)) (undone e m) d n (omega (arith, l, length-past_of es (undone e m)))
+    ∙ get_or_push (past_of es (undone e m)) (undone e m) d n (omega (arith, l, length-past_of es (undone e m)))
 
 pub length-undone_first : (es : List Saved) (m : Memory) → length (undone_first es m) ≡ length m
 length-undone_first [] m = refl

@@ -1,6 +1,7 @@
 -- What pages were before they were written: epochs lead from one time that a memory was kept to the next.
 use Rattle.std.specs.Prelude.{◌≡◌, ℕ, zero, suc, ◌*◌, ◌≤◌, ◌<◌, Bool, true, false, ◌||◌, List, [], ◌∷◌, ◌++◌, take, drop, length, nat_eq, slice_index_or, slice_set, All, ⊤}
 use Rattle.guest_types.specs.Memory.{Memory}
+use Rattle.guest_types.specs.declared.memory.TheConstants.{PAGE_BYTES, MOST_PAGES}
 use Rattle.paged_memory.specs.Loans.{place_in}
 
 -- the bytes of the page at a place
@@ -25,7 +26,7 @@ pub record Saved : Type 0 where
 -- the memory with images put back, the last first
 abbrev pub put_back : (places images : List ℕ) → Memory → Memory
 put_back [] images memory = memory
-put_back (place ∷ places) images memory = with_page place (take 4096 images) (put_back places (drop 4096 images) memory)
+put_back (place ∷ places) images memory = with_page place (take PAGE_BYTES images) (put_back places (drop PAGE_BYTES images) memory)
 
 -- what the memory was before the pages were written
 abbrev pub undone : Saved → Memory → Memory
@@ -83,16 +84,16 @@ unmarked (place ∷ places) marks = unmarked places (slice_set marks place false
 
 -- Marks of the pages that are saved, with room for all.
 pub record IsEpoch (marks : List Bool) (places images : List ℕ) (room wide : ℕ) : Type 0 where
-  pub few : length marks ≤ 16384
-  pub whole : length images ≡ 4096 * length places
+  pub few : length marks ≤ MOST_PAGES
+  pub whole : length images ≡ PAGE_BYTES * length places
   pub counted : marked marks ≡ length places
   pub saved : (place : ℕ) → slice_index_or marks place false ≡ true → has_place place places ≡ true
   pub fits : length marks ≤ room
-  pub fits_images : 4096 * length marks ≤ wide
+  pub fits_images : PAGE_BYTES * length marks ≤ wide
 
 -- Eight epochs, or none, of which the first so many count.
 pub record IsLog (pages : ℕ) (epochs : List Saved) (count : ℕ) : Type 0 where
-  pub few : pages ≤ 16384
+  pub few : pages ≤ MOST_PAGES
   pub most : count ≤ 8
   pub eight : 1 ≤ count → length epochs ≡ 8
   pub alike : All (λ saved. saved.pages ≡ pages) epochs

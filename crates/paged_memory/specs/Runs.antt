@@ -2,10 +2,11 @@
 use Rattle.std.specs.Prelude.{◌≡◌, ℕ, ◌+◌, ◌-◌, ◌≤◌, ◌<◌, List, ◌++◌, length, replicate, All}
 use Rattle.guest_types.specs.declared.memory.Perm.{Perm}
 use Rattle.guest_types.specs.Memory.{Page, Memory, IsMemory}
+use Rattle.guest_types.specs.declared.memory.TheConstants.{PAGE_BYTES}
 
 -- the bytes of a page that begins with some, and is zero above them
 unfoldable pub begun_with : List ℕ → List ℕ
-begun_with front = front ++ replicate (4096 - length front) 0
+begun_with front = front ++ replicate (PAGE_BYTES - length front) 0
 
 abbrev pub BeginsWith : Perm → List ℕ → Page → Type 0
 BeginsWith perm front page = (page.perm ≡ perm) × (page.bytes ≡ begun_with front)

@@ -2,21 +2,23 @@
 
 ghost use Rattle.std.specs.Prelude.{◌≡◌, ℕ, ◌*◌, ◌<◌, ◌≤◌, [], true, length, IfOk};
 ghost use Rattle.guest_types.specs.Memory.{Memory};
+ghost use Rattle.guest_types.specs.declared.memory.TheConstants.{PAGE_BYTES, MOST_PAGES};
 ghost use Rattle.paged_memory.specs.Epochs.{bytes_at, undone, put_back, cleared, has_place, unmarked};
 
+use crate::head::PAGE_LEN;
 use crate::store::Store;
 use std::alloc::{AllocError, Global};
 use std::marker::Model;
 
 /// Puts images back into the pages at their places, the last first.
 fn put_back(store: &mut Store, places: &[usize], images: &[u8])
-    requires { length images.now ≡ 4096 * length places.now }
+    requires { length images.now ≡ PAGE_BYTES * length places.now }
     ensures { store.new ≡ put_back places.now images.now store.old }
 {
     let mut k = places.len();
     while k > 0 {
         k -= 1;
-        store.put_page(places[k], &images[4096 * k..4096 * k + 4096]);
+        store.put_page(places[k], &images[PAGE_LEN * k..PAGE_LEN * k + PAGE_LEN]);
     }
 }
 
@@ -59,12 +61,12 @@ impl Model for Epoch {
 impl Epoch {
     /// One in which no page is saved yet.
     pub fn new(alloc: Global, pages: usize) -> Result<Epoch, AllocError>
-        requires { pages ≤ 16384 }
+        requires { pages ≤ MOST_PAGES }
         ensures { IfOk result (λ epoch. epoch ≡ record { pages = pages; places = []; images = [] }) }
     {
         let marks = vec![in alloc; false; pages]?;
         let places = Vec::with_capacity(alloc, pages)?;
-        let images = Vec::with_capacity(alloc, 4096 * pages)?;
+        let images = Vec::with_capacity(alloc, PAGE_LEN * pages)?;
         Ok(Epoch {
             marks,
             places,
@@ -75,7 +77,7 @@ impl Epoch {
     /// Saves the page at a place, where it is not saved yet. It takes no memory.
     pub fn save(&mut self, place: usize, page: &[u8])
         requires inside { place < self.old.pages }
-        requires whole { length page.now ≡ 4096 }
+        requires whole { length page.now ≡ PAGE_BYTES }
         ensures pages { self.new.pages ≡ self.old.pages }
         ensures saved { has_place place self.new.places ≡ true }
         ensures kept { (other : ℕ) → has_place other self.old.places ≡ true → has_place other self.new.places ≡ true }

@@ -3,7 +3,10 @@
 ghost use Rattle.std.specs.Prelude.{◌≡◌};
 ghost use Rattle.guest_types.specs.Memory.{is_writable, is_executable};
 
-use guest_types::memory::Perm;
+use guest_types::memory::{PAGE_BYTES, Perm};
+
+/// The bytes of a page, as a length.
+pub const PAGE_LEN: usize = PAGE_BYTES as usize;
 
 /// What a page is found by, what it may be used for, and the place from which on its bytes stand.
 #[derive(Clone, Copy)]

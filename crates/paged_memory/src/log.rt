@@ -2,6 +2,7 @@
 
 ghost use Rattle.std.specs.Prelude.{◌≡◌, ℕ, ◌<◌, ◌≤◌, [], ◌∷◌, drop, take, length, IfOk, All};
 ghost use Rattle.guest_types.specs.Memory.{Memory};
+ghost use Rattle.guest_types.specs.declared.memory.TheConstants.{PAGE_BYTES, MOST_PAGES};
 ghost use Rattle.paged_memory.specs.Epochs.{Epochs, bytes_at, past_of, undone_first, cleared_first, IsSavedAt};
 
 use crate::epoch::Epoch;
@@ -35,7 +36,7 @@ impl Model for Log {
 
 /// Eight epochs in which no page is saved.
 fn epochs(alloc: Global, pages: usize) -> Result<Vec<Epoch>, AllocError>
-    requires { pages ≤ 16384 }
+    requires { pages ≤ MOST_PAGES }
     ensures eight { IfOk result (λ epochs. length epochs.items ≡ 8) }
     ensures each { IfOk result (λ epochs.
         All (λ epoch. epoch ≡ record { pages = pages; places = []; images = [] }) epochs.items) }
@@ -50,7 +51,7 @@ fn epochs(alloc: Global, pages: usize) -> Result<Vec<Epoch>, AllocError>
 impl Log {
     /// No epoch. It takes no memory.
     pub fn none(alloc: Global, pages: usize) -> Log
-        requires { pages ≤ 16384 }
+        requires { pages ≤ MOST_PAGES }
         ensures { result ≡ record { pages = pages; epochs = [] } }
     {
         Log {
@@ -62,7 +63,7 @@ impl Log {
 
     /// One epoch. It takes the memory of eight.
     pub fn begun(alloc: Global, pages: usize) -> Result<Log, AllocError>
-        requires { pages ≤ 16384 }
+        requires { pages ≤ MOST_PAGES }
         ensures { IfOk result (λ log. log ≡ record {
           pages = pages;
           epochs = record { pages = pages; places = []; images = [] } ∷ [];
@@ -78,7 +79,7 @@ impl Log {
 
     /// Drops all epochs, for a memory of so many pages.
     pub fn drop_all(&mut self, pages: usize)
-        requires { pages ≤ 16384 }
+        requires { pages ≤ MOST_PAGES }
         ensures { self.new ≡ record { pages = pages; epochs = [] } }
     {
         self.pages = pages;
@@ -97,7 +98,7 @@ impl Log {
     /// Saves the page at a place in the newest epoch, where there is one.
     pub fn save(&mut self, place: usize, page: &[u8])
         requires inside { place < self.old.pages }
-        requires whole { length page.now ≡ 4096 }
+        requires whole { length page.now ≡ PAGE_BYTES }
         ensures pages { self.new.pages ≡ self.old.pages }
         ensures saved { IsSavedAt place self.new.epochs }
         ensures kept { (other : ℕ) → IsSavedAt other self.old.epochs → IsSavedAt other self.new.epochs }

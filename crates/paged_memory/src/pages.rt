@@ -4,6 +4,7 @@ ghost use Rattle.std.specs.Prelude.{◌≡◌, ℕ, ◌+◌, ◌/◌, ◌%◌, �
 ghost use Rattle.guest_types.specs.Spans.{has_span, has_span_mut, span_of};
 ghost use Rattle.guest_types.specs.Memory.{Memory, IsMemory, byte_at, byte_or_zero, fetched, merged, stored, DoNotMeet};
 ghost use Rattle.guest_types.specs.Kept.{kept_more};
+ghost use Rattle.guest_types.specs.declared.memory.TheConstants.{PAGE_BYTES, MOST_PAGES};
 ghost use Rattle.paged_memory.specs.Epochs.{past_of, IsSaved};
 ghost use Rattle.paged_memory.specs.Layout.{without};
 ghost use Rattle.paged_memory.specs.SpanWritten.{IsSpanWritten};
@@ -13,7 +14,7 @@ use crate::span_writer::SpanWriter;
 use crate::store::Store;
 use guest_types::guest::GuestMemory;
 use guest_types::image::{Image, PageMap};
-use guest_types::memory::AccessFault;
+use guest_types::memory::{AccessFault, PAGE_BYTES};
 use std::alloc::{AllocError, Global};
 use std::marker::Model;
 
@@ -74,10 +75,10 @@ fn open_next(store: &Store, log: &mut Log, opened: &mut u64, number: u64)
 /// Whether so many bytes from an address on are all in the page that was opened last.
 #[inline(always)]
 fn is_open(opened: u64, address: u64, size: u32) -> bool
-    ensures opened { IsTrue result → opened ≡ address / 4096 }
-    ensures inside { IsTrue result → address % 4096 + size ≤ 4096 }
+    ensures opened { IsTrue result → opened ≡ address / PAGE_BYTES }
+    ensures inside { IsTrue result → address % PAGE_BYTES + size ≤ PAGE_BYTES }
 {
-    address / 4096 == opened && address % 4096 + u64::from(size) <= 4096
+    address / PAGE_BYTES == opened && address % PAGE_BYTES + u64::from(size) <= PAGE_BYTES
 }
 
 /// Goes back to one of the memories that were kept, oldest first. Those after it are kept no longer.
@@ -99,7 +100,7 @@ impl Pages {
     /// The pages of an image and of a map beside it. It takes all memory that later calls need, but for `begin`.
     pub fn build(alloc: Global, image: &Image, map: &PageMap) -> Result<Pages, AllocError>
         requires apart { DoNotMeet image.now.pages.items map.now.pages.items }
-        requires few { length image.now.pages.items + length map.now.pages.items ≤ 16384 }
+        requires few { length image.now.pages.items + length map.now.pages.items ≤ MOST_PAGES }
         ensures memory { IfOk result (λ pages. pages.memory ≡ merged image.now.pages.items map.now.pages.items) }
         ensures past { IfOk result (λ pages. pages.past ≡ []) }
     {
@@ -130,7 +131,7 @@ impl Pages {
     /// `AllocError` where there is not that much memory. The pages and their past are then what they were.
     pub fn map_image(&mut self, alloc: Global, image: &Image) -> Result<(), AllocError>
         requires apart { DoNotMeet image.now.pages.items self.old.memory }
-        requires few { length image.now.pages.items + length self.old.memory ≤ 16384 }
+        requires few { length image.now.pages.items + length self.old.memory ≤ MOST_PAGES }
         ensures memory { OnOk result (self.new.memory ≡ merged image.now.pages.items self.old.memory) }
         ensures past { OnOk result (self.new.past ≡ []) }
         ensures unchanged { OnErr result (self.new ≡ self.old) }
@@ -276,7 +277,12 @@ impl Pages {
         ensures written { IsSpanWritten (W.writes writer.now) address len self.old.memory self.new.memory }
         ensures past { self.new.past ≡ self.old.past }
     {
-        open_next(&self.store, &mut self.log, &mut self.opened, address / 4096);
+        open_next(
+            &self.store,
+            &mut self.log,
+            &mut self.opened,
+            address / PAGE_BYTES,
+        );
         self.store.write_span(address, len, place, writer);
     }
 
@@ -285,7 +291,12 @@ impl Pages {
     fn open_page(&mut self, address: u64)
         ensures { self.new ≡ self.old }
     {
-        open_next(&self.store, &mut self.log, &mut self.opened, address / 4096);
+        open_next(
+            &self.store,
+            &mut self.log,
+            &mut self.opened,
+            address / PAGE_BYTES,
+        );
     }
 
     // Lends the bytes of a range in one page, by the place of that, which was opened. The fields of the store are lent here, since of a
@@ -296,7 +307,7 @@ impl Pages {
         ensures value { result.now ≡ span_of self.old.memory address len }
         ensures len { length result.now ≡ len }
     {
-        let at = self.store.heads[place].start + (address % 4096) as usize;
+        let at = self.store.heads[place].start + (address % PAGE_BYTES) as usize;
         self.store.bytes.slice_mut(at..at + len as usize)
     }
 
@@ -327,8 +338,8 @@ impl Pages {
         ensures unchanged { OnErr result (self.new.memory ≡ self.old.memory) }
         ensures past { self.new.past ≡ self.old.past }
     {
-        let last = address.wrapping_add(u64::from(size) - 1) / 4096;
-        open(&self.store, &mut self.log, address / 4096);
+        let last = address.wrapping_add(u64::from(size) - 1) / PAGE_BYTES;
+        open(&self.store, &mut self.log, address / PAGE_BYTES);
         open(&self.store, &mut self.log, last);
         self.opened = last;
         self.store.store(address, size, value)

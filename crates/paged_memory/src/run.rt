@@ -2,14 +2,16 @@
 
 ghost use Rattle.std.specs.Prelude.{◌≡◌, ◌+◌, ◌≤◌, ◌<◌, ◌^◌, length, IfOk};
 ghost use Rattle.guest_types.specs.Memory.{IsPage};
+ghost use Rattle.guest_types.specs.declared.memory.TheConstants.{PAGE_BYTES};
 ghost use Rattle.paged_memory.specs.Runs.{BeginsWith, IsRun};
 
+use crate::head::PAGE_LEN;
 use guest_types::memory::{PageBytes, PageNo, PageSpec, Perm};
 use std::alloc::{AllocError, Global};
 
 fn page(alloc: Global, number: u64, perm: Perm, front: &[u8]) -> Result<PageSpec, AllocError>
     requires number { number < 2 ^ 36 }
-    requires front { length front.now ≤ 4096 }
+    requires front { length front.now ≤ PAGE_BYTES }
     ensures number { IfOk result (λ page. page.page ≡ number) }
     ensures begins { IfOk result (λ page. BeginsWith perm front.now page) }
     ensures valid { IfOk result IsPage }
@@ -17,7 +19,7 @@ fn page(alloc: Global, number: u64, perm: Perm, front: &[u8]) -> Result<PageSpec
     let Some(number) = PageNo::new(number) else {
         unreachable!()
     };
-    let zeros = vec![in alloc; 0u8; 4096 - front.len()]?;
+    let zeros = vec![in alloc; 0u8; PAGE_LEN - front.len()]?;
     let mut bytes = Vec::from_slice(alloc, front)?;
     bytes.extend_from_slice(zeros.as_slice())?;
     Ok(PageSpec::new(number, perm, PageBytes::new(bytes)))
@@ -32,7 +34,7 @@ pub fn run(
     front: &[u8],
 ) -> Result<Vec<PageSpec>, AllocError>
     requires numbers { from + count ≤ 2 ^ 36 }
-    requires front { length front.now ≤ 4096 }
+    requires front { length front.now ≤ PAGE_BYTES }
     ensures { IfOk result (λ pages. IsRun from count perm front.now pages.items) }
 {
     let mut pages = Vec::new(alloc);

@@ -3,17 +3,18 @@
 ghost use Rattle.std.specs.Prelude.{◌≡◌, ℕ, ◌+◌, ◌^◌, ◌<◌, ◌≤◌, [], length, Ok, Err, OnOk, OnErr, IfOk, IfErr, All};
 ghost use Rattle.guest_types.specs.Spans.{in_one_page, has_span, has_span_mut, span_of};
 ghost use Rattle.guest_types.specs.Memory.{IsMemory, byte_at, byte_or_zero, can_read, can_write, first_fault, loaded, stored, number_at, put_byte, put_number, fetched, merged, DoNotMeet};
+ghost use Rattle.guest_types.specs.declared.memory.TheConstants.{PAGE_BYTES, MOST_PAGES};
 ghost use Rattle.paged_memory.specs.Layout.{without};
 ghost use Rattle.paged_memory.specs.SpanWritten.{IsSpanWritten};
 
-use crate::head::Head;
+use crate::head::{Head, PAGE_LEN};
 use crate::merge::{append, end_of, has_page, heads_of, join};
 use crate::number;
 use crate::place::{Recent, place_of, read_place_of};
 use crate::span_writer::SpanWriter;
 use guest_types::guest::GuestMemory;
 use guest_types::image::{Image, PageMap};
-use guest_types::memory::{AccessFault, PageSpec};
+use guest_types::memory::{AccessFault, PAGE_BYTES, PageSpec};
 use std::alloc::{AllocError, Global};
 use std::marker::Model;
 
@@ -52,13 +53,13 @@ impl Store {
     /// The pages of an image and of a map beside it. It takes all memory that later calls need.
     pub fn build(alloc: Global, image: &Image, map: &PageMap) -> Result<Store, AllocError>
         requires apart { DoNotMeet image.now.pages.items map.now.pages.items }
-        requires few { length image.now.pages.items + length map.now.pages.items ≤ 16384 }
+        requires few { length image.now.pages.items + length map.now.pages.items ≤ MOST_PAGES }
         ensures { IfOk result (λ pages. pages ≡ merged image.now.pages.items map.now.pages.items) }
     {
         let count = image.pages.len() + map.pages.len();
         let mut store = Store {
             heads: Vec::new(alloc),
-            bytes: Vec::with_capacity(alloc, 4096 * count)?,
+            bytes: Vec::with_capacity(alloc, PAGE_LEN * count)?,
             recent: Recent::new(),
         };
         store.map_pages(alloc, &map.pages)?;
@@ -70,7 +71,7 @@ impl Store {
     pub fn map_pages(&mut self, alloc: Global, pages: &[PageSpec]) -> Result<(), AllocError>
         requires pages { IsMemory pages.now }
         requires apart { DoNotMeet pages.now self.old }
-        requires few { length pages.now + length self.old ≤ 16384 }
+        requires few { length pages.now + length self.old ≤ MOST_PAGES }
         ensures memory { OnOk result (self.new ≡ merged pages.now self.old) }
         ensures unchanged { OnErr result (self.new ≡ self.old) }
     {
@@ -100,13 +101,13 @@ impl Store {
         if address % 4 != 0 {
             return None;
         }
-        let Some(place) = place_of(&self.heads, &self.recent.fetched, address / 4096) else {
+        let Some(place) = place_of(&self.heads, &self.recent.fetched, address / PAGE_BYTES) else {
             return None;
         };
         if !self.heads[place].is_executable() {
             return None;
         }
-        let at = self.heads[place].start + (address % 4096) as usize;
+        let at = self.heads[place].start + (address % PAGE_BYTES) as usize;
         Some(number::word(&self.bytes, at))
     }
 
@@ -114,17 +115,17 @@ impl Store {
     pub fn byte(&self, address: u64) -> Option<u8>
         ensures { result ≡ byte_at self.now address }
     {
-        let Some(place) = read_place_of(&self.heads, &self.recent, address / 4096) else {
+        let Some(place) = read_place_of(&self.heads, &self.recent, address / PAGE_BYTES) else {
             return None;
         };
-        let at = self.heads[place].start + (address % 4096) as usize;
+        let at = self.heads[place].start + (address % PAGE_BYTES) as usize;
         Some(self.bytes[at])
     }
 
     fn can_write(&self, address: u64) -> bool
         ensures { result ≡ can_write self.now address }
     {
-        match place_of(&self.heads, &self.recent.written, address / 4096) {
+        match place_of(&self.heads, &self.recent.written, address / PAGE_BYTES) {
             Some(place) => self.heads[place].is_writable(),
             None => false,
         }
@@ -197,8 +198,8 @@ impl Store {
     fn put_byte(&mut self, address: u64, byte: u8)
         ensures { self.new ≡ put_byte self.old address byte }
     {
-        if let Some(place) = place_of(&self.heads, &self.recent.written, address / 4096) {
-            let at = self.heads[place].start + (address % 4096) as usize;
+        if let Some(place) = place_of(&self.heads, &self.recent.written, address / PAGE_BYTES) {
+            let at = self.heads[place].start + (address % PAGE_BYTES) as usize;
             number::put_number(&mut self.bytes, at, 1, u64::from(byte));
         }
     }
@@ -245,7 +246,7 @@ fn are_bytes(bytes: &[u8])
 fn in_one_page(address: u64, len: u32) -> bool
     ensures { result ≡ in_one_page address len }
 {
-    (1 <= len) & (address % 4096 + u64::from(len) <= 4096)
+    (1 <= len) & (address % PAGE_BYTES + u64::from(len) <= PAGE_BYTES)
 }
 
 impl Store {
@@ -255,7 +256,7 @@ impl Store {
     fn can_read(&self, address: u64) -> bool
         ensures { result ≡ can_read self.now address }
     {
-        match read_place_of(&self.heads, &self.recent, address / 4096) {
+        match read_place_of(&self.heads, &self.recent, address / PAGE_BYTES) {
             Some(_place) => true,
             None => false,
         }
@@ -286,7 +287,7 @@ impl Store {
         if !in_one_page(address, len) {
             return None;
         }
-        match read_place_of(&self.heads, &self.recent, address / 4096) {
+        match read_place_of(&self.heads, &self.recent, address / PAGE_BYTES) {
             Some(place) => Some(place),
             None => None,
         }
@@ -299,7 +300,7 @@ impl Store {
         ensures value { result.now ≡ span_of self.now address len }
         ensures len { length result.now ≡ len }
     {
-        let at = self.heads[place].start + (address % 4096) as usize;
+        let at = self.heads[place].start + (address % PAGE_BYTES) as usize;
         &self.bytes[at..at + len as usize]
     }
 
@@ -334,7 +335,7 @@ impl Store {
         if !in_one_page(address, len) {
             return None;
         }
-        match place_of(&self.heads, &self.recent.written, address / 4096) {
+        match place_of(&self.heads, &self.recent.written, address / PAGE_BYTES) {
             Some(place) => {
                 if self.heads[place].is_writable() {
                     Some(place)
@@ -353,7 +354,7 @@ impl Store {
         requires can { W.can writer.now len }
         ensures { IsSpanWritten (W.writes writer.now) address len self.old self.new }
     {
-        let at = self.heads[place].start + (address % 4096) as usize;
+        let at = self.heads[place].start + (address % PAGE_BYTES) as usize;
         writer.write(&mut self.bytes[at..at + len as usize]);
     }
 }
@@ -366,7 +367,7 @@ impl Store {
     /// How many pages there are.
     pub fn len(&self) -> usize
         ensures value { result ≡ length self.now }
-        ensures few { result ≤ 16384 }
+        ensures few { result ≤ MOST_PAGES }
     {
         self.heads.len()
     }
@@ -387,20 +388,20 @@ impl Store {
     pub fn page(&self, place: usize) -> &[u8]
         requires { place < length self.now }
         ensures value { result.now ≡ bytes_at self.now place }
-        ensures whole { length result.now ≡ 4096 }
+        ensures whole { length result.now ≡ PAGE_BYTES }
     {
         let at = self.heads[place].start;
-        &self.bytes[at..at + 4096]
+        &self.bytes[at..at + PAGE_LEN]
     }
 
     /// Puts other bytes into the page at a place, where there is one.
     pub fn put_page(&mut self, place: usize, page: &[u8])
-        requires { length page.now ≡ 4096 }
+        requires { length page.now ≡ PAGE_BYTES }
         ensures { self.new ≡ with_page place page.now self.old }
     {
         if place < self.heads.len() {
             let at = self.heads[place].start;
-            self.bytes[at..at + 4096].copy_from_slice(page);
+            self.bytes[at..at + PAGE_LEN].copy_from_slice(page);
         }
     }
 }
@@ -412,9 +413,9 @@ impl GuestMemory for Store {
 
     #[inline(always)]
     fn load(&self, address: u64, size: u32) -> Result<u64, AccessFault> {
-        let offset = address % 4096;
-        if offset + u64::from(size) <= 4096 {
-            if let Some(place) = read_place_of(&self.heads, &self.recent, address / 4096) {
+        let offset = address % PAGE_BYTES;
+        if offset + u64::from(size) <= PAGE_BYTES {
+            if let Some(place) = read_place_of(&self.heads, &self.recent, address / PAGE_BYTES) {
                 let at = self.heads[place].start + offset as usize;
                 return Ok(number::number(&self.bytes, at, size));
             }
@@ -424,9 +425,9 @@ impl GuestMemory for Store {
 
     #[inline(always)]
     fn store(&mut self, address: u64, size: u32, value: u64) -> Result<(), AccessFault> {
-        let offset = address % 4096;
-        if offset + u64::from(size) <= 4096 {
-            if let Some(place) = place_of(&self.heads, &self.recent.written, address / 4096) {
+        let offset = address % PAGE_BYTES;
+        if offset + u64::from(size) <= PAGE_BYTES {
+            if let Some(place) = place_of(&self.heads, &self.recent.written, address / PAGE_BYTES) {
                 if self.heads[place].is_writable() {
                     let at = self.heads[place].start + offset as usize;
                     number::put_number(&mut self.bytes, at, size, value);

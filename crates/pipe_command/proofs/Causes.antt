@@ -1,7 +1,7 @@
 -- Refusals of scripts, of maps and of the files of lines.
 use mathlib.Core.Logic.{⊎_elim}
-use Rattle.std.proofs.Common.{◌≡◌, ◌≢◌, ℕ, List, [], Option, Some, None, Result, Ok, Err, inl, inr, refl, sym, ap, ◌∙◌, subst}
-use Rattle.std.specs.Prelude.{IfSome, IfErr, IsErrAnd}
+use Rattle.std.proofs.Common.{◌≡◌, ◌≢◌, ℕ, List, [], Option, Some, Result, Ok, Err, inl, inr, refl, sym, ap, ◌∙◌, subst}
+use Rattle.std.specs.Prelude.{IfErr, IsErrAnd}
 use Rattle.guest_types.specs.Memory.{Memory as Pages}
 use Rattle.machine_model.specs.declared.elf_fault.ElfFault.{ElfFault}
 use Rattle.machine_model.specs.declared.elf_fault.ElfFault.TheVariants as elf
@@ -19,7 +19,7 @@ use Rattle.pipe_run.specs.PipeRun.{misfit}
 use Rattle.refusals.specs.declared.refusal.Refusal.{Refusal}
 use Rattle.refusals.specs.declared.refusal.Refusal.TheVariants.{Usage, TooManyLive, Kernel, Elf, Asm, Memory, File, Output}
 use Rattle.refusals.specs.Statuses.{of_elf, of_map, of_pipe}
-use Rattle.command_answers.specs.Answer.{HeldFiles, Answer, IsFileAnswer}
+use Rattle.command_answers.specs.Answer.{Answer, IsFileAnswer}
 use Rattle.command_answers.specs.Reads.{and_then}
 use Rattle.command_answers.specs.Works.{loaded, mapped}
 use Rattle.pipe_command.specs.Pipes.{read_as, entries_of, fitted, image_in, map_alone, IsOfPipe}
@@ -113,8 +113,3 @@ refusal_answers x y wanted result refusal is h = ⊎_elim (λ m. inr (inl (is �
 pub by_error : {T U : Type 0} (wanted : Result U Refusal) (fault : Refusal) (result : Result T Refusal) → IsErrAnd result (λ r. r ≡ fault) → Refuses wanted fault → IfErr result (Refuses wanted)
 by_error wanted fault (Ok x) is h = absurd is
 by_error wanted fault (Err r) is h = subst (Refuses wanted) (sym is) h
-
--- what holds whatever the files hold
-pub whatever_held : (held : Option HeldFiles) (P : HeldFiles → Type 0) → ((h : HeldFiles) → P h) → IfSome held P
-whatever_held None P all = tt
-whatever_held (Some h) P all = all h

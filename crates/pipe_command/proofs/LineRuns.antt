@@ -47,10 +47,10 @@ pub record SoFar (text : List ℕ) (number : ℕ) (left : List Line) (now : Memo
   pub pages : (runs_of left now vl steps).pages ≡ (runs_of all first vl steps).pages
   pub done : last_done (runs_of left now vl steps).outcomes ≡ last_done (runs_of all first vl steps).outcomes
 
-pub one_more : (text after : List ℕ) (number : ℕ) (line : Line) (left : List Line) (now then : Memory) (all : List Line) (first : Memory) (vl steps : ℕ) → SoFar text number (line ∷ left) now all first vl steps
+pub line_ran : (text after : List ℕ) (number : ℕ) (line : Line) (left : List Line) (now then : Memory) (all : List Line) (first : Memory) (vl steps : ℕ) → SoFar text number (line ∷ left) now all first vl steps
     → done_by (line_run line now vl steps) ≡ done.Ended → after ≡ text ++ run_text number (line_run line now vl steps) → then ≡ map_left (memory_left (line_run line now vl steps)) now → SoFar after (number + 1) left then all first vl steps
 unfolding runs_text
-one_more text after number line left now then all first vl steps so ended more is =
+line_ran text after number line left now then all first vl steps so ended more is =
     let outcome = line_run line now vl steps in
     let rest = runs_of left (map_left (memory_left outcome) now) vl steps in
     let first_is = runs_next line left now vl steps ended in

@@ -1,5 +1,5 @@
 -- The lines of a script, loaded one after another.
-use Rattle.std.proofs.Common.{◌≡◌, ℕ, zero, suc, ◌+◌, ◌<◌, ◌≤◌, length, drop, get_or, arith, List, [], ◌∷◌, ◌++◌, Option, Some, None, Result, Ok, Err, inl, refl, sym, ap, ◌∙◌, subst, append_assoc, append-nil}
+use Rattle.std.proofs.Common.{◌≡◌, ℕ, ◌+◌, ◌<◌, ◌≤◌, length, drop, get_or, List, [], ◌∷◌, ◌++◌, Option, Some, None, Result, Ok, Err, inl, refl, sym, ap, ◌∙◌, subst, append_assoc, append-nil}
 use Rattle.std.specs.Prelude.{IfSome, IsSome}
 use Rattle.std.proofs.lemmas.List.{drop_more}
 use Rattle.io_edges.specs.Files.{content}
@@ -50,9 +50,9 @@ line_added x y (Some h) pages before after line entry found is same answer more 
 abbrev pub SoFar : Option HeldFiles → Pages → List Line → (left all : List ScriptEntry) → Type 0
 SoFar held pages before left all = IfSome held (λ h. with_before before (lines_of h pages left) ≡ lines_of h pages all)
 
-pub one_more : (x y : ℕ) (held : Option HeldFiles) (pages : Pages) (before after : List Line) (entry : ScriptEntry) (left all : List ScriptEntry) (found : Result (List Line) Refusal) → SoFar held pages before (entry ∷ left) all → found ≡ Ok after → IfSome held (λ h. IsFileAnswer x y (with_line h pages before entry) found) → SoFar held pages after left all
-one_more x y None pages before after entry left all found so is answer = tt
-one_more x y (Some h) pages before after entry left all found so is answer =
+pub line_loaded : (x y : ℕ) (held : Option HeldFiles) (pages : Pages) (before after : List Line) (entry : ScriptEntry) (left all : List ScriptEntry) (found : Result (List Line) Refusal) → SoFar held pages before (entry ∷ left) all → found ≡ Ok after → IfSome held (λ h. IsFileAnswer x y (with_line h pages before entry) found) → SoFar held pages after left all
+line_loaded x y None pages before after entry left all found so is answer = tt
+line_loaded x y (Some h) pages before after entry left all found so is answer =
     ap (λ r. and_then r (λ lines. with_before lines (lines_of h pages left))) (read_is x y (with_line h pages before entry) after (subst (IsFileAnswer x y (with_line h pages before entry)) is answer))
     ∙ sym (step_is h pages before entry left) ∙ so
 
@@ -63,9 +63,9 @@ all_loaded x y (Some h) pages before left all result so none is =
     let last : with_before before (lines_of h pages []) ≡ lines_of h pages all = subst (λ l. with_before before (lines_of h pages l) ≡ lines_of h pages all) none so in
     inl (is ∙ ap (λ l. Ok l) (sym (append-nil before)) ∙ last)
 
-pub stops : (x y z : ℕ) (held : Option HeldFiles) (pages : Pages) (before : List Line) (entry : ScriptEntry) (left all : List ScriptEntry) (found : Result (List Line) Refusal) (refusal : Refusal) (result : Result (List Line) Refusal) → x ≤ y → SoFar held pages before (entry ∷ left) all → found ≡ Err refusal → result ≡ Err refusal → IfSome held (λ h. IsFileAnswer y z (with_line h pages before entry) found) → IfSome held (λ h. IsFileAnswer x z (lines_of h pages all) result)
-stops x y z None pages before entry left all found refusal result more so is e answer = tt
-stops x y z (Some h) pages before entry left all found refusal result more so is e answer =
+pub loading_stops : (x y z : ℕ) (held : Option HeldFiles) (pages : Pages) (before : List Line) (entry : ScriptEntry) (left all : List ScriptEntry) (found : Result (List Line) Refusal) (refusal : Refusal) (result : Result (List Line) Refusal) → x ≤ y → SoFar held pages before (entry ∷ left) all → found ≡ Err refusal → result ≡ Err refusal → IfSome held (λ h. IsFileAnswer y z (with_line h pages before entry) found) → IfSome held (λ h. IsFileAnswer x z (lines_of h pages all) result)
+loading_stops x y z None pages before entry left all found refusal result more so is e answer = tt
+loading_stops x y z (Some h) pages before entry left all found refusal result more so is e answer =
     subst (IsFileAnswer x z (lines_of h pages all)) (sym e)
     (subst (λ w. IsFileAnswer x z w (Err refusal)) (sym (step_is h pages before entry left) ∙ so)
     (refused_first x z y z (with_line h pages before entry) (λ lines. with_before lines (lines_of h pages left)) refusal (later_rose x y z more) (subst (IsFileAnswer y z (with_line h pages before entry)) is answer)))
@@ -94,9 +94,3 @@ held_map (Some held) A P Q f h = λ a. f (h a)
 
 pub next_is : {X : Type 0} (xs : List X) (i : ℕ) (x : X) → i < length xs → x ≡ get_or xs i x → drop i xs ≡ x ∷ drop (i + 1) xs
 next_is xs i x h e = drop_more xs i x h ∙ ap (λ y. y ∷ drop (i + 1) xs) (sym e)
-
-pub none_left : {X : Type 0} (xs : List X) (i : ℕ) → length xs ≤ i → drop i xs ≡ []
-none_left [] zero h = refl
-none_left [] (suc i) h = refl
-none_left (x ∷ xs) zero h = absurd (omega arith)
-none_left (x ∷ xs) (suc i) h = none_left xs i (omega arith)

@@ -1,8 +1,7 @@
 -- What a call that failed, or one that came to its end, owes of the files.
 use Rattle.std.proofs.Common.{◌≡◌, ◌≢◌, ℕ, List, [], ◌∷◌, ◌++◌, Option, Some, None, Result, Ok, Err, inl, inr, ⊎_elim, ap, ◌∙◌, sym, subst}
-use Rattle.std.specs.Prelude.{IfSome, IfErr, IsErrAnd, IsErr, OnOk}
+use Rattle.std.specs.Prelude.{IfSome, IfErr, IsErrAnd}
 use Rattle.std.specs.List.{AllByRecursion}
-use Rattle.std.proofs.lemmas.Result.{IfOk-from_err}
 use Rattle.guest_types.specs.Memory.{Memory as Pages}
 use Rattle.refusals.specs.declared.refusal.Refusal.{Refusal}
 use Rattle.refusals.specs.declared.refusal.Refusal.TheVariants.{Memory, File, TooLong, Elf, Map, Pipe, Output}
@@ -14,14 +13,12 @@ use Rattle.command_answers.specs.Answer.{HeldFiles, Success, Expected, Answer, a
 use Rattle.command_answers.specs.Reads.{and_then, task_files, IsOfRead}
 use Rattle.command_answers.proofs.Reading.{read_is, not_read}
 use Rattle.command_answers.proofs.Exits.{cut_answer}
+use Rattle.command_answers.proofs.Held.{whatever_held}
 use Rattle.pipe_command.specs.Pipes.{pipe_files, expected_of_pipe}
 use Rattle.pipe_command.specs.declared.loaded.LoadedLine.{LoadedLine}
 use Rattle.pipe_command.specs.View.{line_view, lines_view, Refuses, IsOfContent, IsOfFiles, IsFitting}
-use Rattle.pipe_command.proofs.Causes.{not_file_either, whatever_held}
+use Rattle.pipe_command.proofs.Causes.{not_file_either}
 use Rattle.pipe_command.proofs.LoadedLines.{held_map}
-
-pub on_error : {T E : Type 0} (P : Type 0) (r : Result T E) → IsErr r → OnOk r P
-on_error P r e = IfOk-from_err r (λ _. P) e
 
 -- a refusal that is passed on is one of a file where the first one is
 pub file_before : {T U : Type 0} (refusal : Refusal) (first : Result T Refusal) (second : Result U Refusal) → first ≡ Err refusal → second ≡ Err refusal → second ≡ Err File → first ≡ Err File

@@ -1,5 +1,5 @@
 -- What `pipe` comes to: the runs of the lines of a script, each over the pages of one map as those before left them.
-use Rattle.std.specs.Prelude.{ℕ, ◌+◌, List, [], ◌∷◌, ◌++◌, Option, Some, None, IsSome, IfOk, Result, Ok, Err, codes, decimal}
+use Rattle.std.specs.Prelude.{ℕ, ◌+◌, List, [], ◌∷◌, ◌++◌, map, Option, Some, None, IsSome, IfOk, Result, Ok, Err, codes, decimal}
 use Rattle.std.specs.List.{AllByRecursion}
 use Rattle.io_edges.specs.Files.{content}
 use Rattle.guest_types.specs.Memory.{Memory}
@@ -16,6 +16,7 @@ use Rattle.refusals.specs.declared.refusal.Refusal.TheVariants.{Usage, TooManyLi
 use Rattle.refusals.specs.declared.refusal.Done.{Done}
 use Rattle.refusals.specs.declared.refusal.Done.TheVariants as done
 use Rattle.command_answers.specs.Answer.{HeldFiles, Expected, Answer}
+use Rattle.command_answers.specs.Requests.{Want, Read, task_wants}
 use Rattle.command_answers.specs.Reads.{and_then, file_of, task_files, IsTaskHeld}
 use Rattle.command_answers.specs.Works.{program_of, mapped, done_by, dump_of}
 
@@ -98,6 +99,29 @@ pipe_files held vl task script map = and_then (script_loaded held script map) (�
 
 abbrev pub expected_of_pipe : HeldFiles → (vl : ℕ) → Task → Expected
 expected_of_pipe held vl task = and_then (task_files held task) (λ files. pipe_files held vl task files.0 files.1)
+
+-- ---- the files that are asked for
+
+abbrev pub entry_want : ScriptEntry → Want
+entry_want entry = Read entry.file
+
+abbrev pub lines_wants : List ScriptEntry → List Want
+lines_wants entries = map entry_want entries
+
+-- the files of the lines, where the script is read
+abbrev pub entries_wants : Result (List ScriptEntry) PipeFault → List Want
+entries_wants (Ok entries) = lines_wants entries
+entries_wants (Err fault) = []
+
+-- the script and the map, and then the files of the script's lines
+abbrev pub wants_after : Result (List ℕ × List ℕ) Refusal → List Want
+wants_after (Ok files) = entries_wants (script_of files.0)
+wants_after (Err refusal) = []
+
+abbrev pub pipe_wants : HeldFiles → Task → List Want
+pipe_wants held task = task_wants task ++ wants_after (task_files held task)
+
+-- ---- the answers
 
 -- no answer of other commands: no kernel is read and no text of words
 abbrev pub IsOfPipe : Answer → Type 0

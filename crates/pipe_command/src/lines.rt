@@ -1,13 +1,14 @@
 //! The lines of a script with their files.
 
-ghost use Rattle.std.specs.Prelude.{◌≡◌, ◌≢◌, ◌≤◌, Ok, Err, IfSome, IfOk, IfErr, OnOk, IsSome, IsTrue, length, string_bytes};
+ghost use Rattle.std.specs.Prelude.{[], ◌∷◌, ◌≡◌, ◌≢◌, ◌≤◌, Ok, Err, IfSome, IfOk, IfErr, OnOk, IsSome, IsTrue, length, string_bytes};
 ghost use Rattle.std.specs.List.{AllByRecursion};
 ghost use Rattle.io_edges.specs.Files.{Rose, content};
 ghost use Rattle.elf_image.specs.Loaded.{plain};
 ghost use Rattle.pipe_script.specs.View.{entry_view, entries_view};
 ghost use Rattle.pipe_run.specs.PipeRun.{Fits};
 ghost use Rattle.command_answers.specs.Answer.{IsFileAnswer};
-ghost use Rattle.pipe_command.specs.Pipes.{image_in, image_of, with_line, lines_of, AreHeld};
+ghost use Rattle.command_answers.specs.Requests.{Asks, IsNotOfFiles};
+ghost use Rattle.pipe_command.specs.Pipes.{entry_want, lines_wants, image_in, image_of, with_line, lines_of, AreHeld};
 ghost use Rattle.pipe_command.specs.View.{lines_view, plain_in, loaded_in, lines_by, Refuses, IsOfContent, IsOfFiles, IsFitting};
 
 use crate::loaded::LoadedLine;
@@ -50,6 +51,7 @@ fn image_of<F: Files>(
         → result ≢ Err Refusal.File) }
     ensures fits { IfOk result (λ image. Fits image.pages.items map.now.pages.items) }
     ensures of_files { IfErr result IsOfFiles }
+    ensures asked { Asks IsNotOfFiles (F.requests files.old) (F.requests files.new) (entry_want (entry_view line.now) ∷ []) result }
 {
     let bytes = read_file(alloc, line.file.as_str(), files)?;
     let image = image_in(alloc, map, line.line, &bytes)?;
@@ -77,6 +79,7 @@ fn load_line<F: Files>(
     ensures fits { OnOk result (AllByRecursion (IsFitting map.now.pages.items) (lines_view loaded.old.items)
         → AllByRecursion (IsFitting map.now.pages.items) (lines_view loaded.new.items)) }
     ensures of_files { IfErr result IsOfFiles }
+    ensures asked { Asks IsNotOfFiles (F.requests files.old) (F.requests files.new) (entry_want (entry_view line.now) ∷ []) result }
 {
     let image = image_of(alloc, map, line, files)?;
     let args = Vec::from_slice(alloc, &line.args)?;
@@ -102,6 +105,7 @@ pub fn load_lines<F: Files>(
         → IfSome (F.held files.old) (λ held. AreHeld held (entries_view lines.now) → result ≢ Err Refusal.File) }
     ensures fits { IfOk result (λ loaded. AllByRecursion (IsFitting map.now.pages.items) (lines_view loaded.items)) }
     ensures of_files { IfErr result IsOfFiles }
+    ensures asked { Asks IsNotOfFiles (F.requests files.old) (F.requests files.new) (lines_wants (entries_view lines.now)) result }
 {
     let mut loaded = Vec::new(alloc);
     for line in lines {

@@ -6,7 +6,8 @@ ghost use Rattle.command_line.specs.View.{task_view};
 ghost use Rattle.pipe_script.specs.Script.{script_of};
 ghost use Rattle.command_answers.specs.Answer.{answer_of, expected_text, IsAnswer, IsFileAnswer, IsQuiet};
 ghost use Rattle.command_answers.specs.Outputs.{Prints};
-ghost use Rattle.pipe_command.specs.Pipes.{pipe_files, expected_of_pipe, AreHeld, IsPipeHeld, IsOfPipe};
+ghost use Rattle.command_answers.specs.Requests.{Asks, IsNotOfFiles};
+ghost use Rattle.pipe_command.specs.Pipes.{entries_wants, pipe_wants, pipe_files, expected_of_pipe, AreHeld, IsPipeHeld, IsOfPipe};
 ghost use Rattle.pipe_command.specs.View.{report_in, IsOfFiles};
 
 use crate::runs::run_script;
@@ -38,6 +39,7 @@ fn pipe_files<F: Files>(
         → IfSome (F.held files.old) (λ held. IfOk (script_of script.now) (AreHeld held)
         → result ≢ Err Refusal.File) }
     ensures of_files { IfErr result IsOfFiles }
+    ensures asked { Asks IsNotOfFiles (F.requests files.old) (F.requests files.new) (entries_wants (script_of script.now)) result }
 {
     let loaded = load_script(alloc, script, map, files)?;
     let report = run_script(alloc, vl, task, &loaded)?;
@@ -66,6 +68,8 @@ pub fn pipe<F: Files, S: Sink>(
     ensures steady { IsTrue (F.steady files.old)
         → IfSome (F.held files.old) (λ held. IsPipeHeld held (task_view task.now) → result ≢ Err Refusal.File) }
     ensures of_pipe { IsOfPipe result }
+    ensures asked { IfSome (F.held files.old)
+        (λ held. Asks IsNotOfFiles (F.requests files.old) (F.requests files.new) (pipe_wants held (task_view task.now)) result) }
 {
     let read = read_task(alloc, task, files)?;
     let report = pipe_files(alloc, vl, task, &read.file, &read.map, files)?;

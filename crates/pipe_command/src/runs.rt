@@ -2,6 +2,7 @@
 
 ghost use Rattle.std.specs.Prelude.{◌≡◌, ◌≢◌, ◌≤◌, ◌++◌, true, false, IfOk, OnOk, length};
 ghost use Rattle.std.specs.List.{AllByRecursion};
+ghost use Rattle.guest_types.specs.declared.memory.TheConstants.{MOST_PAGES};
 ghost use Rattle.machine_model.specs.Run.{Outcome, memory_left};
 ghost use Rattle.command_line.specs.View.{task_view};
 ghost use Rattle.pipe_run.specs.PipeRun.{Fits, map_left, runs_of};
@@ -112,7 +113,7 @@ pub fn run_script(
     task: &Task,
     script: &LoadedScript,
 ) -> Result<RunReport, AllocError>
-    requires few { length script.now.map.pages.items ≤ 16384 }
+    requires few { length script.now.map.pages.items ≤ MOST_PAGES }
     requires fits { AllByRecursion (IsFitting script.now.map.pages.items) (lines_view script.now.lines.items) }
     ensures { IfOk result (λ report. run_report report ≡ piped (task_view task.now).dump
         (runs_of (lines_view script.now.lines.items) script.now.map.pages.items vl task.now.steps)) }

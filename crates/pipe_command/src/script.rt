@@ -2,11 +2,13 @@
 
 ghost use Rattle.std.specs.Prelude.{◌≡◌, ◌≢◌, ◌≤◌, Ok, Err, IfSome, IfOk, IfErr, IsTrue, length};
 ghost use Rattle.std.specs.List.{AllByRecursion};
+ghost use Rattle.guest_types.specs.declared.memory.TheConstants.{MOST_PAGES};
 ghost use Rattle.io_edges.specs.Files.{Rose};
 ghost use Rattle.pipe_script.specs.Script.{script_of};
 ghost use Rattle.pipe_script.specs.View.{entries_view};
 ghost use Rattle.command_answers.specs.Answer.{IsFileAnswer};
-ghost use Rattle.pipe_command.specs.Pipes.{entries_of, map_alone, script_loaded, AreHeld};
+ghost use Rattle.command_answers.specs.Requests.{Asks, IsNotOfFiles};
+ghost use Rattle.pipe_command.specs.Pipes.{entries_wants, entries_of, map_alone, script_loaded, AreHeld};
 ghost use Rattle.pipe_command.specs.View.{lines_view, script_in, Refuses, IsOfContent, IsOfFiles, IsFitting};
 
 use crate::lines::load_lines;
@@ -31,7 +33,7 @@ fn entries(alloc: Global, script: &[u8]) -> Result<Vec<PipeLine>, Refusal>
 // The pages of a map beside no image.
 fn map_alone(alloc: Global, map: &[u8]) -> Result<PageMap, Refusal>
     ensures map { IfOk result (λ pages. map_alone map.now ≡ Ok pages.pages.items) }
-    ensures few { IfOk result (λ pages. length pages.pages.items ≤ 16384) }
+    ensures few { IfOk result (λ pages. length pages.pages.items ≤ MOST_PAGES) }
     ensures refusal { IfErr result (Refuses (map_alone map.now)) }
     ensures content { IfErr result IsOfContent }
 {
@@ -55,10 +57,11 @@ pub fn load_script<F: Files>(
     ensures reads { IsTrue (F.steady files.old)
         → IfSome (F.held files.old) (λ held. IfOk (script_of script.now) (AreHeld held)
         → result ≢ Err Refusal.File) }
-    ensures few { IfOk result (λ loaded. length loaded.map.pages.items ≤ 16384) }
+    ensures few { IfOk result (λ loaded. length loaded.map.pages.items ≤ MOST_PAGES) }
     ensures fits { IfOk result (λ loaded.
         AllByRecursion (IsFitting loaded.map.pages.items) (lines_view loaded.lines.items)) }
     ensures of_files { IfErr result IsOfFiles }
+    ensures asked { Asks IsNotOfFiles (F.requests files.old) (F.requests files.new) (entries_wants (script_of script.now)) result }
 {
     let entries = entries(alloc, script)?;
     let map = map_alone(alloc, map)?;

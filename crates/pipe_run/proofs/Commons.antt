@@ -9,17 +9,17 @@ use Rattle.guest_types.specs.Memory.{Page, Memory, IsMemory, DoNotMeet, page_at}
 use Rattle.guest_types.proofs.Merges.{Ordered, Ordered-from_IsMemory}
 use Rattle.pipe_run.specs.PipeRun.{has_page, have_common}
 
-absent : (pages : Memory) (n : ℕ) → has_page pages n ≡ false → page_at pages n ≡ None
-absent [] n h = refl
-absent (page ∷ pages) n h = let p = or_parts (nat_eq page.page n) (has_page pages n) h in rw p.0 (absent pages n p.1)
+no_page_of_no_number : (pages : Memory) (n : ℕ) → has_page pages n ≡ false → page_at pages n ≡ None
+no_page_of_no_number [] n h = refl
+no_page_of_no_number (page ∷ pages) n h = let p = or_parts (nat_eq page.page n) (has_page pages n) h in rw p.0 (no_page_of_no_number pages n p.1)
 
 none_common : (image pages : Memory) → have_common image pages ≡ false → AllByRecursion (λ page. page_at pages page.page ≡ None) image
 none_common [] pages h = tt
 none_common (page ∷ image) pages h =
-    let p = or_parts (has_page pages page.page) (have_common image pages) h in (absent pages page.page p.0, none_common image pages p.1)
+    let p = or_parts (has_page pages page.page) (have_common image pages) h in (no_page_of_no_number pages page.page p.0, none_common image pages p.1)
 
-pub apart : (image pages : Memory) → have_common image pages ≡ false → DoNotMeet image pages
-apart image pages h = All-from_recursion (λ page. page_at pages page.page ≡ None) image (none_common image pages h)
+pub do_not_meet_of_no_common : (image pages : Memory) → have_common image pages ≡ false → DoNotMeet image pages
+do_not_meet_of_no_common image pages h = All-from_recursion (λ page. page_at pages page.page ≡ None) image (none_common image pages h)
 
 -- ---- two lists in the order of their numbers
 
@@ -68,8 +68,8 @@ module _ (image pages : Memory) (i j : ℕ) (x y : Page) (met : Met image pages 
   ys : Ordered met.least (y ∷ drop (j + 1) pages)
   ys = subst (Ordered met.least) (next_is pages j y under there) met.pages_left
 
-  both : have_common (x ∷ drop (i + 1) image) (y ∷ drop (j + 1) pages) ≡ have_common image pages
-  both = sym (ap₂ have_common (next_is image i x below here) (next_is pages j y under there)) ∙ met.same
+  have_common_of_drops : have_common (x ∷ drop (i + 1) image) (y ∷ drop (j + 1) pages) ≡ have_common image pages
+  have_common_of_drops = sym (ap₂ have_common (next_is image i x below here) (next_is pages j y under there)) ∙ met.same
 
   pub met_image : x.page < y.page → Met image pages (i + 1) j
   met_image l = record {
@@ -79,7 +79,7 @@ module _ (image pages : Memory) (i j : ℕ) (x y : Page) (met : Met image pages 
     pages_left = met.pages_left;
     same =
         ap (have_common (drop (i + 1) image)) (next_is pages j y under there)
-        ∙ sym (past_image x (drop (i + 1) image) y.page (y ∷ drop (j + 1) pages) (omega arith, ys.1, ys.2) l) ∙ both;
+        ∙ sym (past_image x (drop (i + 1) image) y.page (y ∷ drop (j + 1) pages) (omega arith, ys.1, ys.2) l) ∙ have_common_of_drops;
   }
 
   pub met_pages : y.page < x.page → Met image pages i (j + 1)
@@ -90,14 +90,14 @@ module _ (image pages : Memory) (i j : ℕ) (x y : Page) (met : Met image pages 
     pages_left = ys.2;
     same =
         ap (λ m. have_common m (drop (j + 1) pages)) (next_is image i x below here)
-        ∙ sym (past_map x.page (x ∷ drop (i + 1) image) y (drop (j + 1) pages) (omega arith, xs.1, xs.2) l) ∙ both;
+        ∙ sym (past_map x.page (x ∷ drop (i + 1) image) y (drop (j + 1) pages) (omega arith, xs.1, xs.2) l) ∙ have_common_of_drops;
   }
 
-none_left : (pages : Memory) (i : ℕ) → length pages ≤ i → drop i pages ≡ []
-none_left [] zero h = refl
-none_left [] (suc i) h = refl
-none_left (page ∷ pages) zero h = absurd (omega arith)
-none_left (page ∷ pages) (suc i) h = none_left pages i (omega arith)
+drop_pages_past_end : (pages : Memory) (i : ℕ) → length pages ≤ i → drop i pages ≡ []
+drop_pages_past_end [] zero h = refl
+drop_pages_past_end [] (suc i) h = refl
+drop_pages_past_end (page ∷ pages) zero h = absurd (omega arith)
+drop_pages_past_end (page ∷ pages) (suc i) h = drop_pages_past_end pages i (omega arith)
 
 pub met_pages_over : (image pages : Memory) (i j : ℕ) → Met image pages i j → length pages ≤ j → have_common image pages ≡ false
-met_pages_over image pages i j met h = sym met.same ∙ ap (have_common (drop i image)) (none_left pages j h) ∙ no_pages (drop i image)
+met_pages_over image pages i j met h = sym met.same ∙ ap (have_common (drop i image)) (drop_pages_past_end pages j h) ∙ no_pages (drop i image)

@@ -23,10 +23,10 @@ Alike [] (q ∷ qs) = ⊥
 Alike (p ∷ ps) [] = ⊥
 Alike (p ∷ ps) (q ∷ qs) = (p.page ≡ q.page) × (p.perm ≡ q.perm) × Alike ps qs
 
-alike : (m : Memory) → Alike m m
+alike_refl : (m : Memory) → Alike m m
 unfolding Alike
-alike [] = tt
-alike (p ∷ ps) = (refl, refl, alike ps)
+alike_refl [] = tt
+alike_refl (p ∷ ps) = (refl, refl, alike_refl ps)
 
 alike-next : (l m n : Memory) → Alike l m → Alike m n → Alike l n
 unfolding Alike
@@ -43,17 +43,17 @@ alike-put_byte [] a b = tt
 alike-put_byte (p ∷ ps) a b = go (nat_eq p.page (a / 4096)) (alike-put_byte ps a b)
   where
     go : (t : Bool) → Alike (put_byte ps a b) ps → Alike (cond t (with_byte p a b ∷ ps) (p ∷ put_byte ps a b)) (p ∷ ps)
-    go true more = (refl, refl, alike ps)
+    go true more = (refl, refl, alike_refl ps)
     go false more = (refl, refl, more)
 
 alike-put_number : (m : Memory) (a s v : ℕ) → Alike (put_number m a s v) m
-alike-put_number m a zero v = alike m
+alike-put_number m a zero v = alike_refl m
 alike-put_number m a (suc s) v =
     alike-next (put_number m a (suc s) v) (put_byte m a (v % 256)) m
     (alike-put_number (put_byte m a (v % 256)) (next_address a) s (v / 256)) (alike-put_byte m a (v % 256))
 
 alike-after : {m n : Memory} → AfterStores m n → Alike n m
-alike-after (Unchanged m) = alike m
+alike-after (Unchanged m) = alike_refl m
 alike-after (Stored before between after address size v is more) =
     alike-next after between before (alike-after more) (subst (λ m. Alike m before) (sym (stored-Ok before between address size v is).1) (alike-put_number before address size v))
 
@@ -120,7 +120,7 @@ left-alike m (p ∷ ps) (q ∷ qs) a each =
     ∙ ap (λ bytes. record { page = q.page; perm = q.perm; bytes = bytes } ∷ ps) bytes
     ∙ ap (λ (rest : Memory). page_left m q ∷ rest) (left-alike m ps qs a.2 (All-tail (λ (page : Page). page_at m page.page ≡ Some page) p ps each))
 
-start_has : (image : Image) (args : List ℕ) (pages : Memory) (vl : ℕ) → (start image args pages vl).memory ≡ merged image.pages pages
+pub start_has : (image : Image) (args : List ℕ) (pages : Memory) (vl : ℕ) → (start image args pages vl).memory ≡ merged image.pages pages
 unfolding start start_of
 start_has image args pages vl = refl
 

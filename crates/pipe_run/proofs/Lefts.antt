@@ -8,14 +8,14 @@ use Rattle.std.proofs.lemmas.List.Elements.{recursion_from_All, All-from_recursi
 use Rattle.pipe_run.specs.PipeRun.{bytes_or, map_left}
 
 -- ---- a page of a memory
-found_step : (first : Page) (memory : Memory) (n : ℕ) (page : Page) (x : Bool) → eqb first.page n ≡ x → page_at (first ∷ memory) n ≡ Some page → IsPage first
+page_found_of_cons : (first : Page) (memory : Memory) (n : ℕ) (page : Page) (x : Bool) → eqb first.page n ≡ x → page_at (first ∷ memory) n ≡ Some page → IsPage first
     → (page_at memory n ≡ Some page → IsPage page) → IsPage page
-found_step first memory n page true w e is ih = let k : Some first ≡ Some page = rw w at e in subst IsPage (same_Some first page k) is
-found_step first memory n page false w e is ih = ih (rw w at e)
+page_found_of_cons first memory n page true w e is ih = let k : Some first ≡ Some page = rw w at e in subst IsPage (same_Some first page k) is
+page_found_of_cons first memory n page false w e is ih = ih (rw w at e)
 
 pub found-page : (memory : Memory) (n : ℕ) → AllByRecursion IsPage memory → (page : Page) → page_at memory n ≡ Some page → IsPage page
 found-page [] n h page e = cc
-found-page (first ∷ memory) n h page e = found_step first memory n page (eqb first.page n) refl e h.0 (found-page memory n h.1 page)
+found-page (first ∷ memory) n h page e = page_found_of_cons first memory n page (eqb first.page n) refl e h.0 (found-page memory n h.1 page)
 
 -- ---- the pages of a map
 

@@ -2,6 +2,7 @@
 use Rattle.std.specs.Prelude.{ℕ, ◌+◌, ◌≤◌, List, [], ◌∷◌, map, length, Option, Some, None, Bool, nat_eq, nat_lt, if◌then◌else◌}
 use Rattle.std.specs.List.{list_any}
 use Rattle.guest_types.specs.Memory.{Page, Memory, DoNotMeet, page_at}
+use Rattle.guest_types.specs.declared.memory.TheConstants.{MOST_PAGES}
 use Rattle.machine_model.specs.Load.{Image}
 use Rattle.machine_model.specs.Run.{Outcome, End, Stop, Spent, image_run, memory_left}
 use Rattle.pipe_script.specs.declared.fault.PipeFault.{PipeFault}
@@ -54,11 +55,11 @@ have_common image pages = list_any (λ page. has_page pages page.page) image
 -- a map fits beside an image
 pub record Fits (image pages : Memory) : Type 0 where
   pub apart : DoNotMeet image pages
-  pub few : length image + length pages ≤ 16384
+  pub few : length image + length pages ≤ MOST_PAGES
 
 -- why a map does not fit beside the image of a line
 abbrev pub misfit : (line : ℕ) → (image pages : Memory) → Option PipeFault
 misfit line image pages =
     if have_common image pages then Some (Clash line)
-    else if nat_lt 16384 (length image + length pages) then Some (TooManyPages line)
+    else if nat_lt MOST_PAGES (length image + length pages) then Some (TooManyPages line)
     else None

@@ -13,9 +13,9 @@ either_none : (b : Bool) (o : Option (List ℕ)) → o ≡ None → (if b then o
 either_none true o e = e
 either_none false o e = refl
 
-pub begins : (args : List ℕ) (words : List (List ℕ)) → args ≡ [] → arguments_left args words ≡ arguments_of words
+pub arguments_left_at_start : (args : List ℕ) (words : List (List ℕ)) → args ≡ [] → arguments_left args words ≡ arguments_of words
 unfolding arguments_left arguments_of
-begins args words e =
+arguments_left_at_start args words e =
     let z : length {A = ℕ} [] + length words ≡ length words = omega arith in
     ap (λ a. if nat_le (length a + length words) 8 then arguments_from a words else None) e ∙ ap (λ k. if nat_le k 8 then arguments_from [] words else None) z
 

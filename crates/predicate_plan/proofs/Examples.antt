@@ -14,9 +14,9 @@ abbrev zero_at : List ℕ → Term
 zero_at x = Comparison compare.Eq (Variable x) (Literal (pos 0))
 
 -- 10, 11, 12 the first comparison, 13 the mark, 14 to 16 the second, 17 to 19 the third, 20 `&&`, 21 `||`
-either : term_masks (Some i) 10 [] (Either (zero_at a) (Both (zero_at a) (zero_at a)))
+masks_of_either : term_masks (Some i) 10 [] (Either (zero_at a) (Both (zero_at a) (zero_at a)))
     ≡ [] ∷ [] ∷ [] ∷ [] ∷ (part 12 false ∷ []) ∷ (part 12 false ∷ []) ∷ (part 12 false ∷ []) ∷ (part 12 false ∷ part 16 true ∷ []) ∷ (part 12 false ∷ part 16 true ∷ []) ∷ (part 12 false ∷ part 16 true ∷ []) ∷ (part 12 false ∷ []) ∷ [] ∷ []
-either = refl
+masks_of_either = refl
 
 -- 10 to 12 the condition, 13 `then`, 14 and 15 a `let`, 16 `else`, 17 and 18 another, 19 `end`
 choice : action_masks (Some i) 10 [] (Choose (zero_at a) (Then (Define a None (Variable i)) Done) (Else (Then (Define a None (Variable i)) Done)))

@@ -50,32 +50,32 @@ record AreSoFar (words : List ℕ) : Type 0 where
   few : length words ≤ 65536
   small : AllByRecursion (λ word. word < 2 ^ 32) words
 
-one_more : (words : List ℕ) (word : ℕ) → AllByRecursion (λ w. w < 2 ^ 32) words → word < 2 ^ 32 → AllByRecursion (λ w. w < 2 ^ 32) (words ++ word ∷ [])
-one_more [] word small h = (h, tt)
-one_more (w ∷ words) word small h = (small.0, one_more words word small.1 h)
+words_below_of_push : (words : List ℕ) (word : ℕ) → AllByRecursion (λ w. w < 2 ^ 32) words → word < 2 ^ 32 → AllByRecursion (λ w. w < 2 ^ 32) (words ++ word ∷ [])
+words_below_of_push [] word small h = (h, tt)
+words_below_of_push (w ∷ words) word small h = (small.0, words_below_of_push words word small.1 h)
 
-added : (words : List ℕ) (word : ℕ) → AreSoFar words → nat_lt (length words) 65536 ≡ true → word < 2 ^ 32 → AreSoFar (words ++ word ∷ [])
-added words word are room h = record {
+so_far_of_push : (words : List ℕ) (word : ℕ) → AreSoFar words → nat_lt (length words) 65536 ≡ true → word < 2 ^ 32 → AreSoFar (words ++ word ∷ [])
+so_far_of_push words word are room h = record {
   few = let below = ltb-true (length words) 65536 room in let more = length-append words (word ∷ []) in omega (arith, below, more);
-  small = one_more words word are.small h;
+  small = words_below_of_push words word are.small h;
 }
 
-step : (line : ℕ) (said : Option AsmLine) (words out : List ℕ) (rest : List ℕ → Result (List ℕ) AsmFault) → AreSoFar words → ((word : ℕ) → said ≡ Some (Word word) → word < 2 ^ 32)
+words_so_far_step : (line : ℕ) (said : Option AsmLine) (words out : List ℕ) (rest : List ℕ → Result (List ℕ) AsmFault) → AreSoFar words → ((word : ℕ) → said ≡ Some (Word word) → word < 2 ^ 32)
     → ((next : List ℕ) → AreSoFar next → rest next ≡ Ok out → AreSoFar out) → go_on (after_line line said words) rest ≡ Ok out → AreSoFar out
-step line None words out rest are small go e = cc
-step line (Some Blank) words out rest are small go e = go words are e
-step line (Some (Unlike want found)) words out rest are small go e = cc
-step line (Some (Word word)) words out rest are small go e = by (nat_lt (length words) 65536) refl e
+words_so_far_step line None words out rest are small go e = cc
+words_so_far_step line (Some Blank) words out rest are small go e = go words are e
+words_so_far_step line (Some (Unlike want found)) words out rest are small go e = cc
+words_so_far_step line (Some (Word word)) words out rest are small go e = by (nat_lt (length words) 65536) refl e
   where
     by : (b : Bool) → nat_lt (length words) 65536 ≡ b → go_on (if b then Ok (words ++ word ∷ []) else Err TooManyWords) rest ≡ Ok out → AreSoFar out
-    by true room e = go (words ++ word ∷ []) (added words word are room (small word refl)) e
+    by true room e = go (words ++ word ∷ []) (so_far_of_push words word are room (small word refl)) e
     by false room e = cc
 
 lines : (line : ℕ) (texts : List (List ℕ)) (words out : List ℕ) → AreSoFar words → after_lines line texts words ≡ Ok out → AreSoFar out
 unfolding after_lines
 lines line [] words out are e = let same : words ≡ out = cc in subst AreSoFar same are
 lines line (text ∷ texts) words out are e =
-    step line (asm_line_of text) words out (after_lines (line + 1) texts) are (line_small text) (λ next next_are. lines (line + 1) texts next out next_are) e
+    words_so_far_step line (asm_line_of text) words out (after_lines (line + 1) texts) are (line_small text) (λ next next_are. lines (line + 1) texts next out next_are) e
 
 -- what a text of words gives is a program
 pub words_are : (text words : List ℕ) → words_of text ≡ Ok words → IsProgram words

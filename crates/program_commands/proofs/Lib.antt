@@ -5,3 +5,4 @@ pub mod Sessions
 pub mod Assemblies
 pub mod ReadBack
 pub mod AssembledWords
+pub mod Requested

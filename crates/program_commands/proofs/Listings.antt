@@ -24,18 +24,18 @@ join m a (suc n) k (suc j) e =
     ∙ ap (λ b. (line ++ lines_from m (a + 4) n) ++ lines_from m b k) place
 
 -- no words
-pub none : (m : Memory) (a : ℕ) → lines_from m a 0 ≡ []
+pub lines_of_no_word : (m : Memory) (a : ℕ) → lines_from m a 0 ≡ []
 unfolding lines_from words_from list_text
-none m a = refl
+lines_of_no_word m a = refl
 
 -- one word
-one : (m : Memory) (a : ℕ) → lines_from m a 1 ≡ line_text a (number_at m a 4)
+lines_of_one_word : (m : Memory) (a : ℕ) → lines_from m a 1 ≡ line_text a (number_at m a 4)
 unfolding lines_from words_from list_text
-one m a = append-nil (line_text a (number_at m a 4))
+lines_of_one_word m a = append-nil (line_text a (number_at m a 4))
 
 -- some words, and one after them
-pub more : (m : Memory) (a n : ℕ) → lines_from m a (n + 1) ≡ lines_from m a n ++ line_text (a + 4 * n) (number_at m (a + 4 * n) 4)
-more m a n = join m a n 1 (n + 1) refl ∙ ap (λ t. lines_from m a n ++ t) (one m (a + 4 * n))
+pub lines_of_one_word_more : (m : Memory) (a n : ℕ) → lines_from m a (n + 1) ≡ lines_from m a n ++ line_text (a + 4 * n) (number_at m (a + 4 * n) 4)
+lines_of_one_word_more m a n = join m a n 1 (n + 1) refl ∙ ap (λ t. lines_from m a n ++ t) (lines_of_one_word m (a + 4 * n))
 
 -- ---- lines on an output
 
@@ -55,4 +55,4 @@ puts_short m a n count old new x z first (Err other) failed is err most p =
 
 -- no lines were put
 pub puts_none : (m : Memory) (a : ℕ) (old : Option (List ℕ)) (x : ℕ) → PutsText {T = Unit {0}} old old x x (lines_from m a 0) (Ok tt)
-puts_none m a old x = subst (λ t. PutsText {T = Unit {0}} old old x x t (Ok tt)) (sym (none m a)) (puts_nothing old x)
+puts_none m a old x = subst (λ t. PutsText {T = Unit {0}} old old x x t (Ok tt)) (sym (lines_of_no_word m a)) (puts_nothing old x)

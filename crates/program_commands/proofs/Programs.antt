@@ -34,8 +34,8 @@ use Rattle.program_commands.specs.Ready.{BeginsProgram}
 use Rattle.program_commands.specs.Commands.{beside, with_program, list_program, ran, run_program, debugged, debug_program}
 
 -- no page stands beside an image
-pub alone : (memory other : Memory) → other ≡ [] → DoNotMeet memory other
-alone memory other e = subst (DoNotMeet memory) (sym e) (λ k d h. refl)
+pub nothing_does_not_meet : (memory other : Memory) → other ≡ [] → DoNotMeet memory other
+nothing_does_not_meet memory other e = subst (DoNotMeet memory) (sym e) (λ k d h. refl)
 
 pub few_alone : (memory other : Memory) → other ≡ [] → length memory ≤ 16384 → length memory + length other ≤ 16384
 few_alone memory other e h = omega (arith, ap length e)
@@ -108,8 +108,8 @@ unfolding run_program
 run_not_begun vl stops task bytes map refusal (Ok value) is h = tt
 run_not_begun vl stops task bytes map refusal (Err r) is h = subst (RefusesProgram (with_program bytes map (ran vl stops task))) (sym is) (h (ran vl stops task))
 
-begun : (vl : ℕ) (stops : StopList) (task : Task) (image : Image) (pages : Memory) (s : State) (taken : ℕ) (o : Outcome) → s ≡ free_start image task.args pages vl stops → taken ≡ 0 → run task.steps taken s ≡ o → run task.steps 0 (free_start image task.args pages vl stops) ≡ o
-begun vl stops task image pages s taken o state none is =
+run_from_start : (vl : ℕ) (stops : StopList) (task : Task) (image : Image) (pages : Memory) (s : State) (taken : ℕ) (o : Outcome) → s ≡ free_start image task.args pages vl stops → taken ≡ 0 → run task.steps taken s ≡ o → run task.steps 0 (free_start image task.args pages vl stops) ≡ o
+run_from_start vl stops task image pages s taken o state none is =
     ap (λ t. run task.steps 0 t) (sym state) ∙ ap (λ n. run task.steps n s) (sym none) ∙ is
 
 -- what a machine that ran from the start comes to
@@ -119,7 +119,7 @@ run_reported vl stops task bytes map image pages s taken o memory pc steps how t
     let whole : text ≡ outcome_text (outcome_of o memory pc steps) ++ dump_of task.dump (memory_left (outcome_of o memory pc steps)) = shown ∙ ap (λ t. t ++ dump_of task.dump memory) (sym (same_text o memory pc steps)) ∙ ap (λ m. outcome_text (outcome_of o memory pc steps) ++ dump_of task.dump m) (sym (same_memory o memory pc steps)) in
     let way : how ≡ done_by (outcome_of o memory pc steps) = done ∙ sym (same_done o memory pc steps) in
     with_beside bytes map (ran vl stops task) image (Ok pages) e mapping
-    ∙ ap (success_of task.dump) (begun vl stops task image pages s taken (outcome_of o memory pc steps) state none is)
+    ∙ ap (success_of task.dump) (run_from_start vl stops task image pages s taken (outcome_of o memory pc steps) state none is)
     ∙ ap (λ h. Ok (record { how = h; text = outcome_text (outcome_of o memory pc steps) ++ dump_of task.dump (memory_left (outcome_of o memory pc steps)) })) (sym way)
     ∙ ap (λ t. Ok (record { how = how; text = t })) (sym whole)
 

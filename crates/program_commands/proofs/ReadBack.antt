@@ -25,7 +25,7 @@ use Rattle.command_answers.specs.Works.{ended, loaded}
 use Rattle.program_commands.specs.Commands.{list_program, expected_of_list, assembled_by, assemble_text, expected_of_asm, AssemblesTo, IsAssembled}
 use Rattle.program_commands.specs.Listing.{words_from, lines_from, word_count, listing_of}
 use Rattle.program_commands.specs.ReadBack.{IsProgram, IsListed}
-use Rattle.program_commands.proofs.Programs.{alone}
+use Rattle.program_commands.proofs.Programs.{nothing_does_not_meet}
 
 -- ---- the words of an image
 
@@ -60,7 +60,7 @@ words_there memory address (word ∷ words) at =
 word_there : (words : List ℕ) → IsProgram words → (k w : ℕ) → slice_get words k ≡ Some w → number_at (image_of_words words).pages (code_base + 4 * k) 4 ≡ w
 word_there words is k w at =
     let own = (image_of_words words).pages in
-    let fetch = fetch_beside words [] k w is.few is.small (alone own [] refl) at in
+    let fetch = fetch_beside words [] k w is.few is.small (nothing_does_not_meet own [] refl) at in
     fetched_number own (code_base + 4 * k) w (subst (λ m. fetched m (code_base + 4 * k) ≡ Some w) (merged-nil_right own) fetch)
 
 -- ---- the listing of an image
@@ -74,8 +74,8 @@ code_from_is : (words : List ℕ) → 0 < length words → (image_of_words words
 code_from_is words some =
     cond-false _ _ _ (ap (λ end. nat_eq end 0) (code_end_is words some) ∙ ne_eqb (0x400000 + (120 + 4 * length words)) 0 (λ z. omega (arith, z)))
 
-count_is : (words : List ℕ) → 0 < length words → word_count (image_of_words words) ≡ length words
-count_is words some =
+word_count_of_image : (words : List ℕ) → 0 < length words → word_count (image_of_words words) ≡ length words
+word_count_of_image words some =
     let whole_words : (0x400000 + (120 + 4 * length words) - code_base) / 4 ≡ length words = omega arith in
     ap (λ end. (end - (image_of_words words).code_from) / 4) (code_end_is words some)
     ∙ ap (λ from. (0x400000 + (120 + 4 * length words) - from) / 4) (code_from_is words some)
@@ -89,7 +89,7 @@ image_listed (word ∷ words) is =
     let all = word ∷ words in
     let pages = (image_of_words all).pages in
     ap (λ from. list_text from (words_from pages from (word_count (image_of_words all)))) (code_from_is all (omega arith))
-    ∙ ap (λ count. list_text code_base (words_from pages code_base count)) (count_is all (omega arith))
+    ∙ ap (λ count. list_text code_base (words_from pages code_base count)) (word_count_of_image all (omega arith))
     ∙ ap (list_text code_base) (words_there pages code_base all (word_there all is))
 
 -- ---- what the commands come to

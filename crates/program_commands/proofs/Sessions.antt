@@ -3,6 +3,7 @@ use Rattle.std.proofs.Common.{◌≡◌, ◌≢◌, ◌⊎◌, ℕ, List, Option
 use Rattle.std.specs.Prelude.{IfSome, IfOk, IsErrAnd}
 use Rattle.guest_types.specs.Memory.{Memory as Pages}
 use Rattle.machine_model.specs.Load.{Image, load}
+use Rattle.machine_model.specs.Machine.{State}
 use Rattle.machine_model.specs.Run.{start}
 use Rattle.map_text.specs.Mapping.{map_of as pages_of_map}
 use Rattle.sve_debug.specs.Replies.{started}
@@ -10,7 +11,7 @@ use Rattle.io_edges.specs.Files.{Rose}
 use Rattle.command_line.specs.Line.{Task}
 use Rattle.sve_debug.specs.declared.session.SessionFault.{SessionFault}
 use Rattle.sve_debug.specs.declared.session.SessionFault.TheVariants as sessions
-use Rattle.sve_debug.specs.Sessions.{Tells, AsItCame}
+use Rattle.sve_debug.specs.Sessions.{Tells, AsItCame, IsWithin}
 use Rattle.refusals.specs.declared.refusal.Refusal.{Refusal}
 use Rattle.refusals.specs.declared.refusal.Refusal.TheVariants.{Elf, Map, Memory, File, Output}
 use Rattle.refusals.specs.declared.refusal.Done.TheVariants as done
@@ -20,7 +21,7 @@ use Rattle.command_answers.specs.Reads.{and_then, task_files, IsOfRead}
 use Rattle.program_commands.specs.Commands.{expected_of_debug, IsOfDebug, IsOfRun}
 use Rattle.command_answers.specs.Works.{RefusesProgram}
 use Rattle.command_answers.specs.Outputs.{Prints}
-use Rattle.program_commands.specs.Ready.{AnswersAsItCame, DebugsAsItCame}
+use Rattle.program_commands.specs.Ready.{AnswersAsItCame, DebugsAsItCame, DebugsInTime}
 use Rattle.command_answers.proofs.Reading.{read_is, of_what_follows, is_err, not_read}
 use Rattle.command_answers.proofs.Prints.{prints_nothing}
 use Rattle.command_answers.proofs.Exits.{is_done_by}
@@ -95,10 +96,6 @@ program_not_file wanted refusal result is h e = no_failed_file wanted refusal h 
 pub program_not_output : (wanted : Expected) (refusal : Refusal) (result : Answer) → IsErrAnd result (λ r. r ≡ refusal) → RefusesProgram wanted refusal → result ≢ Err Output
 program_not_output wanted refusal result is h e = no_failed_output wanted refusal h (sym (is_err refusal result is) ∙ e)
 
-pub steady_anyway : (held : Option HeldFiles) (Q : HeldFiles → Type 0) (result : Answer) → result ≢ Err File → IfSome held (λ h. Q h → result ≢ Err File)
-steady_anyway None Q result h = tt
-steady_anyway (Some held) Q result h = λ q. h
-
 -- ---- sessions
 
 -- a session that failed: memory was short, or the count of the output or the input rose
@@ -154,6 +151,18 @@ came_session x y a b (Some bytes) rest (Some h) vl task read found old new image
     by sessions.Memory e output input = absurd cc
     by sessions.Input e output input = input refl
     by sessions.Output e output input = absurd (none (output refl))
+
+-- what a session may ask for, `debug` may
+pub asks_session : (x y : ℕ) (input left : Option (List ℕ)) (held : Option HeldFiles) (vl : ℕ) (task : Task) (read : List ℕ × List ℕ) (found : Result (List ℕ × List ℕ) Refusal) (old new : Option (List ℕ)) (image : Image) (pages : Pages) (begin : State) → found ≡ Ok read → IfSome held (λ h. IsFileAnswer x y (task_files h task) found)
+    → load read.0 ≡ Ok image → pages_of_map read.1 image.pages ≡ Ok pages → begin ≡ start image task.args pages vl → IfSome input (λ bytes. IsWithin bytes left × AsItCame (started begin) bytes left old new) → DebugsInTime held vl task input left old new
+asks_session x y None left held vl task read found old new image pages begin is answer loads maps at came = tt
+asks_session x y (Some bytes) left None vl task read found old new image pages begin is answer loads maps at came = tt
+asks_session x y (Some bytes) left (Some h) vl task read found old new image pages begin is answer loads maps at came = (
+  read,
+  sym (read_is x y (task_files h task) read (subst (IsFileAnswer x y (task_files h task)) is answer)),
+  came.0,
+  record { image = image; pages = pages; loads = loads; maps = maps; came = subst (λ (s : State). AsItCame (started s) bytes left old new) at came.1 },
+)
 
 -- a refusal of a read is no failure of an output
 pub read_not_output : {T : Type 0} (found : Result T Refusal) (refusal : Refusal) (result : Answer) → found ≡ Err refusal → IsErrAnd result (λ r. r ≡ refusal) → IsOfRead found → result ≢ Err Output

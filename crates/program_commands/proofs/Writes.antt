@@ -27,10 +27,6 @@ file_not_read x y held wanted found next refusal result was is answer =
 pub not_done : (P : Type 0) (refusal : Refusal) (result : Answer) → IsErrAnd result (λ r. r ≡ refusal) → OnOk result P
 not_done P refusal result is = subst (λ r. OnOk r P) (sym (is_err refusal result is)) tt
 
-pub in_any : (held : Option HeldFiles) (P : HeldFiles → Type 0) → ((h : HeldFiles) → P h) → IfSome held P
-in_any None P all = tt
-in_any (Some h) P all = all h
-
 same_files : (a b : HeldFiles) → ◌≡◌ {A = Option HeldFiles} (Some a) (Some b) → a ≡ b
 same_files a b e = cc
 

@@ -1,5 +1,5 @@
 -- Machines and debuggers that are about to begin.
-use Rattle.std.specs.Prelude.{◌≡◌, ℕ, List, Option, None, IfOk, Ok}
+use Rattle.std.specs.Prelude.{◌≡◌, ℕ, List, Option, None, IfSome, IfOk, Ok}
 use Rattle.guest_types.specs.Memory.{Memory}
 use Rattle.guest_types.specs.EarlyLoads.{StopList}
 use Rattle.machine_model.specs.Debugged.{View, is_never}
@@ -10,7 +10,7 @@ use Rattle.map_text.specs.Mapping.{map_of as pages_of}
 use Rattle.command_line.specs.Line.{Task}
 use Rattle.sve_debug.specs.DebuggerState.{DebuggerState, Stands}
 use Rattle.sve_debug.specs.Replies.{started}
-use Rattle.sve_debug.specs.Sessions.{session_text, AsItCame}
+use Rattle.sve_debug.specs.Sessions.{session_text, AsItCame, IsWithin}
 use Rattle.program_commands.specs.Commands.{debug_program}
 use Rattle.command_answers.specs.Answer.{HeldFiles}
 use Rattle.command_answers.specs.Reads.{task_files}
@@ -50,3 +50,9 @@ pub record AnswersAsItCame (vl : ℕ) (task : Task) (bytes map input : List ℕ)
 -- the same of the files of a task
 abbrev pub DebugsAsItCame : HeldFiles → ℕ → Task → (input : List ℕ) → (left old new : Option (List ℕ)) → Type 0
 DebugsAsItCame held vl task input left old new = IfOk (task_files held task) (λ files. AnswersAsItCame vl task files.0 files.1 input left old new)
+
+-- The input of a session may be asked for its next bytes: the files of the task were read, the program was loaded, fewer bytes than
+-- the most were taken, and each line that they ended is answered. Of files or an input that tell nothing, it may always be asked.
+abbrev pub DebugsInTime : Option HeldFiles → ℕ → Task → (input left old new : Option (List ℕ)) → Type 0
+DebugsInTime held vl task input left old new =
+    IfSome input (λ bytes. IfSome held (λ h. (files : List ℕ × List ℕ) × (task_files h task ≡ Ok files) × IsWithin bytes left × AnswersAsItCame vl task files.0 files.1 bytes left old new))

@@ -1,6 +1,7 @@
 //! The command `asm IN OUT`.
 
-ghost use Rattle.std.specs.Prelude.{◌≡◌, ◌≢◌, Some, Err, IfSome, IsSome, IfOk, IfErr, OnOk, IsTrue, []};
+ghost use Rattle.command_answers.specs.Requests.{Asks, IsOk, Read, Write};
+ghost use Rattle.std.specs.Prelude.{◌∷◌, ◌≡◌, ◌≢◌, Some, Err, IfSome, IsSome, IfOk, IfErr, OnOk, IsTrue, []};
 ghost use Rattle.io_edges.specs.Files.{Rose, content};
 ghost use Rattle.command_answers.specs.Answer.{answer_of, IsFileAnswer, IsKept, Unwritten};
 ghost use Rattle.program_commands.specs.Commands.{assemble_text, expected_of_asm, AssemblesTo, RefusesAsm, IsOfAsm, IsAssembled};
@@ -41,6 +42,7 @@ pub fn asm<F: Files>(alloc: Global, from: &str, to: &str, files: &mut F) -> Resu
     ensures unwritten { IfSome (F.held files.old)
         (λ held. Unwritten (expected_of_asm held from.now) (F.held files.old) (F.held files.new)) }
     ensures of_asm { IsOfAsm result }
+    ensures asked { Asks IsOk (F.requests files.old) (F.requests files.new) (Read from.now ∷ Write to.now ∷ []) result }
 {
     let text = read_file(alloc, from, files)?;
     let file = assembled(alloc, &text)?;

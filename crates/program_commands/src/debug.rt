@@ -1,5 +1,6 @@
 //! The command `debug`.
 
+ghost use Rattle.command_answers.specs.Requests.{Asks, IsNotOfFiles, task_wants};
 ghost use Rattle.std.specs.Prelude.{◌≡◌, ◌≢◌, ◌⊎◌, Err, IfSome, IfOk, IfErr, IsTrue, List, ℕ};
 ghost use Rattle.io_edges.specs.Files.{Rose};
 ghost use Rattle.command_line.specs.View.{task_view};
@@ -8,7 +9,7 @@ ghost use Rattle.program_commands.specs.Commands.{expected_of_debug, debug_progr
 ghost use Rattle.command_answers.specs.Reads.{IsTaskHeld};
 ghost use Rattle.command_answers.specs.Works.{RefusesProgram};
 ghost use Rattle.command_answers.specs.Outputs.{Prints};
-ghost use Rattle.program_commands.specs.Ready.{BeginsSession, DebugsAsItCame};
+ghost use Rattle.program_commands.specs.Ready.{BeginsSession, DebugsAsItCame, DebugsInTime};
 
 use crate::program::load_machine;
 use command_answers::files::read_task;
@@ -50,6 +51,8 @@ pub fn debug<F: Files, I: Source, S: Sink>(
     input: &mut I,
     out: &mut S,
 ) -> Result<Done, Refusal>
+    requires { (i : I) (s : S) → DebugsInTime (F.held files.old) vl (task_view task.now)
+        (I.left input.old) (I.left i) (S.taken out.old) (S.taken s) → I.may_take i }
     ensures answer { IfSome (I.left input.old) (λ bytes. IfSome (F.held files.old)
         (λ held. IsAnswer (F.faults files.old) (F.faults files.new)
         (Rose (S.faults out.old) (S.faults out.new) ⊎ Rose (I.faults input.old) (I.faults input.new))
@@ -70,6 +73,7 @@ pub fn debug<F: Files, I: Source, S: Sink>(
         → IfSome (F.held files.old) (λ held. IsTaskHeld held (task_view task.now)
         → result ≢ Err Refusal.File) }
     ensures of_debug { IsOfDebug result }
+    ensures asked { Asks IsNotOfFiles (F.requests files.old) (F.requests files.new) (task_wants (task_view task.now)) result }
 {
     let read = read_task(alloc, task, files)?;
     let mut debugger = debugger_of(alloc, vl, task, &read.file, &read.map)?;

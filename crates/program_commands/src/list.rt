@@ -1,6 +1,7 @@
 //! The command `list FILE`.
 
-ghost use Rattle.std.specs.Prelude.{◌≡◌, ◌≢◌, ◌+◌, ◌*◌, ◌^◌, ◌<◌, Err, IfSome, IsSome, IfOk, IfErr, IsTrue};
+ghost use Rattle.command_answers.specs.Requests.{Asks, IsNotOfFiles, Read};
+ghost use Rattle.std.specs.Prelude.{[], ◌∷◌, ◌≡◌, ◌≢◌, ◌+◌, ◌*◌, ◌^◌, ◌<◌, Err, IfSome, IsSome, IfOk, IfErr, IsTrue};
 ghost use Rattle.io_edges.specs.Files.{Rose, content};
 ghost use Rattle.program_commands.specs.Listing.{lines_from};
 ghost use Rattle.command_answers.specs.Answer.{answer_of, expected_text, IsAnswer, IsQuiet};
@@ -27,7 +28,7 @@ struct Words {
 }
 
 // The words of the program in a file.
-#[tactic(auto, using(crate::proofs::Programs::alone, crate::proofs::Programs::few_alone, crate::proofs::Programs::none_in_order))]
+#[tactic(auto, using(crate::proofs::Programs::nothing_does_not_meet, crate::proofs::Programs::few_alone, crate::proofs::Programs::none_in_order))]
 fn words_of(alloc: Global, bytes: &[u8]) -> Result<Words, Refusal>
     ensures work { IfOk result (λ words. list_program bytes.now
         ≡ ended (lines_from words.pages.memory words.from words.count)) }
@@ -66,6 +67,7 @@ pub fn list<F: Files, S: Sink>(
     ensures steady { IsTrue (F.steady files.old)
         → IfSome (F.held files.old) (λ held. IsSome (content held from.now) → result ≢ Err Refusal.File) }
     ensures of_list { IsOfList result }
+    ensures asked { Asks IsNotOfFiles (F.requests files.old) (F.requests files.new) (Read from.now ∷ []) result }
 {
     let bytes = read_file(alloc, from, files)?;
     let words = words_of(alloc, &bytes)?;

@@ -2,6 +2,7 @@
 
 ghost use Rattle.std.specs.Prelude.{◌≡◌, ◌≤◌, ◌+◌, List, ℕ, None, IfOk, IfErr, length};
 ghost use Rattle.guest_types.specs.Memory.{DoNotMeet, Memory};
+ghost use Rattle.guest_types.specs.declared.memory.TheConstants.{MOST_PAGES};
 ghost use Rattle.machine_model.specs.Load.{Image as LoadedImage};
 ghost use Rattle.machine_model.specs.Debugged.{is_never};
 ghost use Rattle.machine_model.specs.Run.{free_start};
@@ -34,7 +35,7 @@ fn machine_of(
     task: &Task,
 ) -> Result<Machine, AllocError>
     requires apart { DoNotMeet image.now.pages.items map.now.pages.items }
-    requires few { length image.now.pages.items + length map.now.pages.items ≤ 16384 }
+    requires few { length image.now.pages.items + length map.now.pages.items ≤ MOST_PAGES }
     ensures state { IfOk result (λ machine. machine.state
         ≡ free_start (plain image.now) task.now.args.items map.now.pages.items vl stops) }
     ensures steps { IfOk result (λ machine. machine.steps ≡ 0) }

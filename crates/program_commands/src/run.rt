@@ -1,5 +1,6 @@
 //! The command `run`.
 
+ghost use Rattle.command_answers.specs.Requests.{Asks, IsNotOfFiles, task_wants};
 ghost use Rattle.std.specs.Prelude.{◌≡◌, ◌≢◌, Err, IfSome, IfOk, IfErr, IsTrue};
 ghost use Rattle.io_edges.specs.Files.{Rose};
 ghost use Rattle.command_line.specs.View.{task_view};
@@ -83,6 +84,7 @@ pub fn run<F: Files, S: Sink>(
         → IfSome (F.held files.old) (λ held. IsTaskHeld held (task_view task.now)
         → result ≢ Err Refusal.File) }
     ensures of_run { IsOfRun result }
+    ensures asked { Asks IsNotOfFiles (F.requests files.old) (F.requests files.new) (task_wants (task_view task.now)) result }
 {
     let read = read_task(alloc, task, files)?;
     let run_report = run_program(alloc, vl, suppress, task, &read.file, &read.map)?;

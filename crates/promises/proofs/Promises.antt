@@ -39,7 +39,7 @@ free k file f = record {
   runs = λ args pages vl stops steps begins empty le.
       let none = none_suppressed steps (free_start f.image args pages vl stops) empty in
       let m = begun (scalar_run k args (merged f.image.pages pages)) in
-      let b = ap (free_bound k args vl m) none ∙ bounds.none k args vl m in
+      let b = ap (free_bound k args vl m) none ∙ bounds.free_bound_of_none k args vl m in
       f.runs args pages vl stops steps begins tt (omega (arith, b, le));
 }
 

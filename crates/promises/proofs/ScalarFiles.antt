@@ -24,11 +24,11 @@ one_at_once k args vl why e = ap (λ c. if is_vector c && is_apart k args then l
 one_each : (m : ℕ) → div_ceil m 1 ≡ m
 one_each m = omega arith
 
-no_more : (n : ℕ) → n + 4 * 0 ≡ n
-no_more n = omega arith
+plus_four_times_none : (n : ℕ) → n + 4 * 0 ≡ n
+plus_four_times_none n = omega arith
 
 same_bound : (k : Program) (args : List ℕ) (vl m : ℕ) (why : Why) → class_of k ≡ Scalar why → free_bound k args vl m 0 ≡ slow_bound k m
-same_bound k args vl m why e = ap (λ n. steps_for k (div_ceil m n + 2 + 4 * 0)) (one_at_once k args vl why e) ∙ ap (λ n. steps_for k (n + 2 + 4 * 0)) (one_each m) ∙ ap (steps_for k) (no_more (m + 2))
+same_bound k args vl m why e = ap (λ n. steps_for k (div_ceil m n + 2 + 4 * 0)) (one_at_once k args vl why e) ∙ ap (λ n. steps_for k (n + 2 + 4 * 0)) (one_each m) ∙ ap (steps_for k) (plus_four_times_none (m + 2))
 
 pub scalar_free : (k : Program) (file : List ℕ) (why : Why) → class_of k ≡ Scalar why → FreeSlowFaithful k file → FreeFaithful k file
 scalar_free k file why e f = record {
@@ -38,14 +38,14 @@ scalar_free k file why e f = record {
       f.runs args pages vl stops steps begins any
       (let m = begun (scalar_run k args (merged f.image.pages pages)) in
       let b = same_bound k args vl m why e in
-      let n = bounds.none k args vl m in
+      let n = bounds.free_bound_of_none k args vl m in
       let h = bounds.free k args vl m (suppressed steps (free_start f.image args pages vl stops)) in
       omega (arith, b, n, h, le));
 }
 
 -- ---- the close bound
 
-close_is : (k : Program) (args : List ℕ) (vl m q : ℕ) (why : Why) → class_of k ≡ Scalar why → close_bound k args vl m q ≡ close_slow_steps k args vl m q
+pub close_is : (k : Program) (args : List ℕ) (vl m q : ℕ) (why : Why) → class_of k ≡ Scalar why → close_bound k args vl m q ≡ close_slow_steps k args vl m q
 close_is k args vl m q why e = ap (λ c. outside_steps k + loop_steps (is_vector c && is_apart k args) k (lanes vl (lane_width_of k)) m q) e
 
 pub scalar_close : (k : Program) (file : List ℕ) (why : Why) → class_of k ≡ Scalar why → CloseSlowFaithful k file → CloseFaithful k file

@@ -9,8 +9,8 @@ use Rattle.machine_model.specs.Run.{Outcome, End, Stop, IsAccess, free_start, fr
 use Rattle.kernel_tree.specs.declared.ops.Ty.{Ty}
 use Rattle.kernel_tree.specs.declared.ast.Shape.TheVariants.{Array}
 use Rattle.kernel_tree.specs.Plain.{Parameter, Program}
+use Rattle.kernel_tree.specs.Wrap.{byte_count}
 use Rattle.kernel_meaning.specs.Operators.{word}
-use Rattle.kernel_meaning.specs.Eval.{byte_count}
 use Rattle.kernel_meaning.specs.ScalarRun as scalar
 use Rattle.kernel_meaning.specs.ScalarRun.{begun, scalar_run}
 use Rattle.loop_form.specs.declared.stream.Stream.{Stream}

@@ -65,8 +65,8 @@ module _ (g : Ground) (ok : IsGround g) (c : Assignment) (fit : FitsKernel g.ker
   homes = settled k c fit ok.few
 
   -- where no vector register has the value, it is that from before the loop
-  still : (x : List ℕ) → sum_place k x ≡ None → value_at cur x ≡ value_at g.names x
-  still x e = b.still x (ap is_some e)
+  name_is_no_sum : (x : List ℕ) → sum_place k x ≡ None → value_at cur x ≡ value_at g.names x
+  name_is_no_sum x e = b.still x (ap is_some e)
 
   ranged_now : (ls : List Local) (ns cs : Names) → AreRanged ls ns → Steady k ns cs → AreTyped k ls → AreValues g.names ns → AreValues cur cs → AreRanged ls cs
   ranged_now [] [] [] r st t v w = tt
@@ -82,7 +82,7 @@ module _ (g : Ground) (ok : IsGround g) (c : Assignment) (fit : FitsKernel g.ker
       now = ap (value_at cur) (sym r.0 ∙ st.0) ∙ w.0
 
       by : (o : Option ℕ) → sum_place k l.name ≡ o → TypeRange (value_type l.binding) m.value
-      by None e = subst (TypeRange (value_type l.binding)) (sym v.0 ∙ ap (value_at g.names) r.0 ∙ sym (still l.name e) ∙ now) r.1
+      by None e = subst (TypeRange (value_type l.binding)) (sym v.0 ∙ ap (value_at g.names) r.0 ∙ sym (name_is_no_sum l.name e) ∙ now) r.1
       by (Some p) e =
           let so = b.sums l.name (ap is_some e) in
           subst (λ o. TypeRange o m.value) (sym (t.0 (sum_is k l.name p e).var))
@@ -109,7 +109,7 @@ module _ (g : Ground) (ok : IsGround g) (c : Assignment) (fit : FitsKernel g.ker
 
         by : (o : Option ℕ) → sum_place k x.name ≡ o → x_at t x.register ≡ word (value_at cur x.name)
         by None e =
-            f.others x.register low.0 (λ y p q. other y p e q) ∙ h.1 ∙ ap word (sym v.0 ∙ ap (value_at g.names) h.0 ∙ sym (still x.name e))
+            f.others x.register low.0 (λ y p q. other y p e q) ∙ h.1 ∙ ap word (sym v.0 ∙ ap (value_at g.names) h.0 ∙ sym (name_is_no_sum x.name e))
         by (Some p) e = ap (x_at t) (sym a.0) ∙ f.done x.name p e (slice_get_within (throughout k Z) p _ (name_at k x.name p e))
 
 -- ---- the law

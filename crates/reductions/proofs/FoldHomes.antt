@@ -6,7 +6,7 @@ use Rattle.std.specs.List.{find, list_any}
 use mathlib.Core.Bool.{or-true}
 use Rattle.kernel_tree.specs.Plain.{Parameter, Accumulator, Program}
 use Rattle.kernel_tree.specs.Typing.{Local, check_fault, var_scope}
-use Rattle.kernel_tree.proofs.Names.{bytes_same, bytes_swap, bytes_told}
+use Rattle.kernel_tree.proofs.Names.{bytes_eq-refl, bytes_swap, bytes_eq-told}
 use Rattle.kernel_meaning.specs.Operators.{word}
 use Rattle.kernel_meaning.specs.Eval.{Named, Names, is_named, value_of, value_at}
 use Rattle.kernel_meaning.specs.Ranges.{AreRanged}
@@ -108,7 +108,7 @@ registers_apart (h ∷ hs) x y s f g ne = by (bytes_eq h.name x) (bytes_eq h.nam
   where
     by : (a b : Bool) → bytes_eq h.name x ≡ a → bytes_eq h.name y ≡ b → a || is_found x hs ≡ true → b || is_found y hs ≡ true → (is_found x hs ≡ true → is_found y hs ≡ true → register_at hs x ≢ register_at hs y)
         → unwrap_or (option_map register_of (cond a (Some h) (find (is_home x) hs))) 31 ≢ unwrap_or (option_map register_of (cond b (Some h) (find (is_home y) hs))) 31
-    by true true p q f g more = absurd (ne (sym (bytes_told h.name x p) ∙ bytes_told h.name y q))
+    by true true p q f g more = absurd (ne (sym (bytes_eq-told h.name x p) ∙ bytes_eq-told h.name y q))
     by true false p q f g more = λ e. away_from h.register hs y s.0 g (sym e)
     by false true p q f g more = away_from h.register hs x s.0 f
     by false false p q f g more = more f g
@@ -150,8 +150,8 @@ home_later g all (x ∷ hs) u h = (
 homes_own : (hs : Homes) → Distinct (map home_name hs) → AreAtHome hs hs
 homes_own [] d = tt
 homes_own (h ∷ hs) d = (
-  ap (λ b. unwrap_or (option_map register_of (cond b (Some h) (find (is_home h.name) hs))) 31) (bytes_same h.name),
-  ap (λ b. b || is_found h.name hs) (bytes_same h.name),
+  ap (λ b. unwrap_or (option_map register_of (cond b (Some h) (find (is_home h.name) hs))) 31) (bytes_eq-refl h.name),
+  ap (λ b. b || is_found h.name hs) (bytes_eq-refl h.name),
   home_later h hs hs d.0 (homes_own hs d.1),
 )
 
@@ -166,7 +166,7 @@ value_later m all (n ∷ ns) u h = (ap (λ b. unwrap_or (option_map value_of (co
 
 pub values_own : (ns : Names) → Distinct (map named_name ns) → AreValues ns ns
 values_own [] d = tt
-values_own (n ∷ ns) d = (ap (λ b. unwrap_or (option_map value_of (cond b (Some n) (find (is_named n.name) ns))) (pos 0)) (bytes_same n.name), value_later n ns ns d.0 (values_own ns d.1))
+values_own (n ∷ ns) d = (ap (λ b. unwrap_or (option_map value_of (cond b (Some n) (find (is_named n.name) ns))) (pos 0)) (bytes_eq-refl n.name), value_later n ns ns d.0 (values_own ns d.1))
 
 -- the same names
 pub ranged_names : (ls : List Local) (ns : Names) → AreRanged ls ns → map local_name ls ≡ map named_name ns

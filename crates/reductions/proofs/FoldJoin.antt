@@ -36,13 +36,13 @@ use Rattle.scalar_words.proofs.LayoutStates.{wrote, wrote_same, wrote_other}
 use Rattle.scalar_words.proofs.WordsRuns.{extended_sets}
 use Rattle.scalar_words.proofs.Binary.{binary_sets}
 use Rattle.chunk_emit.proofs.DraftVectors.{do_goes}
-use Rattle.loop_form.specs.Lanes.{width_of}
+use Rattle.loop_form.specs.Lanes.{type_width}
 use Rattle.reductions.specs.EdgeCode.{join_code}
 
 -- a word whose low bits are those of a value is that value at the type
 low_wrap : (t : Ty) (n : ℕ) (v : ℤ) → n % 2 ^ bits_of t ≡ residue (bits_of t) v → IsOf t v → wrap t (pos n) ≡ v
 low_wrap t n v low h =
-    let same : residue (width_bits (width_of t)) (pos n) ≡ residue (width_bits (width_of t)) v = subst (λ k. residue k (pos n) ≡ residue k v) (own t) low in
+    let same : residue (width_bits (type_width t)) (pos n) ≡ residue (width_bits (type_width t)) v = subst (λ k. residue k (pos n) ≡ residue k v) (own t) low in
     wrap_by_held t (pos n) v same ∙ wrap-of t v h
 
 -- no values of items

@@ -11,7 +11,7 @@ use Rattle.loop_form.specs.Lanes.{var_type}
 use Rattle.kernel_tree.proofs.Faultless.{nil-left, nil-right, params_faultless, vars_faultless}
 use Rattle.kernel_tree.specs.Scopes.{locals_of, accs_of}
 use Rattle.kernel_tree.proofs.Scopes.{var_visible}
-use Rattle.kernel_tree.proofs.Names.{bytes_same, bytes_swap, Untaken, untaken_before}
+use Rattle.kernel_tree.proofs.Names.{bytes_eq-refl, bytes_swap, Untaken, untaken_before}
 use Rattle.kernel_tree.proofs.NoFault.{not_added}
 use Rattle.vector_order.specs.Order.{is_var}
 use Rattle.kernel_tree.specs.declared.fault.Binding.TheVariants as binding
@@ -147,4 +147,4 @@ own_later x all (v ∷ vs) u h = (ap (λ b. cond b (Some x.type) (var_type v.nam
 
 pub own_types : (vs : List Accumulator) → Distinct (map var_name vs) → AreOwn vs vs
 own_types [] d = tt
-own_types (v ∷ vs) d = (ap (λ b. cond b (Some v.type) (var_type v.name vs)) (bytes_same v.name), own_later v vs vs d.0 (own_types vs d.1))
+own_types (v ∷ vs) d = (ap (λ b. cond b (Some v.type) (var_type v.name vs)) (bytes_eq-refl v.name), own_later v vs vs d.0 (own_types vs d.1))

@@ -12,7 +12,7 @@ use Rattle.kernel_tree.specs.Wrap.{bits_of}
 use Rattle.kernel_tree.specs.Plain.{Parameter, Accumulator, Program}
 use Rattle.kernel_tree.specs.Items.{loop_index}
 use Rattle.kernel_tree.specs.Typing.{check_fault}
-use Rattle.kernel_tree.proofs.Names.{bytes_same, bytes_swap, bytes_told}
+use Rattle.kernel_tree.proofs.Names.{bytes_eq-refl, bytes_swap, bytes_eq-told}
 use Rattle.reg_assign.specs.declared.interval.RegClass.TheVariants.{Z}
 use Rattle.loop_form.specs.Entries.{Content, IsLiteral, IsUpdate, Entry, loop_entries}
 use Rattle.loop_form.specs.Lanes.{var_type, target_type, lane_width_of}
@@ -63,9 +63,9 @@ unfolding constants
 no_constants before [] = tt
 no_constants before (e ∷ es) = no_sums_append (new_constant before e.type e.content) (constants (before ++ e ∷ []) es) (no_literal before e.type e.content) (no_constants (before ++ e ∷ []) es)
 
-no_index : (es : List Entry) (o : Option (List ℕ)) → NoSums (index_held es o)
-no_index es None = tt
-no_index es (Some i) = by (list_any (names i) es)
+index_has_no_sums : (es : List Entry) (o : Option (List ℕ)) → NoSums (index_held es o)
+index_has_no_sums es None = tt
+index_has_no_sums es (Some i) = by (list_any (names i) es)
   where
     by : (b : Bool) → NoSums (cond b (Index ∷ []) [])
     by true = (refl, tt)
@@ -82,8 +82,8 @@ sums_of vs = map accumulating_of vs
 abbrev updated_vars : Program → List Accumulator
 updated_vars k = filter (is_updated (loop_entries k)) k.vars
 
-parts : (k : Program) → throughout k Z ≡ others k ++ sums_of (updated_vars k)
-parts k =
+throughout_parts : (k : Program) → throughout k Z ≡ others k ++ sums_of (updated_vars k)
+throughout_parts k =
     let xs = scalars (loop_entries k) k.params in
     let ys = constants [] (loop_entries k) in
     let zs = index_held (loop_entries k) (loop_index k) in
@@ -93,7 +93,7 @@ parts k =
 no_others : (k : Program) → NoSums (others k)
 no_others k =
     no_sums_append (scalars (loop_entries k) k.params) (constants [] (loop_entries k) ++ index_held (loop_entries k) (loop_index k)) (no_scalars (loop_entries k) k.params)
-    (no_sums_append (constants [] (loop_entries k)) (index_held (loop_entries k) (loop_index k)) (no_constants [] (loop_entries k)) (no_index (loop_entries k) (loop_index k)))
+    (no_sums_append (constants [] (loop_entries k)) (index_held (loop_entries k) (loop_index k)) (no_constants [] (loop_entries k)) (index_has_no_sums (loop_entries k) (loop_index k)))
 
 -- ---- places
 
@@ -126,10 +126,10 @@ record IsFollowing (xs ys : List Throughout) (x : List ℕ) (j : ℕ) : Type 0 w
 some_same : {t u : Throughout} → Some t ≡ Some u → t ≡ u
 some_same e = cc
 
-following : (xs ys : List Throughout) (x : List ℕ) (j : ℕ) → NoSums xs → slice_get (xs ++ ys) j ≡ Some (Accumulating x) → IsFollowing xs ys x j
-following [] ys x j h e = record { i = j; place = omega arith; is = e }
-following (t ∷ xs) ys x zero h e = let no = sym h.0 ∙ ap is_sum (some_same e) in absurd cc
-following (t ∷ xs) ys x (suc j) h e = let b = following xs ys x j h.1 e in let p = b.place in record { i = b.i; place = omega (arith, p); is = b.is }
+following_of_accumulating : (xs ys : List Throughout) (x : List ℕ) (j : ℕ) → NoSums xs → slice_get (xs ++ ys) j ≡ Some (Accumulating x) → IsFollowing xs ys x j
+following_of_accumulating [] ys x j h e = record { i = j; place = omega arith; is = e }
+following_of_accumulating (t ∷ xs) ys x zero h e = let no = sym h.0 ∙ ap is_sum (some_same e) in absurd cc
+following_of_accumulating (t ∷ xs) ys x (suc j) h e = let b = following_of_accumulating xs ys x j h.1 e in let p = b.place in record { i = b.i; place = omega (arith, p); is = b.is }
 
 name_same : {x y : List ℕ} → Some (Accumulating x) ≡ Some (Accumulating y) → x ≡ y
 name_same e = cc
@@ -142,22 +142,22 @@ unlike_at (v ∷ vs) x y (suc i) u e = unlike_at vs x y i u.1 e
 sums_first : (vs : List Accumulator) (y : List ℕ) (i : ℕ) → Distinct (map var_name vs) → slice_get (sums_of vs) i ≡ Some (Accumulating y) → place_in (Accumulating y) (sums_of vs) ≡ Some i
 sums_first [] y i d e = absurd cc
 sums_first (v ∷ vs) y zero d e =
-    ap (λ b. cond b (Some 0) (next_place (place_in (Accumulating y) (sums_of vs)))) (ap (λ z. bytes_eq z y) (name_same e) ∙ bytes_same y)
+    ap (λ b. cond b (Some 0) (next_place (place_in (Accumulating y) (sums_of vs)))) (ap (λ z. bytes_eq z y) (name_same e) ∙ bytes_eq-refl y)
 sums_first (v ∷ vs) y (suc i) d e =
     ap (λ b. cond b (Some 0) (next_place (place_in (Accumulating y) (sums_of vs)))) (bytes_swap y v.name (unlike_at vs v.name y i d.0 e)) ∙ ap next_place (sums_first vs y i d.1 e)
 
 -- the place of an accumulator is the one at which it stands
 pub first_place : (k : Program) (y : List ℕ) (j : ℕ) → check_fault k ≡ None → slice_get (throughout k Z) j ≡ Some (Accumulating y) → sum_place k y ≡ Some j
 first_place k y j c e =
-    let b = following (others k) (sums_of (updated_vars k)) y j (no_others k) (ap (λ ts. slice_get ts j) (sym (parts k)) ∙ e) in
-    ap (place_in (Accumulating y)) (parts k) ∙ place_following (others k) (sums_of (updated_vars k)) y (no_others k)
+    let b = following_of_accumulating (others k) (sums_of (updated_vars k)) y j (no_others k) (ap (λ ts. slice_get ts j) (sym (throughout_parts k)) ∙ e) in
+    ap (place_in (Accumulating y)) (throughout_parts k) ∙ place_following (others k) (sums_of (updated_vars k)) y (no_others k)
     ∙ ap (moved_by (length (others k))) (sums_first (updated_vars k) y b.i (distinct_kept (is_updated (loop_entries k)) k.vars (vars_distinct k c)) b.is) ∙ ap Some (sym b.place)
 
 same_is : (t : Throughout) (x : List ℕ) → is_same t (Accumulating x) ≡ true → t ≡ Accumulating x
 same_is (Scalar y) x e = absurd cc
 same_is (Constant t n) x e = absurd cc
 same_is Index x e = absurd cc
-same_is (Accumulating y) x e = ap Accumulating (bytes_told y x e)
+same_is (Accumulating y) x e = ap Accumulating (bytes_eq-told y x e)
 
 -- at an accumulator's place it stands
 pub name_at : (k : Program) (x : List ℕ) (m : ℕ) → sum_place k x ≡ Some m → slice_get (throughout k Z) m ≡ Some (Accumulating x)
@@ -191,7 +191,7 @@ in_sums es (v ∷ vs) x i e = by (is_updated es v) refl e (λ j q. later (in_sum
 
     named : (b : Bool) → bytes_eq v.name x ≡ b → is_updated es v ≡ true → cond b (Some 0) (next_place (place_in (Accumulating x) (sums_of (filter (is_updated es) vs)))) ≡ Some i
         → ((j : ℕ) → place_in (Accumulating x) (sums_of (filter (is_updated es) vs)) ≡ Some j → IsIn es (v ∷ vs) x) → IsIn es (v ∷ vs) x
-    named true f g e more = record { var = ap (λ b. b || list_any (is_var x) vs) f; updated = ap (λ y. list_any (updates y) es) (sym (bytes_told v.name x f)) ∙ g }
+    named true f g e more = record { var = ap (λ b. b || list_any (is_var x) vs) f; updated = ap (λ y. list_any (updates y) es) (sym (bytes_eq-told v.name x f)) ∙ g }
     named false f g e more = stepped (place_in (Accumulating x) (sums_of (filter (is_updated es) vs))) e more
 
     by : (b : Bool) → is_updated es v ≡ b → place_in (Accumulating x) (sums_of (cond b (v ∷ filter (is_updated es) vs) (filter (is_updated es) vs))) ≡ Some i
@@ -201,7 +201,7 @@ in_sums es (v ∷ vs) x i e = by (is_updated es v) refl e (λ j q. later (in_sum
 
 pub sum_is : (k : Program) (x : List ℕ) (m : ℕ) → sum_place k x ≡ Some m → IsSum k x
 sum_is k x m e =
-    let all = sym (place_following (others k) (sums_of (updated_vars k)) x (no_others k)) ∙ sym (ap (place_in (Accumulating x)) (parts k)) ∙ e in
+    let all = sym (place_following (others k) (sums_of (updated_vars k)) x (no_others k)) ∙ sym (ap (place_in (Accumulating x)) (throughout_parts k)) ∙ e in
     by (place_in (Accumulating x) (sums_of (updated_vars k))) refl all
   where
     by : (o : Option ℕ) → place_in (Accumulating x) (sums_of (updated_vars k)) ≡ o → moved_by (length (others k)) o ≡ Some m → IsSum k x
@@ -222,7 +222,7 @@ wide_in k w [] x t h e u = absurd cc
 wide_in k w (f ∷ es) x t h e u = by (updates x f) refl u (λ q. wide_in k w es x t h.1 e q)
   where
     at : (c : Content) → is_update x c ≡ true → ((u : Ty) → target_type k c ≡ Some u → bits_of u ≤ width_bits w) → bits_of t ≤ width_bits w
-    at (IsUpdate y op) q target = target t (ap (λ z. var_type z k.vars) (bytes_told y x q) ∙ e)
+    at (IsUpdate y op) q target = target t (ap (λ z. var_type z k.vars) (bytes_eq-told y x q) ∙ e)
     at _ q target = absurd cc
 
     by : (b : Bool) → updates x f ≡ b → b || list_any (updates x) es ≡ true → (list_any (updates x) es ≡ true → bits_of t ≤ width_bits w) → bits_of t ≤ width_bits w

@@ -67,25 +67,25 @@ module _ (g : Ground) (ok : IsGround g) (c : Assignment) (fit : FitsKernel g.ker
   homes : Settled k (kernel_homes (register_in c) k)
   homes = settled k c fit ok.few
 
-  found : (x : List ℕ) (m : ℕ) → sum_place k x ≡ Some m → is_found x (kernel_homes (register_in c) k) ≡ true
-  found x m e = accumulator_found (register_in c) k x (sum_is k x m e).var
+  sum_has_home : (x : List ℕ) (m : ℕ) → sum_place k x ≡ Some m → is_found x (kernel_homes (register_in c) k) ≡ true
+  sum_has_home x m e = accumulator_found (register_in c) k x (sum_is k x m e).var
 
   updated : (x : List ℕ) (m : ℕ) → sum_place k x ≡ Some m → (layout g).updated x ≡ true
   updated x m e = ap is_some e
 
   -- the vector register of an accumulator is not Z31
-  apart : (x : List ℕ) (m : ℕ) → sum_place k x ≡ Some m → slice_index g.vectors.registers m ≢ 31
-  apart x m e =
+  sum_register_is_not_31 : (x : List ℕ) (m : ℕ) → sum_place k x ≡ Some m → slice_index g.vectors.registers m ≢ 31
+  sum_register_is_not_31 x m e =
       let lt = (chosen_of k Z g.vectors ok.z_fits).below m _ (throughout-place k Z m (slice_get_within (throughout k Z) m (Accumulating x) (name_at k x m e))) in
       λ f. absurd (omega (arith, lt, f))
 
   -- the registers of two accumulators
   homes_apart : (x y : List ℕ) (m j : ℕ) → sum_place k x ≡ Some m → sum_place k y ≡ Some j → m ≢ j → home_of g c x ≢ home_of g c y
   homes_apart x y m j e f ne =
-      registers_apart (kernel_homes (register_in c) k) x y homes.spaced (found x m e) (found y j f) (λ q. ne (place_same (sym e ∙ ap (sum_place k) q ∙ f)))
+      registers_apart (kernel_homes (register_in c) k) x y homes.spaced (sum_has_home x m e) (sum_has_home y j f) (λ q. ne (place_same (sym e ∙ ap (sum_place k) q ∙ f)))
 
   home_low : (x : List ℕ) (m : ℕ) → sum_place k x ≡ Some m → home_of g c x ≤ 25
-  home_low x m e = (low_at (kernel_homes (register_in c) k) x homes.low (found x m e)).0
+  home_low x m e = (low_at (kernel_homes (register_in c) k) x homes.low (sum_has_home x m e)).0
 
   -- its code, at its place
   join_code_runs : (y : List ℕ) (j : ℕ) (t : State) (rest : List DraftEntry) → sum_place k y ≡ Some j → Folding g c cur sum s j t
@@ -115,7 +115,7 @@ module _ (g : Ground) (ok : IsGround g) (c : Assignment) (fit : FitsKernel g.ker
           vl = q.vl ∙ h.vl;
           memory = q.memory ∙ h.memory;
           all = λ el lt. ap (λ (ps : List (List ℕ)). active (width g) (slice_index_or ps 1 []) el) q.p ∙ h.all el lt;
-          lanes' = λ x m f. subst (λ r. LanesHold (update_of k x) (type_of_var k x) (width g) (most_lanes g) r (sum x)) (sym (q.z (slice_index g.vectors.registers m) (apart x m f))) (h.lanes' x m f);
+          lanes' = λ x m f. subst (λ r. LanesHold (update_of k x) (type_of_var k x) (width g) (most_lanes g) r (sum x)) (sym (q.z (slice_index g.vectors.registers m) (sum_register_is_not_31 x m f))) (h.lanes' x m f);
           done = λ x m f lt. ⊎_elim
               (λ eq. let name = place_names k x y j (f ∙ ap Some eq) e in subst (λ z. x_at q.end (home_of g c z) ≡ word (value_at cur z)) (sym name) q.value)
               (λ ne. q.others (home_of g c x) (home_low x m f) (homes_apart x y m j f p ne) ∙ h.done x m f (before lt ne))

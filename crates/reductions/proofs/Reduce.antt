@@ -1,5 +1,5 @@
 -- The reduction of an accumulator's lanes.
-use Rattle.std.proofs.Common.{◌≡◌, ℕ, zero, suc, ◌+◌, ◌-◌, ◌*◌, ◌/◌, ◌%◌, ◌^◌, ◌<◌, ◌≤◌, ℤ, pos, negsuc, Bool, true, false, cond, List, [], ◌∷◌, refl, sym, ap, ap₂, ◌∙◌, subst, arith, bit_and, bit_or, bit_xor, get_or-set_same}
+use Rattle.std.proofs.Common.{◌≡◌, ℕ, zero, suc, ◌+◌, ◌-◌, ◌/◌, ◌%◌, ◌^◌, ◌<◌, ◌≤◌, ℤ, pos, negsuc, Bool, true, false, cond, List, [], ◌∷◌, refl, sym, ap, ap₂, ◌∙◌, subst, arith, bit_and, bit_or, bit_xor, get_or-set_same}
 use Rattle.std.specs.Prelude.{if◌then◌else◌}
 use Rattle.std.specs.Int.{int_min, int_max}
 use Rattle.std.specs.Int.Bits.{or_zero_l, xor_zero_l}
@@ -25,6 +25,7 @@ use Rattle.machine_model.specs.Machine.{State, Went, z_at, with_z, p_at, next}
 use Rattle.machine_model.specs.VectorEffects.{reduced, do_vector}
 use Rattle.machine_model.proofs.StateSteps.{vector_made, one_put}
 use Rattle.sve_code.specs.Table as sve
+use Rattle.machine_model.proofs.StateLaws.{one_element-fits}
 use Rattle.lane_emit.specs.Right.{IsOf}
 use Rattle.lane_emit.specs.Stretch as stretch
 use Rattle.lane_emit.specs.Stretch.{do_all, and_then}
@@ -116,13 +117,13 @@ module _ (t : Ty) (w : Width) (wide : bits_of t ≤ width_bits w) where
   same_greatest true a b = refl
   same_greatest false a b = refl
 
-  one_more : (op : UpdateOp) (a b : ℕ) (x y : ℤ) → IsOf t x → IsOf t y → Holds op t w a x → Holds op t w b y → Holds op t w (joined (reduce_op op t) (modulus w) a b) (joins.joined op t x y)
-  one_more update.Add a b x y h k e f = low_sum t D a b (at_most_64 t) ∙ ap₂ (λ m n. (m + n) % 2 ^ bits_of t) e f ∙ low_joined t x y
-  one_more update.And a b x y h k e f = ap (bit_and a) f ∙ takes_in t w wide update.And a x y h k e
-  one_more update.Or a b x y h k e f = ap (bit_or a) f ∙ takes_in t w wide update.Or a x y h k e
-  one_more update.Xor a b x y h k e f = ap (bit_xor a) f ∙ takes_in t w wide update.Xor a x y h k e
-  one_more update.Min a b x y h k e f = ap (joined (reduce_op update.Min t) (modulus w) a) f ∙ same_least (is_signed t) a (held w y) ∙ takes_in t w wide update.Min a x y h k e
-  one_more update.Max a b x y h k e f = ap (joined (reduce_op update.Max t) (modulus w) a) f ∙ same_greatest (is_signed t) a (held w y) ∙ takes_in t w wide update.Max a x y h k e
+  joined_holds : (op : UpdateOp) (a b : ℕ) (x y : ℤ) → IsOf t x → IsOf t y → Holds op t w a x → Holds op t w b y → Holds op t w (joined (reduce_op op t) (modulus w) a b) (joins.joined op t x y)
+  joined_holds update.Add a b x y h k e f = low_sum t D a b (at_most_64 t) ∙ ap₂ (λ m n. (m + n) % 2 ^ bits_of t) e f ∙ low_joined t x y
+  joined_holds update.And a b x y h k e f = ap (bit_and a) f ∙ takes_in t w wide update.And a x y h k e
+  joined_holds update.Or a b x y h k e f = ap (bit_or a) f ∙ takes_in t w wide update.Or a x y h k e
+  joined_holds update.Xor a b x y h k e f = ap (bit_xor a) f ∙ takes_in t w wide update.Xor a x y h k e
+  joined_holds update.Min a b x y h k e f = ap (joined (reduce_op update.Min t) (modulus w) a) f ∙ same_least (is_signed t) a (held w y) ∙ takes_in t w wide update.Min a x y h k e
+  joined_holds update.Max a b x y h k e f = ap (joined (reduce_op update.Max t) (modulus w) a) f ∙ same_greatest (is_signed t) a (held w y) ∙ takes_in t w wide update.Max a x y h k e
 
   -- ---- all lanes
 
@@ -134,7 +135,7 @@ module _ (t : Ty) (w : Width) (wide : bits_of t ≤ width_bits w) where
       subst (Holds op t w (joined (reduce_op op t) (modulus w) (identity (reduce_op op t) (modulus w)) (f 0))) (sym ((laws.joins op t).keeps (taken 0) one.0)) (first_lane op (f 0) (taken 0) one.0 one.1)
   folds op (suc n) f taken h =
       let last = h (suc n) (omega arith) in
-      one_more op (folded (joined (reduce_op op t) (modulus w)) (identity (reduce_op op t) (modulus w)) f (suc n)) (f (suc n)) (together op t (suc n) taken) (taken (suc n)) (together_of op t (suc n) taken) last.0 (folds op n f taken (λ e lt. h e (omega (arith, lt)))) last.1
+      joined_holds op (folded (joined (reduce_op op t) (modulus w)) (identity (reduce_op op t) (modulus w)) f (suc n)) (f (suc n)) (together op t (suc n) taken) (taken (suc n)) (together_of op t (suc n) taken) last.0 (folds op n f taken (λ e lt. h e (omega (arith, lt)))) last.1
 
   -- the bits of the type
   low_bits : (op : UpdateOp) (a : ℕ) (x : ℤ) → Holds op t w a x → a % 2 ^ bits_of t ≡ residue (bits_of t) x
@@ -160,15 +161,11 @@ first_part H z h = at-part H 0 z h ∙ ap (λ n. n % 2 ^ 16) (div-one (at D z 0)
 first_part S z h = at-part S 0 z h ∙ ap (λ n. n % 2 ^ 32) (div-one (at D z 0))
 first_part D z h = at-part D 0 z h ∙ ap (λ n. n % 2 ^ 64) (div-one (at D z 0))
 
-one_fits : (vl : ℕ) (w : Width) → IsLength vl → width_bytes w * 1 ≤ vl / 8
-one_fits vl B h = omega arith
-one_fits vl other h = omega arith
-
 -- a result in the lowest element
 low_result : (t : Ty) (vl : ℕ) (w : Width) (r : ℕ) → IsLength vl → bits_of t ≤ width_bits w → at D (register (width_bytes w) (dup_at r) 1) 0 % 2 ^ bits_of t ≡ r % 2 ^ bits_of t
 low_result t vl w r h wide =
     let z = reduced w r in
-    let small = small_all z (vector_made vl (width_bytes w) (dup_at r) 1 h (one_fits vl w h)).small in
+    let small = small_all z (vector_made vl (width_bytes w) (dup_at r) 1 h (one_element-fits vl w h)).small in
     sym (through t w (at D z 0) wide) ∙ ap (λ n. n % 2 ^ bits_of t) (sym (first_part w z small) ∙ at-register w (dup_at r) 1 0 (omega arith)) ∙ through t w r wide
 
 reduce_does : (op : UpdateOp) (t : Ty) (w : Width) (s : State) (d z : ℕ) → do_vector (stretch.word (reduce_name op t) (d ∷ z ∷ 1 ∷ size_of w ∷ [])) s ≡ Went (next (with_z s d (reduced (result_width op w) (reduce_of (reduce_op op t) w (lanes s.vl w) (p_at s 1) (z_at s z)))))

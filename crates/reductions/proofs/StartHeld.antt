@@ -3,7 +3,6 @@ use Rattle.std.proofs.Common.{◌≡◌, ℕ, zero, suc, ◌+◌, ◌≤◌, Boo
 use Rattle.std.specs.Prelude.{option_map, option_and_then, filter, slice_get, bytes_eq, ◌||◌}
 use Rattle.std.specs.List.{find, list_any}
 use Rattle.std.proofs.lemmas.Bool.{and_parts}
-use mathlib.Core.Bool.{or-true}
 use Rattle.guest_types.specs.declared.length.Width.{Width}
 use Rattle.guest_types.specs.Length.{width_bits}
 use Rattle.guest_types.specs.Memory.{Memory}
@@ -16,7 +15,7 @@ use Rattle.kernel_tree.specs.Typing.{Scope, Local, local, has_name, binding_of, 
 use Rattle.kernel_tree.proofs.Faultless.{nil-left, nil-right, params_faultless, vars_faultless}
 use Rattle.kernel_tree.specs.Scopes.{locals_of, accs_of}
 use Rattle.kernel_tree.proofs.Scopes.{var_visible}
-use Rattle.kernel_tree.proofs.Names.{bytes_same, bytes_told, NoName, Untaken, untaken_before, NoneNamed, vars_named}
+use Rattle.kernel_tree.proofs.Names.{bytes_eq-refl, bytes_eq-told, NoName, Untaken, untaken_before, NoneNamed, vars_named}
 use Rattle.kernel_tree.proofs.NoFault.{not_added}
 use Rattle.reg_assign.specs.declared.interval.RegClass.TheVariants.{Z}
 use Rattle.kernel_meaning.specs.Eval.{Names, value_at}
@@ -32,11 +31,12 @@ use Rattle.loop_form.specs.Streams.{place_from, place_of}
 use Rattle.loop_form.proofs.ItemWidths.{AreWide, loop_wide}
 use Rattle.lane_emit.specs.Right.{IsOf}
 use Rattle.chunk_emit.specs.KernelLayout.{is_same, place_in}
-use Rattle.chunk_emit.proofs.FitsEntries.{same_number-told, same_type-told}
+use Rattle.chunk_emit.proofs.FitsEntries.{same_type-told, list_any_of_middle}
 use Rattle.chunk_emit.proofs.FitsAssigned.{stands}
 use Rattle.kernel_tree.specs.declared.ast.Shape.TheVariants as shape
 use Rattle.kernel_tree.specs.declared.fault.Binding.TheVariants as binding
 use Rattle.loop_form.specs.Needs as needs
+use Rattle.loop_form.proofs.Places.{same_number-told}
 
 -- ---- where it comes from
 
@@ -110,18 +110,14 @@ abbrev AreVars : Program → List Accumulator → Type 0
 AreVars k [] = Unit {0}
 AreVars k (v ∷ vs) = IsVar k v × AreVars k vs
 
-any_following : {A : Type 0} (p : A → Bool) (xs : List A) (y : A) (ys : List A) → p y ≡ true → list_any p (xs ++ y ∷ ys) ≡ true
-any_following p [] y ys e = ap (λ b. b || list_any p ys) e
-any_following p (x ∷ xs) y ys e = ap (λ b. p x || b) (any_following p xs y ys e) ∙ or-true (p x)
-
-one_more : {A : Type 0} (xs : List A) (y : A) (ys : List A) → (xs ++ y ∷ []) ++ ys ≡ xs ++ y ∷ ys
-one_more [] y ys = refl
-one_more (x ∷ xs) y ys = ap (λ r. x ∷ r) (one_more xs y ys)
+push_append : {A : Type 0} (xs : List A) (y : A) (ys : List A) → (xs ++ y ∷ []) ++ ys ≡ xs ++ y ∷ ys
+push_append [] y ys = refl
+push_append (x ∷ xs) y ys = ap (λ r. x ∷ r) (push_append xs y ys)
 
 are_vars : (k : Program) (before vs : List Accumulator) → before ++ vs ≡ k.vars → AreVars k vs
 are_vars k before [] e = tt
 are_vars k before (v ∷ vs) e =
-    (var_there k.vars v.name (ap (list_any (λ v2. bytes_eq v2.name v.name)) (sym e) ∙ any_following (λ v2. bytes_eq v2.name v.name) before v vs (bytes_same v.name)), are_vars k (before ++ v ∷ []) vs (one_more before v vs ∙ e))
+    (var_there k.vars v.name (ap (list_any (λ v2. bytes_eq v2.name v.name)) (sym e) ∙ list_any_of_middle (λ v2. bytes_eq v2.name v.name) before v vs (bytes_eq-refl v.name)), are_vars k (before ++ v ∷ []) vs (push_append before v vs ∙ e))
 
 sums_come : (k : Program) (vs : List Accumulator) → AreVars k vs → AllCome k (map accumulating_of (filter (is_updated (loop_entries k)) vs))
 sums_come k [] h = tt
@@ -143,12 +139,12 @@ comes k m t e = come_at k (throughout k Z) m t (all_come k) e
 -- ---- the places of values
 
 pub same_told : (t u : Throughout) → is_same t u ≡ true → t ≡ u
-same_told (needs.Scalar x) (needs.Scalar y) e = ap needs.Scalar (bytes_told x y e)
+same_told (needs.Scalar x) (needs.Scalar y) e = ap needs.Scalar (bytes_eq-told x y e)
 same_told (needs.Constant s m) (needs.Constant t n) e =
     let both = and_parts (same_type s t) (same_number m n) e in
     ap₂ needs.Constant (same_type-told s t both.0) (same_number-told m n both.1)
 same_told needs.Index needs.Index e = refl
-same_told (needs.Accumulating x) (needs.Accumulating y) e = ap needs.Accumulating (bytes_told x y e)
+same_told (needs.Accumulating x) (needs.Accumulating y) e = ap needs.Accumulating (bytes_eq-told x y e)
 same_told (needs.Scalar x) (needs.Constant t n) e = absurd cc
 same_told (needs.Scalar x) needs.Index e = absurd cc
 same_told (needs.Scalar x) (needs.Accumulating y) e = absurd cc
@@ -168,17 +164,17 @@ value_stands t ts m e = let s = stands t ts m e in s.is ∙ ap Some (same_told s
 
 -- ---- scalar parameters
 
-placed : (ps : List Parameter) (scope : Scope) (from n p : ℕ) (q : Parameter) → params_faults scope from ps ≡ [] → slice_get ps p ≡ Some q → (place_from q.name n ps ≡ Some (n + p)) × Untaken q.name scope.taken
-placed [] scope from n p q f e = absurd cc
-placed (x ∷ ps) scope from n zero q f e =
+place_of_param : (ps : List Parameter) (scope : Scope) (from n p : ℕ) (q : Parameter) → params_faults scope from ps ≡ [] → slice_get ps p ≡ Some q → (place_from q.name n ps ≡ Some (n + p)) × Untaken q.name scope.taken
+place_of_param [] scope from n p q f e = absurd cc
+place_of_param (x ∷ ps) scope from n zero q f e =
     let same : x ≡ q = cc in
     let number : n ≡ n + 0 = omega arith in
     let free : Untaken x.name scope.taken = not_added (is_taken scope x.name) _ (nil-left (twice from scope x.name) _ f) in (
-      ap (λ b. cond b (Some n) (place_from q.name (n + 1) ps)) (ap (λ (r : Parameter). bytes_eq r.name q.name) same ∙ bytes_same q.name) ∙ ap Some number,
+      ap (λ b. cond b (Some n) (place_from q.name (n + 1) ps)) (ap (λ (r : Parameter). bytes_eq r.name q.name) same ∙ bytes_eq-refl q.name) ∙ ap Some number,
       subst (λ (r : Parameter). Untaken r.name scope.taken) same free,
     )
-placed (x ∷ ps) scope from n (suc p) q f e =
-    let r = placed ps (declared scope x.name (binding_of_shape x.shape)) (from + 1) (n + 1) p q (nil-right (twice from scope x.name) _ f) e in
+place_of_param (x ∷ ps) scope from n (suc p) q f e =
+    let r = place_of_param ps (declared scope x.name (binding_of_shape x.shape)) (from + 1) (n + 1) p q (nil-right (twice from scope x.name) _ f) e in
     let free = untaken_before q.name x.name scope.taken r.1 in
     let number : n + 1 + p ≡ n + suc p = omega arith in
     (ap (λ b. cond b (Some n) (place_from q.name (n + 1) ps)) free.1 ∙ r.0 ∙ ap Some number, free.0)
@@ -186,7 +182,7 @@ placed (x ∷ ps) scope from n (suc p) q f e =
 -- of a checked kernel, the place of a parameter's name is its own
 pub param_place : (k : Program) (p : ℕ) (q : Parameter) → check_fault k ≡ None → slice_get k.params p ≡ Some q → place_of q.name k.params ≡ Some p
 param_place k p q sound e =
-    (placed k.params (empty (loop_index k)) 0 0 p q (params_faultless k sound) e).0
+    (place_of_param k.params (empty (loop_index k)) 0 0 p q (params_faultless k sound) e).0
     ∙ (let number : 0 + p ≡ p = omega arith in ap Some number)
 
 -- ---- accumulators
@@ -196,7 +192,7 @@ var_named ps [] x t h e = absurd cc
 var_named ps (v ∷ vs) x t h e = by (bytes_eq v.name x) refl e (var_named ps vs x t h.1)
   where
     by : (b : Bool) → bytes_eq v.name x ≡ b → cond b (Some v.type) (var_type x vs) ≡ Some t → (var_type x vs ≡ Some t → NoName x (locals_of ps)) → NoName x (locals_of ps)
-    by true g e more = subst (λ y. NoName y (locals_of ps)) (bytes_told v.name x g) h.0
+    by true g e more = subst (λ y. NoName y (locals_of ps)) (bytes_eq-told v.name x g) h.0
     by false g e more = more e
 
 past_params : (ls rest : List Local) (x : List ℕ) → NoName x ls → found_type (ls ++ rest) x ≡ found_type rest x
@@ -221,7 +217,7 @@ sum_typed k args m names x t sound e is =
 -- ---- widths
 
 update_wide : (k : Program) (w : Width) (x : List ℕ) (t : Ty) (c : Content) → ((u : Ty) → target_type k c ≡ Some u → bits_of u ≤ width_bits w) → is_update x c ≡ true → var_type x k.vars ≡ Some t → bits_of t ≤ width_bits w
-update_wide k w x t (IsUpdate y op) h e is = h t (ap (λ z. var_type z k.vars) (bytes_told y x e) ∙ is)
+update_wide k w x t (IsUpdate y op) h e is = h t (ap (λ z. var_type z k.vars) (bytes_eq-told y x e) ∙ is)
 update_wide k w x t other h e is = absurd cc
 
 updated_wide : (k : Program) (w : Width) (x : List ℕ) (t : Ty) (es : List Entry) → AreWide k w es → list_any (updates x) es ≡ true → var_type x k.vars ≡ Some t → bits_of t ≤ width_bits w

@@ -196,8 +196,8 @@ module _ (g : Ground) (m : Memory) (h : IsGround g) where
         now = sym (ap (joined op t (value_at g.names x)) (none_together op t (most_lanes g)) ∙ (joins op t).commutes (value_at g.names x) (identity op t) ∙ (joins op t).keeps (value_at g.names x) typed);
       }
 
-  at_head : (end : State) → Stays g m end → AreLaid (length all) end → AtHead g 0 g.names m (nothing_taken g) end
-  at_head end k laid = record {
+  lanes_at_head : (end : State) → Stays g m end → AreLaid (length all) end → AtHead g 0 g.names m (nothing_taken g) end
+  lanes_at_head end k laid = record {
     between = record { within = omega arith; steady = steady_same g.names; still = λ x e. refl; sums = sum_first };
     is = k.is;
     vl = k.vl;
@@ -227,5 +227,5 @@ start_runs g m d rest s h is vl memory index x =
     record {
       end = r.end;
       goes = chain (1 + laid_all (throughout g.kernel Z)) (omega arith) (put_goes refl) r.goes;
-      head = at_head g m h r.end r.stays (λ i u lt e. r.laid i u (omega (arith, lt)) e);
+      head = lanes_at_head g m h r.end r.stays (λ i u lt e. r.laid i u (omega (arith, lt)) e);
     }

@@ -13,6 +13,7 @@ use Rattle.kernel_tree.specs.Plain.{Program}
 use Rattle.kernel_meaning.specs.Operators as meaning
 use Rattle.kernel_meaning.specs.Operators.{operator_of, wrapped}
 use Rattle.label_fix.specs.DraftRun.{DraftEntry, Put, ins}
+use Rattle.label_fix.specs.Registers.{all_true, scratch, second_scratch, scratch_vector}
 use Rattle.reg_assign.specs.declared.interval.RegClass.TheVariants.{Z}
 use Rattle.reg_assign.specs.Registers.{Assignment}
 use Rattle.loop_form.specs.Lanes.{lane_width_of, var_type}
@@ -37,7 +38,7 @@ type_of_var k x = unwrap_or (var_type x k.vars) U64
 
 -- z = a number in all elements, by X26
 abbrev pub number_code : Width → (z v : ℕ) → List DraftEntry → List DraftEntry
-number_code w z v rest = const_code 26 v (puts (vectors (dup_code w z 26)) rest)
+number_code w z v rest = const_code scratch v (puts (vectors (dup_code w z scratch)) rest)
 
 -- a value that is held throughout, in vector register z; the loop variable is made in each chunk
 abbrev pub hold_code : Program → (z : ℕ) → Throughout → List DraftEntry → List DraftEntry
@@ -53,13 +54,13 @@ holds_code k a j (t ∷ ts) rest = hold_code k (slice_index a.registers j) t (ho
 
 -- PTRUE P1.B, and the values
 abbrev pub start_code : Program → Assignment → List DraftEntry → List DraftEntry
-start_code k a rest = Put (Vector (word ptrue (1 ∷ 0 ∷ []))) ∷ holds_code k a 0 (throughout k Z) rest
+start_code k a rest = Put (Vector (word ptrue (all_true ∷ 0 ∷ []))) ∷ holds_code k a 0 (throughout k Z) rest
 
 -- ---- after the loop
 
 -- X27 = the elements of z joined together, and x = x joined with it
 abbrev pub join_code : Width → UpdateOp → Ty → (z x : ℕ) → List DraftEntry → List DraftEntry
-join_code w op t z x rest = puts (vectors (reduce_code w op t 31 z)) (ins umov (27 ∷ 31 ∷ []) ∷ word_code (settle_word true t 27) (scalar.binary_code (operator_of op) t x x 27 rest))
+join_code w op t z x rest = puts (vectors (reduce_code w op t scratch_vector z)) (ins umov (second_scratch ∷ scratch_vector ∷ []) ∷ word_code (settle_word true t second_scratch) (scalar.binary_code (operator_of op) t x x second_scratch rest))
 
 abbrev pub fold_one : (ℕ → ℕ) → Program → (z : ℕ) → Throughout → List DraftEntry → List DraftEntry
 fold_one R k z (Accumulating x) rest = join_code (lane_width_of k) (update_of k x) (type_of_var k x) z (register_at (kernel_homes R k) x) rest

@@ -10,6 +10,7 @@ use Rattle.machine_model.specs.Machine.{State, x_at}
 use Rattle.machine_model.specs.States.{IsState}
 use Rattle.label_fix.specs.DraftRun.{DraftEntry, Laid}
 use Rattle.label_fix.specs.Stretches.{Goes}
+use Rattle.label_fix.specs.Registers.{iteration}
 use Rattle.reg_assign.specs.declared.interval.RegClass.TheVariants.{X, Z}
 use Rattle.reg_assign.specs.Registers.{Assignment}
 use Rattle.loop_form.specs.Needs.{throughout}
@@ -34,7 +35,7 @@ pub record Starts (g : Ground) (m : Memory) (d : Laid) (code : List DraftEntry) 
 -- The code before the loop, from a state with the names as the loop begins: the registers of the ground are those of the state.
 abbrev pub StartRuns : Type 0
 StartRuns =
-    (g : Ground) (m : Memory) (d : Laid) (rest : List DraftEntry) (s : State) → IsGround g → IsState s → s.vl ≡ g.vl → s.memory ≡ m → x_at s 9 ≡ 0 → ((r : ℕ) → r ≤ 25 → x_at s r ≡ slice_index g.x r)
+    (g : Ground) (m : Memory) (d : Laid) (rest : List DraftEntry) (s : State) → IsGround g → IsState s → s.vl ≡ g.vl → s.memory ≡ m → x_at s iteration ≡ 0 → ((r : ℕ) → r ≤ 25 → x_at s r ≡ slice_index g.x r)
     → Starts g m d (start_code g.kernel g.vectors rest) s rest (1 + laid_all (throughout g.kernel Z))
 
 -- At most so many words lead to a state before iteration i, from which scalar code goes on.

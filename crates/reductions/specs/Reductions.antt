@@ -9,6 +9,7 @@ use Rattle.kernel_tree.specs.declared.ops.UpdateOp.TheVariants as update
 use Rattle.kernel_tree.specs.Wrap.{residue, bits_of, is_signed}
 use Rattle.machine_model.specs.Machine.{State, Went, z_at}
 use Rattle.machine_model.specs.States.{IsState}
+use Rattle.label_fix.specs.Registers.{all_true}
 use Rattle.sve_code.specs.Table.{Name, uaddv, andv, orv, eorv, sminv, uminv, smaxv, umaxv}
 use Rattle.lane_emit.specs.Right.{IsOf}
 use Rattle.lane_emit.specs.Stretch.{VectorInstruction, word, do_all, OnlyZ, Ready}
@@ -26,7 +27,7 @@ reduce_name update.Max t = if is_signed t then smaxv else umaxv
 
 -- all lanes of z, joined together in the lowest element of d
 abbrev pub reduce_code : Width → UpdateOp → Ty → (d z : ℕ) → List VectorInstruction
-reduce_code w op t d z = word (reduce_name op t) (d ∷ z ∷ 1 ∷ size_of w ∷ []) ∷ []
+reduce_code w op t d z = word (reduce_name op t) (d ∷ z ∷ all_true ∷ size_of w ∷ []) ∷ []
 
 -- the lowest doubleword of register d holds, in the bits of the type, what so many lanes took in together
 pub record Reduced (c : List VectorInstruction) (s : State) (op : UpdateOp) (t : Ty) (n d : ℕ) (taken : ℕ → ℤ) : Type 0 where

@@ -19,6 +19,7 @@ use crate::words::reduce_word;
 use a64_code::{A64, Reg};
 use guest_types::length::Width;
 use kernel_tree::{Ty, UpdateOp};
+use label_fix::registers::{SCRATCH_VECTOR, SECOND_SCRATCH};
 use label_fix::{Draft, Word};
 use loop_form::laws::held_registers;
 use loop_form::{Held, LoopFacts};
@@ -26,7 +27,6 @@ use reg_assign::{Assigned, RegClass, VectorRegs};
 use scalar_words::{Home, emit_binary, emit_settle, kernel_homes, register_named, update_operator};
 use std::alloc::{AllocError, Global};
 use sve_code::VectorReg;
-use word_rows::Bits;
 
 // The elements of a vector register joined together, and a general register joined with them.
 fn emit_join(
@@ -39,8 +39,8 @@ fn emit_join(
 ) -> Result<(), AllocError>
     ensures { OnOk result (Emits draft.old draft.new draft.old.labels (code.join_code width op ty z.number x.number)) }
 {
-    let reduced = Bits { number: 31 };
-    let value = Bits { number: 27 };
+    let reduced = SCRATCH_VECTOR;
+    let value = SECOND_SCRATCH;
     draft.put(Word::V(reduce_word(width, op, ty, reduced, z)))?;
     draft.put(Word::A(A64::Umov {
         rd: value,

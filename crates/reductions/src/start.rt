@@ -26,7 +26,9 @@ use guest_types::length::Width;
 use kernel_meaning::{greatest, least, word, wrapped};
 use kernel_tree::laws::few_params;
 use kernel_tree::{Param, Ty, UpdateOp};
+use label_fix::registers::{ALL_TRUE, SCRATCH};
 use label_fix::{Draft, Word};
+use lane_emit::wide;
 use loop_form::laws::held_registers;
 use loop_form::{Held, LoopFacts, param_place};
 use reg_assign::{Assigned, RegClass, VectorRegs};
@@ -73,9 +75,8 @@ fn broadcast(width: Width, z: VectorReg, x: Reg) -> Word
 fn emit_number(draft: &mut Draft, width: Width, z: VectorReg, value: u64) -> Result<(), AllocError>
     ensures { OnOk result (Emits draft.old draft.new draft.old.labels (code.number_code width z.number value)) }
 {
-    let scratch = Bits { number: 26 };
-    emit_const(draft, scratch, value)?;
-    draft.put(broadcast(width, z, scratch))
+    emit_const(draft, SCRATCH, value)?;
+    draft.put(broadcast(width, z, SCRATCH))
 }
 
 // A value that is held throughout, in its vector register.
@@ -146,7 +147,7 @@ pub fn emit_start(
     few_params(facts.kernel);
     held_registers(facts.kernel, RegClass::Z, &regs.z);
     draft.put(Word::V(Sve::Ptrue {
-        pd: Bits { number: 1 },
+        pd: wide(ALL_TRUE),
         size: Size::B,
     }))?;
     emit_values(draft, facts, &regs.z, &facts.held)

@@ -7,11 +7,10 @@ ghost use Rattle.lane_emit.specs.LaneCode.{dup_code};
 ghost use Rattle.reductions.specs.Reductions.{reduce_name, reduce_code};
 
 use guest_types::length::Width;
-use kernel_meaning::is_signed;
 use kernel_tree::{Ty, UpdateOp};
+use label_fix::registers::ALL_TRUE;
 use lane_emit::size;
 use sve_code::{ReductionOp, Reg, Sve, VectorReg};
-use word_rows::Bits;
 
 // The operation that joins all lanes of an accumulator.
 fn reduce_op(op: UpdateOp, ty: Ty) -> ReductionOp
@@ -22,9 +21,9 @@ fn reduce_op(op: UpdateOp, ty: Ty) -> ReductionOp
         UpdateOp::And => ReductionOp::Andv,
         UpdateOp::Or => ReductionOp::Orv,
         UpdateOp::Xor => ReductionOp::Eorv,
-        UpdateOp::Min if is_signed(ty) => ReductionOp::Sminv,
+        UpdateOp::Min if ty.is_signed() => ReductionOp::Sminv,
         UpdateOp::Min => ReductionOp::Uminv,
-        UpdateOp::Max if is_signed(ty) => ReductionOp::Smaxv,
+        UpdateOp::Max if ty.is_signed() => ReductionOp::Smaxv,
         UpdateOp::Max => ReductionOp::Umaxv,
     }
 }
@@ -48,7 +47,7 @@ pub fn reduce_word(width: Width, op: UpdateOp, ty: Ty, d: VectorReg, acc: Vector
         op: reduce_op(op, ty),
         zd: d,
         zn: acc,
-        pg: Bits { number: 1 },
+        pg: ALL_TRUE,
         size: size(width),
     }
 }

@@ -1,10 +1,8 @@
 //! The lines that tell why a command is refused.
 
-ghost use Rattle.std.specs.Prelude.{◌≡◌};
 ghost use Rattle.io_edges.specs.Sink.{PutsText};
 ghost use Rattle.machine_model.specs.OutcomeText.{line_feed};
 ghost use Rattle.refusals.specs.Lines.{numbered, mismatch, line_of_fault, line_of_reading, line_of_typing, line_of_kernel, line_of_need, line_of_map, line_of_asm, line_of_pipe, line_of_refusal};
-ghost use Rattle.kernel_tree.specs.Printing.{type_text};
 
 use crate::refusal::Refusal;
 use io_edges::sink::{Failed, Sink, put_all, put_pieces};
@@ -65,22 +63,6 @@ fn put_item<S: Sink>(sink: &mut S, front: &[u8], item: u32) -> Result<(), Failed
     put_numbered(sink, front, u64::from(item))
 }
 
-// The word of a type.
-fn type_name(ty: Ty) -> &'static [u8]
-    ensures { result.now ≡ type_text ty }
-{
-    match ty {
-        Ty::I8 => b"i8",
-        Ty::I16 => b"i16",
-        Ty::I32 => b"i32",
-        Ty::I64 => b"i64",
-        Ty::U8 => b"u8",
-        Ty::U16 => b"u16",
-        Ty::U32 => b"u32",
-        Ty::U64 => b"u64",
-    }
-}
-
 // Puts a type that is wanted, and another that was found.
 fn put_mismatch<S: Sink>(sink: &mut S, item: u32, want: Ty, found: Ty) -> Result<(), Failed>
     ensures { PutsText (S.taken sink.old) (S.taken sink.new) (S.faults sink.old) (S.faults sink.new)
@@ -92,9 +74,9 @@ fn put_mismatch<S: Sink>(sink: &mut S, item: u32, want: Ty, found: Ty) -> Result
         sink,
         &[
             b"svec: kernel: want ".as_slice(),
-            type_name(want),
+            want.word().as_bytes(),
             b" found ".as_slice(),
-            type_name(found),
+            found.word().as_bytes(),
             b" at item ".as_slice(),
             digits,
             b"\n".as_slice(),

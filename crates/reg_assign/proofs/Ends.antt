@@ -11,9 +11,9 @@ chosen : (b : Bool) (k r : ℕ) → cond b (Some k) None ≡ Some r → (b ≡ t
 chosen true k r e = (refl, cc)
 chosen false k r e = absurd cc
 
-passed : (b : Bool) (k : ℕ) → cond b (Some k) None ≡ None → b ≡ false
-passed true k e = absurd cc
-passed false k e = refl
+test_false_of_none : (b : Bool) (k : ℕ) → cond b (Some k) None ≡ None → b ≡ false
+test_false_of_none true k e = absurd cc
+test_false_of_none false k e = refl
 
 pub first-ended : (p : ℕ) (ends : List ℕ) (r : ℕ) → position (is_ended p) ends ≡ Some r → (r < length ends) × (slice_index ends r ≤ p)
 first-ended p ends r e =
@@ -36,5 +36,5 @@ all-needed p (x ∷ xs) h =
 
 pub none-ended : (p : ℕ) (ends : List ℕ) → position (is_ended p) ends ≡ None → count_by (is_needed p) ends ≡ length ends
 none-ended p ends e =
-    let le = ltb-false (position_or_len (is_ended p) ends) (length ends) (passed (nat_lt (position_or_len (is_ended p) ends) (length ends)) (position_or_len (is_ended p) ends) e) in
+    let le = ltb-false (position_or_len (is_ended p) ends) (length ends) (test_false_of_none (nat_lt (position_or_len (is_ended p) ends) (length ends)) (position_or_len (is_ended p) ends) e) in
     all-needed p ends (λ k l. fails_before_first (is_ended p) ends k 0 (omega (arith, le)))

@@ -32,8 +32,8 @@ not_begun p i f = ap (λ b. b && nat_lt p i.last_use) (lt-leb-false i.from p f)
         by true e = let l = leb-true a b e in absurd (omega arith)
         by false e = refl
 
-pub begun : (p : ℕ) (i : Interval) → i.from ≤ p → is_live p i ≡ nat_lt p i.last_use
-begun p i f = ap (λ b. b && nat_lt p i.last_use) (le-leb i.from p f)
+pub is_live_of_begun : (p : ℕ) (i : Interval) → i.from ≤ p → is_live p i ≡ nat_lt p i.last_use
+is_live_of_begun p i f = ap (λ b. b && nat_lt p i.last_use) (le-leb i.from p f)
 
 -- ---- the greatest overlap
 

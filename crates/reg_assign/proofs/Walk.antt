@@ -3,7 +3,7 @@ use Rattle.std.proofs.Common.{◌≡◌, ◌≢◌, ℕ, zero, suc, ◌+◌, ◌
 use Rattle.std.specs.Prelude.{nat_lt, slice_get, slice_index}
 use Rattle.std.specs.List.{count_by}
 use Rattle.std.proofs.lemmas.Bool.{cases_lt, lt-ltb, le-ltb}
-use Rattle.std.proofs.lemmas.List.{take_more, take_all, take-append-drop, get_or-set_same, get_or-set_other, get_or_append_left}
+use Rattle.std.proofs.lemmas.List.{take_more, take_all, take-append-drop, get_or-set_same, get_or-set_other, get_or_append_left, length_push}
 use Rattle.std.proofs.Math.ListN.{length-set}
 use Rattle.std.proofs.lemmas.List.Sums.{sum_by_push, sum_by-set, count_by-le-length}
 use Rattle.std.proofs.lemmas.Option.{slice_get_within}
@@ -12,7 +12,7 @@ use Rattle.reg_assign.specs.declared.interval.Interval.{Interval}
 use Rattle.reg_assign.specs.Intervals.{is_live, overlap, need_of, AscendFrom, Ascend}
 use Rattle.reg_assign.specs.Registers.{assignment, is_live_one, is_live_in, IsAssignment}
 use Rattle.reg_assign.specs.Taking.{is_needed, Takes, Empty, Ended, Unused, Full}
-use Rattle.reg_assign.proofs.Overlaps.{one, live-from, live-last_use, begun, not_begun, overlap-push, overlap-append, overlap-cons, need-at, need-most}
+use Rattle.reg_assign.proofs.Overlaps.{one, live-from, live-last_use, is_live_of_begun, not_begun, overlap-push, overlap-append, overlap-cons, need-at, need-most}
 
 -- all begin by a point
 abbrev pub BegunBy : ℕ → List Interval → Type 0
@@ -55,10 +55,6 @@ get-push [] i (suc j) s e = absurd cc
 get-push (x ∷ is) i zero s e = inl e
 get-push (x ∷ is) i (suc j) s e = ⊎_elim (λ (h : slice_get is j ≡ Some s). inl h) (λ (h : (j ≡ length is) × (i ≡ s)). inr (ap suc h.0, h.1)) (get-push is i j s e)
 
-length-push : {A : Type 0} (xs : List A) (x : A) → length (xs ++ x ∷ []) ≡ length xs + 1
-length-push [] x = refl
-length-push (y ∷ xs) x = let h = length-push xs x in omega (arith, h)
-
 -- intervals at places of a list, for those that are live there
 apart_of : (is : List Interval) (rs : List ℕ) → ((j k p : ℕ) (s t : Interval) → j ≢ k → slice_get is j ≡ Some s → slice_get is k ≡ Some t → is_live p s ≡ true → is_live p t ≡ true → slice_index rs j ≢ slice_index rs k)
     → (j k p : ℕ) → j ≢ k → is_live_in is j p ≡ true → is_live_in is k p ≡ true → slice_index rs j ≢ slice_index rs k
@@ -100,7 +96,7 @@ step_of n done registers ends i r new w before o = record {
 }
   where
     each : length (registers ++ r ∷ []) ≡ length (done ++ i ∷ [])
-    each = let a = length-push registers r in let b = length-push done i in let c = w.fits.each in omega (arith, a, b, c)
+    each = let a = length_push registers r in let b = length_push done i in let c = w.fits.each in omega (arith, a, b, c)
 
     old : (j : ℕ) (s : Interval) → slice_get done j ≡ Some s → slice_index (registers ++ r ∷ []) j ≡ slice_index registers j
     old j s e = let a = slice_get_within done j s e in let b = w.fits.each in get_or_append_left registers (r ∷ []) 0 j (omega (arith, a, b))
@@ -111,7 +107,7 @@ step_of n done registers ends i r new w before o = record {
     below : (j : ℕ) → j < length (registers ++ r ∷ []) → slice_index (registers ++ r ∷ []) j < n
     below j lt = ⊎_elim
         (λ (h : j < length registers). let a = get_or_append_left registers (r ∷ []) 0 j h in let b = w.fits.below j h in omega (arith, a, b))
-        (λ (h : length registers ≤ j). let a = length-push registers r in let c = w.fits.each in let b = last j (omega (arith, a, c, lt)) in let m = o.small in omega (arith, b, m))
+        (λ (h : length registers ≤ j). let a = length_push registers r in let c = w.fits.each in let b = last j (omega (arith, a, c, lt)) in let m = o.small in omega (arith, b, m))
         (cases_lt j (length registers))
 
     -- the new interval and one before it
@@ -153,10 +149,10 @@ needed : (p u : ℕ) (b : Bool) → nat_lt p u ≡ b → one (is_needed p u) ≡
 needed p u b e = ap one e
 
 live_needed : (p : ℕ) (i : Interval) → i.from ≤ p → one (is_live p i) ≡ one (is_needed p i.last_use)
-live_needed p i f = ap one (begun p i f)
+live_needed p i f = ap one (is_live_of_begun p i f)
 
-empty : (n : ℕ) (done : List Interval) (registers ends : List ℕ) (i : Interval) → 1 ≤ n → IsWalk n done registers ends → i.last_use ≤ i.from → Owes n done registers ends i 0 ends
-empty n done registers ends i some w h = record {
+owes_empty_interval : (n : ℕ) (done : List Interval) (registers ends : List ℕ) (i : Interval) → 1 ≤ n → IsWalk n done registers ends → i.last_use ≤ i.from → Owes n done registers ends i 0 ends
+owes_empty_interval n done registers ends i some w h = record {
   small = omega arith;
   room = w.room;
   kept = w.holds;
@@ -165,8 +161,8 @@ empty n done registers ends i some w h = record {
   counted = λ p b f. let a = w.counted p b in let c = ap one (not_live p i h) in omega (arith, a, c);
 }
 
-ended : (n : ℕ) (done : List Interval) (registers ends : List ℕ) (i : Interval) (r : ℕ) → IsWalk n done registers ends → i.from < i.last_use → r < length ends → slice_index ends r ≤ i.from → Owes n done registers ends i r (set ends r i.last_use)
-ended n done registers ends i r w h lt e = record {
+interval_ended : (n : ℕ) (done : List Interval) (registers ends : List ℕ) (i : Interval) (r : ℕ) → IsWalk n done registers ends → i.from < i.last_use → r < length ends → slice_index ends r ≤ i.from → Owes n done registers ends i r (set ends r i.last_use)
+interval_ended n done registers ends i r w h lt e = record {
   small = let a = w.room in omega (arith, a);
   room = let a = w.room in let b = size in omega (arith, a, b);
   kept = λ j s g l. let k = w.holds j s g l in (let a = k.0 in let b = size in omega (arith, a, b), keeps (slice_index registers j) s.last_use k.1);
@@ -195,18 +191,18 @@ ended n done registers ends i r w h lt e = record {
 unused : (n : ℕ) (done : List Interval) (registers ends : List ℕ) (i : Interval) → IsWalk n done registers ends → i.from < i.last_use → length ends < n → Owes n done registers ends i (length ends) (ends ++ i.last_use ∷ [])
 unused n done registers ends i w h lt = record {
   small = lt;
-  room = let a = length-push ends i.last_use in omega (arith, a);
-  kept = λ j s g l. let k = w.holds j s g l in let a = k.0 in let b = k.1 in let c = length-push ends i.last_use in let d = get_or_append_left ends (i.last_use ∷ []) 0 (slice_index registers j) a in (omega (arith, a, c), omega (arith, b, d));
-  own = λ l. let c = length-push ends i.last_use in let d = get_or-append_seam ends i.last_use [] 0 in (omega (arith, c), omega (arith, d));
+  room = let a = length_push ends i.last_use in omega (arith, a);
+  kept = λ j s g l. let k = w.holds j s g l in let a = k.0 in let b = k.1 in let c = length_push ends i.last_use in let d = get_or_append_left ends (i.last_use ∷ []) 0 (slice_index registers j) a in (omega (arith, a, c), omega (arith, b, d));
+  own = λ l. let c = length_push ends i.last_use in let d = get_or-append_seam ends i.last_use [] 0 in (omega (arith, c), omega (arith, d));
   free = λ j s l g past own q. let k = (w.holds j s g own).0 in absurd (omega (arith, k, q));
   counted = λ p b f. let a = w.counted p b in let c = sum_by_push (λ u. cond (is_needed p u) 1 0) ends i.last_use in let d = live_needed p i f in omega (arith, a, c, d);
 }
 
 -- an interval with its register
-pub step : (n : ℕ) (done : List Interval) (registers ends : List ℕ) (i : Interval) (r : ℕ) (new : List ℕ) → 1 ≤ n → IsWalk n done registers ends → BegunBy i.from done → Takes n i ends new (Some r) → IsWalk n (done ++ i ∷ []) (registers ++ r ∷ []) new
-step n done registers ends i _ new some w b (Empty h e) = step_of n done registers ends i 0 new w b (subst (Owes n done registers ends i 0) (sym e) (empty n done registers ends i some w h))
-step n done registers ends i _ new some w b (Ended r h lt u e) = step_of n done registers ends i r new w b (subst (Owes n done registers ends i r) (sym e) (ended n done registers ends i r w h lt u))
-step n done registers ends i _ new some w b (Unused r h lt q e) = step_of n done registers ends i r new w b (subst (λ m. Owes n done registers ends i m new) (sym q) (subst (Owes n done registers ends i (length ends)) (sym e) (unused n done registers ends i w h lt)))
+pub walk_of_interval : (n : ℕ) (done : List Interval) (registers ends : List ℕ) (i : Interval) (r : ℕ) (new : List ℕ) → 1 ≤ n → IsWalk n done registers ends → BegunBy i.from done → Takes n i ends new (Some r) → IsWalk n (done ++ i ∷ []) (registers ++ r ∷ []) new
+walk_of_interval n done registers ends i _ new some w b (Empty h e) = step_of n done registers ends i 0 new w b (subst (Owes n done registers ends i 0) (sym e) (owes_empty_interval n done registers ends i some w h))
+walk_of_interval n done registers ends i _ new some w b (Ended r h lt u e) = step_of n done registers ends i r new w b (subst (Owes n done registers ends i r) (sym e) (interval_ended n done registers ends i r w h lt u))
+walk_of_interval n done registers ends i _ new some w b (Unused r h lt q e) = step_of n done registers ends i r new w b (subst (λ m. Owes n done registers ends i m new) (sym q) (subst (Owes n done registers ends i (length ends)) (sym e) (unused n done registers ends i w h lt)))
 
 -- where no register is free, more than n are needed
 pub full : (n : ℕ) (all done : List Interval) (registers ends : List ℕ) (i : Interval) (rest : List Interval) (new : List ℕ) → all ≡ done ++ i ∷ rest → IsWalk n done registers ends → BegunBy i.from done → Takes n i ends new None → n < need_of all
@@ -214,18 +210,18 @@ full n all done registers ends i rest new e w b (Full h le c) =
     let a = need-at all done i rest e in
     let d = ap (λ l. overlap l i.from) e ∙ overlap-append done (i ∷ rest) i.from in
     let f = overlap-cons i rest i.from in
-    let g = ap one (begun i.from i (omega arith) ∙ lt-ltb i.from i.last_use h) in
+    let g = ap one (is_live_of_begun i.from i (omega arith) ∙ lt-ltb i.from i.last_use h) in
     let k = w.counted i.from b in
     omega (arith, a, d, f, g, k, c)
 
 -- ---- the walk over the list
 
 module _ (n : ℕ) (all : List Interval) (k : ℕ) (d : Interval) (registers ends new : List ℕ) (ascend : Ascend all) (w : IsWalk n (take k all) registers ends) where
-  pub goes_on : (r : ℕ) → 1 ≤ n → k < length all → Takes n (get_or all k d) ends new (Some r) → IsWalk n (take (k + 1) all) (registers ++ r ∷ []) new
-  goes_on r some lt t = subst (λ l. IsWalk n l (registers ++ r ∷ []) new) (sym (take_more all k d lt)) (step n (take k all) registers ends (get_or all k d) r new some w (begun-take 0 all k d ascend lt) t)
+  pub walk_of_suc : (r : ℕ) → 1 ≤ n → k < length all → Takes n (get_or all k d) ends new (Some r) → IsWalk n (take (k + 1) all) (registers ++ r ∷ []) new
+  walk_of_suc r some lt t = subst (λ l. IsWalk n l (registers ++ r ∷ []) new) (sym (take_more all k d lt)) (walk_of_interval n (take k all) registers ends (get_or all k d) r new some w (begun-take 0 all k d ascend lt) t)
 
-  pub stops : k < length all → Takes n (get_or all k d) ends new None → n < need_of all
-  stops lt t = full n all (take k all) registers ends (get_or all k d) (drop (suc k) all) new (sym (take-append-drop k all) ∙ ap (λ l. take k all ++ l) (drop-cons all k d lt)) w (begun-take 0 all k d ascend lt) t
+  pub walk_stops_without_register : k < length all → Takes n (get_or all k d) ends new None → n < need_of all
+  walk_stops_without_register lt t = full n all (take k all) registers ends (get_or all k d) (drop (suc k) all) new (sym (take-append-drop k all) ∙ ap (λ l. take k all ++ l) (drop-cons all k d lt)) w (begun-take 0 all k d ascend lt) t
 
   pub arrives : length all ≤ k → need_of all ≤ n
   arrives le = need-most all n (λ p. let a = w.enough p in let e = ap (λ l. overlap l p) (take_all k all le) in omega (arith, a, e))

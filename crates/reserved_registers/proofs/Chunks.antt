@@ -5,6 +5,7 @@ use Rattle.guest_types.specs.declared.length.Width.{Width}
 use Rattle.word_rows.specs.Field.{Field}
 use Rattle.kernel_tree.specs.declared.ops.Ty.{Ty}
 use Rattle.kernel_tree.specs.declared.ops.Ty.TheVariants as ty
+use Rattle.kernel_tree.specs.Wrap.{log_bytes}
 use Rattle.sve_code.specs.Table.{incp, uxtb, uxth}
 use Rattle.machine_model.specs.Frames.{x_field}
 use Rattle.machine_model.specs.InstructionTable.{Listed, Vector}
@@ -19,7 +20,7 @@ use Rattle.lane_emit.specs.LaneCode.{size_of, index_code}
 use Rattle.lane_emit.specs.ItemCode.{mask_register, op_code}
 use Rattle.lane_emit.specs.AccumulatorLanes.{update_code}
 use Rattle.chunk_emit.specs.Registers.{Layout, z_of, base_of, is_used}
-use Rattle.chunk_emit.specs.ChunkCode.{with_index, index_of, memory_size, gather_name, gather_by, cut_reach, gather_code, vectors, op_words, item_words, past_cast, either_words, items_words}
+use Rattle.chunk_emit.specs.ChunkCode.{with_index, index_of, gather_name, gather_by, cut_reach, gather_code, vectors, op_words, item_words, past_cast, either_words, items_words}
 use Rattle.first_fault.specs.RegionCode.{Mode, Early, Single, narrow_words, load_words, step_words, region_words, exits_words, single_words}
 use Rattle.first_fault.specs.BreakRegion.{region_of, rest_of}
 use Rattle.vector_emit.proofs.FromBelow.{chunk_words, iteration_words, plain_words}
@@ -71,8 +72,8 @@ cut_quiet true = refl
 cut_quiet false = refl
 
 gather_quiet : (cut : Option ℕ) (t : Ty) (d m base index : ℕ) → AreQuiet (gather_code t cut d m base index)
-gather_quiet None t d m base index = gather_by_quiet (memory_size t) t d m base index
-gather_quiet (Some n) t d m base index = (cut_quiet (nat_eq n 256), gather_by_quiet (memory_size t) t d m base d)
+gather_quiet None t d m base index = gather_by_quiet (log_bytes t) t d m base index
+gather_quiet (Some n) t d m base index = (cut_quiet (nat_eq n 256), gather_by_quiet (log_bytes t) t d m base d)
 
 words_left : (w : Width) (l : Layout) (q m : ℕ) (op : Op) → AreLeft (op_words w l q m op)
 words_left w l q m (ops.Load a base (Some t) c) = index_left c _ (refl, tt)

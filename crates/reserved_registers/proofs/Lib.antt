@@ -1,7 +1,7 @@
 mod Words
 mod Steps
 pub mod Drafts
-mod FreeRegisters
+pub mod FreeRegisters
 mod ScalarWords
 mod Values
 mod Statements

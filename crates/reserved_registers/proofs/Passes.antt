@@ -1,8 +1,10 @@
 -- The vector code of a kernel's loop: what stands before the passes, the passes, and the fold after them.
-use Rattle.std.proofs.Common.{ℕ, suc, ◌≤◌, Bool, true, false, List, [], ◌∷◌, length, refl}
+use Rattle.std.proofs.Common.{◌≡◌, ℕ, zero, suc, ◌≤◌, Bool, true, false, List, [], ◌∷◌, length, refl}
 use Rattle.std.specs.Prelude.{slice_index}
 use Rattle.std.specs.List.{list_any}
 use Rattle.guest_types.specs.declared.length.Width.{Width}
+use Rattle.guest_types.specs.declared.length.Width.TheVariants.{B}
+use Rattle.machine_model.specs.InstructionTable.{Listed}
 use Rattle.kernel_tree.specs.declared.ops.Ty.{Ty}
 use Rattle.kernel_tree.specs.declared.ops.UpdateOp.{UpdateOp}
 use Rattle.kernel_tree.specs.Plain.{Program}
@@ -28,12 +30,13 @@ use Rattle.chunk_emit.specs.ChunkCode.{vectors}
 use Rattle.chunk_emit.specs.KernelLayout.{layout_of_loop, update_of}
 use Rattle.first_fault.specs.BreakRegion.{is_loop_break}
 use Rattle.vector_emit.proofs.FromBelow.{reduce_name, reduce_code, type_of_var, hold_code, holds_code, fold_one, folds_code, chunk_words, iteration_words, plain_words}
-use Rattle.vector_emit.specs.VectorCode.{passes_by, vector_code}
+use Rattle.vector_emit.specs.VectorCode.{count_word, times, passes_by, vector_code}
+use Rattle.promises.specs.Reserved.{leaves_reserved}
 use Rattle.reserved_registers.specs.Alone.{AreAlone, StaysAlone}
 use Rattle.reserved_registers.proofs.FreeRegisters.{Unreserved, AreFree, names_free, name_kept, assigned_below}
 use Rattle.reserved_registers.proofs.ScalarWords.{one_alone, const_alone, settle_leaves, binary_alone}
 use Rattle.reserved_registers.proofs.VectorWords.{reduce_quiet}
-use Rattle.reserved_registers.proofs.Chunks.{puts_alone, quiet_leaves, chunk_left, iteration_left, plain_left}
+use Rattle.reserved_registers.proofs.Chunks.{AreLeft, puts_alone, quiet_leaves, chunk_left, iteration_left, plain_left}
 
 -- ---- before the passes
 
@@ -69,6 +72,15 @@ module _ (R : ℕ → ℕ) (k : Program) (names : AreFree (kernel_homes R k)) wh
 
 -- ---- the passes
 
+-- X8, the lanes of a chunk
+count_alone : (w : Width) → leaves_reserved (count_word w) ≡ true
+count_alone B = refl
+count_alone other = refl
+
+times_alone : (t : ℕ) (is : List Listed) (rest : List DraftEntry) → AreLeft is → AreAlone rest → AreAlone (times t is rest)
+times_alone zero is rest left h = h
+times_alone (suc t) is rest left h = puts_alone is (times t is rest) left (times_alone t is rest left h)
+
 passes_alone : (c : Bool) (k : Program) (a b : Assignment) (items : List Item) (n : ℕ) (rest : List DraftEntry) → AreAlone rest → AreAlone (passes_by c k a b items n rest)
 passes_alone true k a b items n rest h =
     let w = lane_width_of k in
@@ -77,7 +89,7 @@ passes_alone true k a b items n rest h =
 passes_alone false k a b items n rest h =
     let w = lane_width_of k in
     let l = layout_of_loop k a b in
-    (refl, puts_alone (plain_words w l items) _ (plain_left w l items) (refl, h))
+    (refl, (count_alone w, (refl, times_alone 4 (plain_words w l items) _ (plain_left w l items) (refl, (refl, puts_alone (plain_words w l items) _ (plain_left w l items) (refl, h))))))
 
 -- ---- the whole
 

@@ -20,8 +20,8 @@ use Rattle.kernel_tree.specs.declared.ops.BinaryOp.TheVariants as binary
 pub written : {d : ℕ} → Unreserved d → (not (is_reserved d) && true) ≡ true
 written f = ap (λ b. not b && true) f.unreserved
 
-pub moved : {d : ℕ} → Free d → (not (is_reserved d) && not (nat_eq d 31)) ≡ true
-moved f = ap₂ (λ b c. not b && not c) f.kept.unreserved f.other
+pub free_is_not_reserved : {d : ℕ} → Free d → (not (is_reserved d) && not (nat_eq d 31)) ≡ true
+free_is_not_reserved f = ap₂ (λ b c. not b && not c) f.kept.unreserved f.other
 
 -- a word, or none
 abbrev pub LeavesIf : Option Listed → Type 0

@@ -14,12 +14,12 @@ use Rattle.machine_model.proofs.ScalarFrames.{scalar_leaves}
 use Rattle.promises.specs.Reserved.{register_written, writes_stack_pointer, is_reserved, none_reserved, leaves_reserved}
 use Rattle.reserved_registers.specs.Kept.{AreKept, StepsKeep}
 
-apart : (n d : ℕ) → is_reserved n ≡ true → not (is_reserved d) ≡ true → n ≢ d
-apart n d h k e = let same = ap is_reserved e in let free = ap not (sym same ∙ h) in absurd cc
+reserved_is_other : (n d : ℕ) → is_reserved n ≡ true → not (is_reserved d) ≡ true → n ≢ d
+reserved_is_other n d h k e = let same = ap is_reserved e in let free = ap not (sym same ∙ h) in absurd cc
 
 x_kept : (o : Option ℕ) (s t : State) (n : ℕ) → none_reserved o ≡ true → is_reserved n ≡ true → OtherX o s t → x_at t n ≡ x_at s n
 x_kept None s t n free h same = ap (λ x. slice_index x n) same
-x_kept (Some d) s t n free h same = same n (apart n d h free)
+x_kept (Some d) s t n free h same = same n (reserved_is_other n d h free)
 
 sp_kept : (b : Bool) (before after : ℕ) → not b ≡ true → SameUnless b before after → after ≡ before
 sp_kept true before after h same = absurd cc

@@ -23,7 +23,7 @@ use Rattle.value_code.specs.Code.{number_code, place_of, signed_side, compared_n
 use Rattle.promises.specs.Reserved.{leaves_reserved}
 use Rattle.reserved_registers.specs.Alone.{AreAlone, StaysAlone}
 use Rattle.reserved_registers.proofs.FreeRegisters.{Free}
-use Rattle.reserved_registers.proofs.ScalarWords.{written, moved, LeavesIf, one_alone, const_alone, copy_leaves, extend_leaves, settle_leaves, operation_alone}
+use Rattle.reserved_registers.proofs.ScalarWords.{written, free_is_not_reserved, LeavesIf, one_alone, const_alone, copy_leaves, extend_leaves, settle_leaves, operation_alone}
 use Rattle.kernel_tree.specs.declared.ops.Ty.TheVariants as ty
 use Rattle.kernel_tree.specs.declared.ops.UnaryOp.TheVariants as unary
 use Rattle.kernel_tree.specs.declared.ops.BinaryOp.TheVariants as binary
@@ -54,15 +54,15 @@ pub add_leaves : (v d a : ℕ) → Free d → leaves_reserved (add_word v d a) �
 add_leaves v d a f = by (nat_lt v 4096)
   where
     by : (b : Bool) → leaves_reserved (if b then word_of add_imm (d ∷ a ∷ v % 4096 ∷ 0 ∷ []) else word_of sub_imm (d ∷ a ∷ (4096 - v % 4096) % 4096 ∷ 0 ∷ [])) ≡ true
-    by true = moved f
-    by false = moved f
+    by true = free_is_not_reserved f
+    by false = free_is_not_reserved f
 
 sub_leaves : (v d a : ℕ) → Free d → leaves_reserved (sub_word v d a) ≡ true
 sub_leaves v d a f = by (nat_lt v 4096)
   where
     by : (b : Bool) → leaves_reserved (if b then word_of sub_imm (d ∷ a ∷ v % 4096 ∷ 0 ∷ []) else word_of add_imm (d ∷ a ∷ (4096 - v % 4096) % 4096 ∷ 0 ∷ [])) ≡ true
-    by true = moved f
-    by false = moved f
+    by true = free_is_not_reserved f
+    by false = free_is_not_reserved f
 
 sum_leaves : (op : BinaryOp) (v d a : ℕ) → Free d → leaves_reserved (sum_word op v d a) ≡ true
 sum_leaves binary.Sub v d a f = sub_leaves v d a f

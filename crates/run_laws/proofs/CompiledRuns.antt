@@ -4,9 +4,9 @@ use Rattle.std.specs.Prelude.{IfSome, nat_lt}
 use Rattle.std.proofs.lemmas.Bool.{cond-false, le-ltb}
 use Rattle.guest_types.specs.EarlyLoads.{StopList}
 use Rattle.guest_types.specs.Memory.{Memory, merged}
+use Rattle.guest_types.proofs.Errors.{ok_unique}
 use Rattle.io_edges.specs.Files.{content}
 use Rattle.io_edges.specs.declared.files.TheConstants.{MAX_FILE}
-use Rattle.machine_model.specs.declared.elf_fault.ElfFault.{ElfFault}
 use Rattle.machine_model.specs.Load.{Image, load}
 use Rattle.machine_model.specs.OutcomeText.{outcome_text}
 use Rattle.machine_model.proofs.WrittenLoads.{length-file_of}
@@ -33,9 +33,6 @@ use Rattle.command_answers.proofs.Loading.{few_pages}
 use Rattle.program_commands.proofs.Programs.{run_is}
 use Rattle.map_text.proofs.MapsBeside.{map_beside}
 use Rattle.command_line.proofs.RunLines.{can_run}
-
-same_image : (a b : Image) (r : Result Image ElfFault) → r ≡ Ok a → r ≡ Ok b → a ≡ b
-same_image a b r e h = cc
 
 same_outcome : (a b : Outcome) (r : Option Outcome) → r ≡ Some a → r ≡ Some b → a ≡ b
 same_outcome a b r e h = cc
@@ -83,7 +80,7 @@ runs_at within IsAllowed k file args image pages vl steps stops f loads begins a
     subst
     (λ (i : Image). IsStart i args pages vl → within k args vl (begun (scalar_run k args (merged i.pages pages))) (suppressed steps (free_start i args pages vl stops)) ≤ steps
     → Follows k args vl (scalar_run k args (merged i.pages pages)) (run steps 0 (free_start i args pages vl stops)))
-    (same_image f.image image (load file) f.loaded loads) from begins enough
+    (ok_unique f.image image (load file) f.loaded loads) from begins enough
   where
     from : IsStart f.image args pages vl → within k args vl (begun (scalar_run k args (merged f.image.pages pages))) (suppressed steps (free_start f.image args pages vl stops)) ≤ steps
         → Follows k args vl (scalar_run k args (merged f.image.pages pages)) (run steps 0 (free_start f.image args pages vl stops))

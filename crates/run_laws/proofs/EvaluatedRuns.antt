@@ -11,7 +11,7 @@ use Rattle.io_edges.specs.declared.files.TheConstants.{MAX_FILE}
 use Rattle.machine_model.specs.Load.{Image, load}
 use Rattle.machine_model.specs.Machine.{State}
 use Rattle.machine_model.specs.Run.{End, run, free_start, suppressed, is_over, steps_taken}
-use Rattle.machine_model.proofs.Runs.{settled, within as taken_within}
+use Rattle.machine_model.proofs.Runs.{settled, steps_taken_le as taken_within}
 use Rattle.machine_model.proofs.Suppressed.{suppressed-more}
 use Rattle.map_text.specs.Mapping.{map_of as pages_of}
 use Rattle.map_text.proofs.MapsAlone.{map_alone}
@@ -149,11 +149,11 @@ record EndsWithin (image : Image) (args : List ℕ) (pages : Memory) (vl : ℕ) 
   is : run steps 0 (free_start image args pages vl stops) ≡ End memory result taken
   few : taken ≤ needed
 
-ends_within : (within : Steps) (IsAllowed : StopList → Type 0) → IsRising within → (k : Program) (file args : List ℕ) (vl : ℕ) (stops : StopList) (image : Image) (pages : Memory) (steps needed m : ℕ) (memory : Memory) (result : ℕ) → IsFaithful within IsAllowed k file → load file ≡ Ok image → IsStart image args pages vl → IsAllowed stops
+evaluated_run_ends_within : (within : Steps) (IsAllowed : StopList → Type 0) → IsRising within → (k : Program) (file args : List ℕ) (vl : ℕ) (stops : StopList) (image : Image) (pages : Memory) (steps needed m : ℕ) (memory : Memory) (result : ℕ) → IsFaithful within IsAllowed k file → load file ≡ Ok image → IsStart image args pages vl → IsAllowed stops
     → needed ≡ within k args vl m (suppressed steps (free_start image args pages vl stops)) → needed ≤ steps → scalar_run k args (merged image.pages pages) ≡ meaning.End memory result m
     → EndsWithin image args pages vl stops steps needed memory result
 unfolding IsRising
-ends_within within IsAllowed rises k file args vl stops image pages steps needed m memory result f loads begins allowed is le ends =
+evaluated_run_ends_within within IsAllowed rises k file args vl stops image pages steps needed m memory result f loads begins allowed is le ends =
     let s = free_start image args pages vl stops in
     let less : within k args vl m (suppressed needed s) ≤ needed = subst (λ n. within k args vl m (suppressed needed s) ≤ n) (sym is) (rises k args vl m (suppressed needed s) (suppressed steps s) (fewer needed steps s le)) in
     let enough : within k args vl (begun (scalar_run k args (merged image.pages pages))) (suppressed needed s) ≤ needed = subst (λ n. within k args vl n (suppressed needed s) ≤ needed) (sym (ap begun ends)) less in
@@ -186,7 +186,7 @@ faithful_agrees within IsAllowed rises k evals held vl suppress eval task file i
     let ends : scalar_run k task.args pages ≡ meaning.End r.memory r.result r.m = ap (λ args. scalar_run k args pages) (sym e.args) ∙ r.ends in
     let begins = begins_at held vl suppress task file image pages (enough_for within k vl suppress task image pages m) x in
     let more = run-merged image.pages k task.args pages r.memory r.result r.m begins.apart ends in
-    let h = ends_within within IsAllowed rises k file task.args vl (stops_of suppress) image pages task.steps (enough_for within k vl suppress task image pages m) r.m (merged image.pages r.memory) r.result f x.loads begins allowed (enough_is within k vl suppress task image pages r.m m (ap begun ends)) x.enough more.0 in
+    let h = evaluated_run_ends_within within IsAllowed rises k file task.args vl (stops_of suppress) image pages task.steps (enough_for within k vl suppress task image pages m) r.m (merged image.pages r.memory) r.result f x.loads begins allowed (enough_is within k vl suppress task image pages r.m m (ap begun ends)) x.enough more.0 in
     record {
       memory = r.memory;
       result = r.result;

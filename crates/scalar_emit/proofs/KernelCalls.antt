@@ -1,6 +1,5 @@
 -- What the parts of a kernel are called with.
-use Rattle.std.proofs.Common.{◌≡◌, ℕ, ◌+◌, ◌<◌, ◌≤◌, ◌^◌, List, [], ◌∷◌, length, drop, Option, Some, None, refl, ap, ◌∙◌, arith}
-use Rattle.std.proofs.lemmas.List.{drop_all}
+use Rattle.std.proofs.Common.{◌≡◌, ℕ, ◌+◌, ◌<◌, ◌≤◌, ◌^◌, List, [], ◌∷◌, length, Option, Some, None, refl, ap, ◌∙◌, arith}
 use Rattle.machine_model.specs.InstructionTable.{Listed}
 use Rattle.a64_code.specs.Table.{movz}
 use Rattle.kernel_tree.specs.declared.ast.Param.{Param}
@@ -29,13 +28,6 @@ vars_room k s first vs e f g h =
 
 pub vars_fit : (k : Program) (vs : List Accumulator) → vs ≡ k.vars → size_of k ≤ 1000 → vars_size (loop_index k) vs < 2 ^ 32
 vars_fit k vs e h = omega (arith, ap (vars_size (loop_index k)) e, h)
-
--- the end of the parameters, and of the accumulators
-pub no_param : (ps : List Param) (i : ℕ) → length ps ≤ i → parameters_of (drop i ps) ≡ []
-no_param ps i h = ap parameters_of (drop_all i ps h)
-
-pub no_var : (vs : List Var) (i : ℕ) → length vs ≤ i → accumulators_of (drop i vs) ≡ []
-no_var vs i h = ap accumulators_of (drop_all i vs h)
 
 -- the returned value, where there is none and where there is one
 pub answer_none : (L : Layout) (hs : Homes) (s : Scope) (b n : ℕ) (o : Option Returned) (w : Listed) (rest : List DraftEntry) → o ≡ None → w ≡ word_of movz (0 ∷ 0 ∷ 0 ∷ []) → Put w ∷ exit_code rest ≡ answer_code L hs s b n o rest

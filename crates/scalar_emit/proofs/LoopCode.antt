@@ -79,8 +79,8 @@ last_placed last n m k p e f g = omega arith
 pub top_given : (top last head n m : ℕ) → top ≡ head + 2 → last ≡ head + 3 → last < n → m ≡ n → top < m
 top_given top last head n m e f h g = omega arith
 
-pub later : (last n a b : ℕ) → last < n → a ≡ n → b ≡ a → last < b
-later last n a b h e f = omega arith
+pub last_below_later_label : (last n a b : ℕ) → last < n → a ≡ n → b ≡ a → last < b
+last_below_later_label last n a b h e f = omega arith
 
 pub exit_placed : (exit last head n a b c d : ℕ) → exit ≡ head + 1 → last ≡ head + 3 → last < n → a ≡ n → b ≡ a → c ≡ b → d ≡ c → exit < d
 exit_placed exit last head n a b c d e f h p q r s = omega arith

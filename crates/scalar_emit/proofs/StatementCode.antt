@@ -1,13 +1,11 @@
 -- The code of statements, put together from that of their parts.
-use Rattle.std.proofs.Common.{◌≡◌, Bool, true, ℕ, ◌+◌, ◌*◌, ◌<◌, ◌≤◌, ◌^◌, false, List, [], ◌∷◌, ◌++◌, length, drop, Some, None, Option, refl, sym, ap, ◌∙◌, arith}
-use Rattle.std.proofs.lemmas.List.{drop_all}
+use Rattle.std.proofs.Common.{◌≡◌, Bool, true, ℕ, ◌+◌, ◌*◌, ◌<◌, ◌≤◌, ◌^◌, false, List, [], ◌∷◌, ◌++◌, Some, None, Option, refl, sym, ap, ◌∙◌, arith}
 use Rattle.std.specs.Prelude.{ℤ, max, ◌||◌, option_map, option_and_then}
 use mir.Syntax.{w64}
 use mir.Val.{Fits}
 use Rattle.machine_model.specs.InstructionTable.{Listed}
-use Rattle.kernel_tree.specs.declared.ast.Stmt.{Stmt}
 use Rattle.kernel_tree.specs.declared.ops.Ty.{Ty}
-use Rattle.kernel_tree.specs.Plain.{Term, Conversion, Action, Define, Put, Choose, Leave, Block, Done, Then, Otherwise, Nothing, Else, block_of}
+use Rattle.kernel_tree.specs.Plain.{Term, Conversion, Action, Define, Put, Choose, Leave, Block, Done, Then, Otherwise, Nothing, Else}
 use Rattle.kernel_tree.specs.Items.{term_size, action_size, block_size, stream_offset}
 use Rattle.kernel_tree.specs.Limits.{action_depth, block_depth}
 use Rattle.kernel_tree.specs.Typing.{Scope, lookup, own, first, element_type, left, after_block}
@@ -28,8 +26,8 @@ pub emits_as : (L : Layout) (hs hs1 : Homes) (s : Scope) (exit b : ℕ) (d d2 : 
 emits_as L hs hs1 s exit b d d2 a a2 h e p = rw (h, e) at p
 
 -- the item after those of a part
-pub one_more : (b size item : ℕ) → item ≡ b + size → item + 1 ≡ b + (size + 1)
-one_more b size item e = omega arith
+pub item_after_size : (b size item : ℕ) → item ≡ b + size → item + 1 ≡ b + (size + 1)
+item_after_size b size item e = omega arith
 
 pub let_is : (L : Layout) (hs hs1 : Homes) (s : Scope) (b n q from : ℕ) (x : List ℕ) (ty want : Option Ty) (e : Term) (rest : List DraftEntry) → hs1 ≡ hs → want ≡ first ty (own s e) → q ≡ b + term_size s.index e → from ≡ home L hs1 s.index b e
     → value_code L hs1 s want b n e (let_code L q from rest) ≡ action_code L hs s 0 b n (Define x ty e) rest
@@ -75,11 +73,6 @@ if_else_items s s2 t second b p q item item2 item3 item4 item5 is e f g h k =
     let i : block_size s2.index second ≡ block_size s.index second = ap (λ (r : Scope). block_size r.index second) is in
     omega arith
 
--- ---- the end of a block
-
-pub no_statement : (xs : List Stmt) (i : ℕ) → length xs ≤ i → block_of (drop i xs) ≡ Done
-no_statement xs i h = ap block_of (drop_all i xs h)
-
 -- ---- stores
 
 -- a stream index with no word, and one with a word
@@ -112,32 +105,26 @@ computed_store L hs s b n a i e ty w from p rest e1 e2 e3 h e4 =
 
 -- ---- what the parts of a statement are called with: each is less deep, its items have room, and its labels are given
 
-pub statement_below : (t : ℕ) (whole x more : Block) (a : Action) → 5 * block_depth whole + 1 ≡ t → block_depth x ≤ block_depth whole → x ≡ Then a more → 5 * action_depth a < t
-statement_below t whole x more a h le e = omega (arith, ap block_depth e)
+pub five_statement_below : (t : ℕ) (whole x more : Block) (a : Action) → 5 * block_depth whole + 1 ≡ t → block_depth x ≤ block_depth whole → x ≡ Then a more → 5 * action_depth a < t
+five_statement_below t whole x more a h le e = omega (arith, ap block_depth e)
 
-pub less_deep : (x more : Block) (a : Action) (d : ℕ) → x ≡ Then a more → block_depth x ≤ d → block_depth more ≤ d
-less_deep x more a d e h = omega (arith, ap block_depth e)
-
-pub if_below : (t : ℕ) (a : Action) (c : Term) (b : Block) → 5 * action_depth a ≡ t → a ≡ Choose c b Nothing → 5 * block_depth b + 3 < t
-if_below t a c b h e = omega (arith, ap action_depth e)
+pub five_only_block_below : (t : ℕ) (a : Action) (c : Term) (b : Block) → 5 * action_depth a ≡ t → a ≡ Choose c b Nothing → 5 * block_depth b + 3 < t
+five_only_block_below t a c b h e = omega (arith, ap action_depth e)
 
 pub if_else_below : (t : ℕ) (a : Action) (c : Term) (b d : Block) → 5 * action_depth a ≡ t → a ≡ Choose c b (Else d) → 5 * max (block_depth b) (block_depth d) + 4 < t
 if_else_below t a c b d h e = omega (arith, ap action_depth e)
 
-pub first_below : (t d e : ℕ) → 5 * max d e + 4 ≡ t → 5 * d + 2 < t
-first_below t d e h = omega arith
+pub five_first_block_below : (t d e : ℕ) → 5 * max d e + 4 ≡ t → 5 * d + 2 < t
+five_first_block_below t d e h = omega arith
 
-pub second_below : (t d e : ℕ) → 5 * max d e + 4 ≡ t → 5 * e + 2 < t
-second_below t d e h = omega arith
+pub five_second_block_below : (t d e : ℕ) → 5 * max d e + 4 ≡ t → 5 * e + 2 < t
+five_second_block_below t d e h = omega arith
 
-pub one_below : (t d : ℕ) → 5 * d + 3 ≡ t → 5 * d + 2 < t
-one_below t d h = omega arith
+pub five_3_to_2 : (t d : ℕ) → 5 * d + 3 ≡ t → 5 * d + 2 < t
+five_3_to_2 t d h = omega arith
 
-pub inner_below : (t d : ℕ) → 5 * d + 2 ≡ t → 5 * d + 1 < t
-inner_below t d h = omega arith
-
-pub statement_room : (i j : Option (List ℕ)) (whole x more : Block) (a : Action) (b item : ℕ) → x ≡ Then a more → item + block_size i x ≡ b + block_size j whole → b + block_size j whole < 2 ^ 32 → item + action_size i a < 2 ^ 32
-statement_room i j whole x more a b item e f h = omega (arith, ap (block_size i) e)
+pub five_inner_below : (t d : ℕ) → 5 * d + 2 ≡ t → 5 * d + 1 < t
+five_inner_below t d h = omega arith
 
 pub truth_room : (i : Option (List ℕ)) (c : Term) (blk : Block) (d : Otherwise) (b : ℕ) → b + action_size i (Choose c blk d) < 2 ^ 32 → b + term_size i c < 2 ^ 32
 truth_room i c blk d b h = omega arith
@@ -157,14 +144,8 @@ left_room i a c b item e h f = omega (arith, ap (action_size i) e)
 pub label_given : (other n a : ℕ) → other ≡ n → a ≡ n + 1 → other < a
 label_given other n a e f = omega arith
 
-pub land_given : (other n a b c p q : ℕ) → other ≡ n → a ≡ n + 1 → b ≡ a + p → c ≡ b + q → other < c
-land_given other n a b c p q e f g h = omega arith
-
 pub still_given : (exit n m p : ℕ) → exit < n → m ≡ n + p → exit < m
 still_given exit n m p h e = omega arith
-
-pub exit_given : (exit n a b p : ℕ) → exit < n → a ≡ n + 1 → b ≡ a + p → exit < b
-exit_given exit n a b p h e f = omega arith
 
 pub exit_again : (exit n a b c d e p q : ℕ) → exit < n → a ≡ n + 1 → b ≡ a + p → c ≡ b + q → d ≡ c + 1 → e ≡ d → exit < e
 exit_again exit n a b c d e p q h e1 e2 e3 e4 e5 = omega arith

@@ -5,6 +5,7 @@ ghost use Rattle.label_fix.specs.Draft.{word_view};
 ghost use Rattle.a64_code.specs.Table as table;
 ghost use Rattle.kernel_tree.specs.Plain.{name_of, for_loop_of, block_of};
 ghost use Rattle.kernel_tree.specs.Kinds.{BlockKinds};
+ghost use Rattle.kernel_tree.specs.Wrap.{log_bytes};
 ghost use Rattle.kernel_scope.specs.Scopes.{scope_of};
 ghost use Rattle.loop_code.specs.Statements.{block_labels, block_code};
 ghost use Rattle.label_fix.specs.Emits.{Emits};
@@ -19,17 +20,18 @@ ghost use Rattle.loop_code.specs.Loop as loops;
 use crate::branches::branch_ahead;
 use crate::numbers::emit_numbers;
 use crate::statements::emit_block;
-use a64_code::{A64, AddSubOp, AddSubShift, Cond, Reg, zero};
+use a64_code::{A64, AddSubOp, AddSubShift, Cond, Reg};
 use kernel_scope::{Scope, close, declare, declared_count, visible_count};
 use kernel_tree::fault::Binding;
 use kernel_tree::{Loop, Ty};
+use label_fix::registers::{ITERATION, compare_iteration};
 use label_fix::{BranchKind, Draft, Label, Word};
 use scalar_words::instructions::add_sub;
 use scalar_words::operations::emit_settle;
 use scalar_words::places::Places;
 use scalar_words::{Form, Home, Loose, register_at, register_named};
 use std::alloc::AllocError;
-use value_code::instructions::{index, next_iteration};
+use value_code::instructions::next_iteration;
 use word_rows::Bits;
 
 // The statements of a loop whose variable is declared, after which the scope and the names are those before them.
@@ -86,35 +88,18 @@ pub fn emit_head(draft: &mut Draft) -> Result<Label, AllocError>
     Ok(head)
 }
 
-// The comparison of a loop's variable with the register of its bound.
-fn bound_word(bound: Reg) -> Word
-    ensures { word_view result ≡ plain.word_of table.subs (31 ∷ 9 ∷ 0 ∷ bound.number ∷ 0 ∷ []) }
-{
-    add_sub(AddSubOp::Subs, zero(), index(), bound)
-}
-
-// How far an element of a type shifts its number.
-fn element_shift(ty: Ty) -> Bits<6>
-    ensures { result.number ≡ loops.element_shift ty }
-{
-    match ty {
-        Ty::I8 | Ty::U8 => Bits { number: 0 },
-        Ty::I16 | Ty::U16 => Bits { number: 1 },
-        Ty::I32 | Ty::U32 => Bits { number: 2 },
-        Ty::I64 | Ty::U64 => Bits { number: 3 },
-    }
-}
-
 // A register ahead by as many elements of a type as another has.
 fn ahead_word(ty: Ty, to: Reg, bound: Reg) -> Word
     ensures { word_view result ≡ plain.word_of table.add
-        (to.number ∷ to.number ∷ loops.element_shift ty ∷ bound.number ∷ 0 ∷ []) }
+        (to.number ∷ to.number ∷ log_bytes ty ∷ bound.number ∷ 0 ∷ []) }
 {
     Word::A(A64::AddSubShifted {
         op: AddSubOp::Add,
         rd: to,
         rn: to,
-        imm6: element_shift(ty),
+        imm6: Bits {
+            number: ty.log_bytes(),
+        },
         rm: bound,
         shift: AddSubShift::Lsl,
     })
@@ -163,7 +148,7 @@ fn emit_entry(
         (loops.entry_code bound.number draft.old.labels (homes_of homes.now) places.now)) }
 {
     let head = emit_head(draft)?;
-    draft.put(bound_word(bound))?;
+    draft.put(compare_iteration(bound))?;
     let exit = branch_ahead(draft, BranchKind::If(Cond::Hs))?;
     emit_moves(draft, bound, homes, places.loose())?;
     emit_numbers(draft, places.constants())?;
@@ -219,9 +204,9 @@ fn emit_back(
         (loops.back_code (option_map form_of form) bound.number head)) }
 {
     match form {
-        Some(Form::Behind) => draft.branch(BranchKind::NotZero(9), top),
+        Some(Form::Behind) => draft.branch(BranchKind::NotZero(ITERATION.number), top),
         _ => {
-            draft.put(bound_word(bound))?;
+            draft.put(compare_iteration(bound))?;
             draft.branch(BranchKind::If(Cond::Lo), top)
         }
     }
@@ -278,10 +263,9 @@ pub fn emit_loop<'a>(
 {
     let bound = register_at(homes, &for_loop.bound);
     let name = for_loop.index.text();
-    let register = index();
     homes.push(Home {
         name,
-        register,
+        register: ITERATION,
         last_use: None,
     })?;
     declare(scope, &for_loop.index, Binding::Index)?;

@@ -24,6 +24,7 @@ use crate::for_loop::{emit_head, emit_loop};
 use kernel_scope::{Scope, empty, loop_index};
 use kernel_tree::laws::{few_params, right_kinds};
 use kernel_tree::{Answer, Checked, Kernel, Loop, Param, Shape, Var};
+use label_fix::registers::{CALL_NUMBER, ITERATION};
 use label_fix::{Draft, Label};
 use loop_code::loosening::{after_loop, loosen_names};
 use loop_code::numbers::hold_block;
@@ -140,7 +141,7 @@ fn emit_first<'a>(
     emit_arguments(draft, &kernel.params)?;
     let first = kernel.params.len();
     emit_vars(draft, places, regs, homes, scope, &kernel.vars, first)?;
-    draft.put(small(9, 0))
+    draft.put(small(ITERATION.number, 0))
 }
 
 /// The code before the loop. It wraps the scalar arguments to their types, evaluates the accumulators in their order into
@@ -185,7 +186,7 @@ pub struct ScalarEntry {
 fn emit_exit(draft: &mut Draft) -> Result<(), AllocError>
     ensures { OnOk result (Emits draft.old draft.new draft.old.labels (loops.exit_code)) }
 {
-    draft.put(small(8, 93))?;
+    draft.put(small(CALL_NUMBER.number, 93))?;
     draft.put(exit_call())
 }
 

@@ -19,6 +19,7 @@ use kernel_scope::{
     Scope, accumulator_type, array_type, define, first, leave, lookup, own_type, visible_count,
 };
 use kernel_tree::{Expr, Name, Part, Stmt, Ty, UpdateOp, parts};
+use label_fix::registers::ITERATION;
 use label_fix::{BranchKind, Draft, Label};
 use scalar_values::operations::{emit_offset, want_operator};
 use scalar_values::{emit_jump, emit_loose, emit_side, emit_value};
@@ -31,7 +32,7 @@ use value_code::extent::{
     Extent, binary_extent, binary_joins, converted_extent, extent_at, fits_at, settles, within,
     within_type,
 };
-use value_code::instructions::{index as loop_variable, index_word, store};
+use value_code::instructions::{index_word, store};
 use value_code::place::place_of;
 
 // The value of a `let` into its register, where something reads it.
@@ -197,7 +198,7 @@ fn emit_store(
     let from = emit_stored(draft, places, homes, scope, extent, ty, value, item)?;
     *item += 1;
     match place_of(places, homes, scope, array, index) {
-        Some(place) => emit_into(draft, ty, from, place, loop_variable()),
+        Some(place) => emit_into(draft, ty, from, place, ITERATION),
         None => emit_put(draft, scope, index, ty, from, register_at(homes, array)),
     }
 }

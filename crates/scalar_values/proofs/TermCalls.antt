@@ -12,14 +12,14 @@ use Rattle.kernel_tree.specs.Kinds.{IsValue, IsTruth}
 
 -- ---- by the depth and the items of the whole
 
-one_below : (t D d : ℕ) → 4 * D + 1 ≡ t → D ≡ d + 1 → 4 * d + 1 < t
-one_below t D d h e = omega arith
+four_one_operand_below : (t D d : ℕ) → 4 * D + 1 ≡ t → D ≡ d + 1 → 4 * d + 1 < t
+four_one_operand_below t D d h e = omega arith
 
 one_room : (b size k : ℕ) → size ≡ k + 1 → b + size < 2 ^ 32 → b + k < 2 ^ 32
 one_room b size k e h = omega arith
 
-after_one : (b size k item : ℕ) → size ≡ k + 1 → item ≡ b + k → b + size < 2 ^ 32 → item < 2 ^ 32
-after_one b size k item e f h = omega arith
+item_after_one_operand : (b size k item : ℕ) → size ≡ k + 1 → item ≡ b + k → b + size < 2 ^ 32 → item < 2 ^ 32
+item_after_one_operand b size k item e f h = omega arith
 
 two_below : (t D m : ℕ) → 4 * D + 1 ≡ t → D ≡ m + 1 → 4 * m + 4 < t
 two_below t D m h e = omega arith
@@ -27,11 +27,11 @@ two_below t D m h e = omega arith
 read_below : (t D d : ℕ) → 4 * D + 1 ≡ t → D ≡ d + 1 → 4 * d + 3 < t
 read_below t D d h e = omega arith
 
-first_below : (t D d e : ℕ) → 4 * D + 1 ≡ t → D ≡ max d e + 1 → 4 * d + 1 < t
-first_below t D d e h f = omega arith
+four_first_operand_below : (t D d e : ℕ) → 4 * D + 1 ≡ t → D ≡ max d e + 1 → 4 * d + 1 < t
+four_first_operand_below t D d e h f = omega arith
 
-second_below : (t D d e : ℕ) → 4 * D + 1 ≡ t → D ≡ max d e + 1 → 4 * e + 1 < t
-second_below t D d e h f = omega arith
+four_second_operand_below : (t D d e : ℕ) → 4 * D + 1 ≡ t → D ≡ max d e + 1 → 4 * e + 1 < t
+four_second_operand_below t D d e h f = omega arith
 
 first_room : (b size x y : ℕ) → size ≡ x + y + 1 → b + size < 2 ^ 32 → b + x < 2 ^ 32
 first_room b size x y e h = omega arith
@@ -75,22 +75,22 @@ more_room b size x y e h = omega arith
 -- ---- the calls for a value
 
 pub unary_call : (i : Option (List ℕ)) (t b : ℕ) (op : UnaryOp) (whole e : Term) → whole ≡ Unary op e → 4 * term_depth whole + 1 ≡ t → IsValue whole → b + term_size i whole < 2 ^ 32 → 4 * term_depth e + 1 < t × (IsValue e × b + term_size i e < 2 ^ 32)
-unary_call i t b op whole e is h kind fits = (one_below t (term_depth whole) (term_depth e) h (ap term_depth is), (subst IsValue is kind, one_room b (term_size i whole) (term_size i e) (ap (term_size i) is) fits))
+unary_call i t b op whole e is h kind fits = (four_one_operand_below t (term_depth whole) (term_depth e) h (ap term_depth is), (subst IsValue is kind, one_room b (term_size i whole) (term_size i e) (ap (term_size i) is) fits))
 
 pub unary_room : (i : Option (List ℕ)) (b item : ℕ) (op : UnaryOp) (whole e : Term) → whole ≡ Unary op e → item ≡ b + term_size i e → b + term_size i whole < 2 ^ 32 → item < 2 ^ 32
-unary_room i b item op whole e is f fits = after_one b (term_size i whole) (term_size i e) item (ap (term_size i) is) f fits
+unary_room i b item op whole e is f fits = item_after_one_operand b (term_size i whole) (term_size i e) item (ap (term_size i) is) f fits
 
 pub shift_call : (i : Option (List ℕ)) (t b : ℕ) (left : Bool) (count : ℤ) (whole e : Term) → whole ≡ Shift left e count → 4 * term_depth whole + 1 ≡ t → IsValue whole → b + term_size i whole < 2 ^ 32 → 4 * term_depth e + 1 < t × (IsValue e × b + term_size i e < 2 ^ 32)
-shift_call i t b left count whole e is h kind fits = (one_below t (term_depth whole) (term_depth e) h (ap term_depth is), (subst IsValue is kind, one_room b (term_size i whole) (term_size i e) (ap (term_size i) is) fits))
+shift_call i t b left count whole e is h kind fits = (four_one_operand_below t (term_depth whole) (term_depth e) h (ap term_depth is), (subst IsValue is kind, one_room b (term_size i whole) (term_size i e) (ap (term_size i) is) fits))
 
 pub shift_room : (i : Option (List ℕ)) (b item : ℕ) (left : Bool) (count : ℤ) (whole e : Term) → whole ≡ Shift left e count → item ≡ b + term_size i e → b + term_size i whole < 2 ^ 32 → item < 2 ^ 32
-shift_room i b item left count whole e is f fits = after_one b (term_size i whole) (term_size i e) item (ap (term_size i) is) f fits
+shift_room i b item left count whole e is f fits = item_after_one_operand b (term_size i whole) (term_size i e) item (ap (term_size i) is) f fits
 
 pub cast_call : (i : Option (List ℕ)) (t b : ℕ) (ty : Ty) (whole e : Term) → whole ≡ Conversion e ty → 4 * term_depth whole + 1 ≡ t → IsValue whole → b + term_size i whole < 2 ^ 32 → 4 * term_depth e + 1 < t × (IsValue e × b + term_size i e < 2 ^ 32)
-cast_call i t b ty whole e is h kind fits = (one_below t (term_depth whole) (term_depth e) h (ap term_depth is), (subst IsValue is kind, one_room b (term_size i whole) (term_size i e) (ap (term_size i) is) fits))
+cast_call i t b ty whole e is h kind fits = (four_one_operand_below t (term_depth whole) (term_depth e) h (ap term_depth is), (subst IsValue is kind, one_room b (term_size i whole) (term_size i e) (ap (term_size i) is) fits))
 
 pub cast_room : (i : Option (List ℕ)) (b item : ℕ) (ty : Ty) (whole e : Term) → whole ≡ Conversion e ty → item ≡ b + term_size i e → b + term_size i whole < 2 ^ 32 → item < 2 ^ 32
-cast_room i b item ty whole e is f fits = after_one b (term_size i whole) (term_size i e) item (ap (term_size i) is) f fits
+cast_room i b item ty whole e is f fits = item_after_one_operand b (term_size i whole) (term_size i e) item (ap (term_size i) is) f fits
 
 pub two_call : (i : Option (List ℕ)) (t b : ℕ) (op : BinaryOp) (whole x y : Term) → whole ≡ Operation op x y → 4 * term_depth whole + 1 ≡ t → IsValue whole → b + term_size i whole < 2 ^ 32 → 4 * max (term_depth x) (term_depth y) + 4 < t × (IsValue x × (IsValue y × b + term_size i (Operation op x y) < 2 ^ 32))
 two_call i t b op whole x y is h kind fits =
@@ -111,10 +111,10 @@ one_of_call i t b item item2 whole k x y is h kind fits f g = (choice_below t (t
 
 -- for the operands of a value that stands in the word of its user
 pub left_call : (i : Option (List ℕ)) (t b : ℕ) (op : BinaryOp) (whole x y : Term) → whole ≡ Operation op x y → 4 * term_depth whole + 1 ≡ t → IsValue whole → b + term_size i whole < 2 ^ 32 → 4 * term_depth x + 1 < t × (IsValue x × b + term_size i x < 2 ^ 32)
-left_call i t b op whole x y is h kind fits = (first_below t (term_depth whole) (term_depth x) (term_depth y) h (ap term_depth is), ((subst IsValue is kind).0, first_room b (term_size i whole) (term_size i x) (term_size i y) (ap (term_size i) is) fits))
+left_call i t b op whole x y is h kind fits = (four_first_operand_below t (term_depth whole) (term_depth x) (term_depth y) h (ap term_depth is), ((subst IsValue is kind).0, first_room b (term_size i whole) (term_size i x) (term_size i y) (ap (term_size i) is) fits))
 
 pub right_call : (i : Option (List ℕ)) (t b item : ℕ) (op : BinaryOp) (whole x y : Term) → whole ≡ Operation op x y → 4 * term_depth whole + 1 ≡ t → IsValue whole → b + term_size i whole < 2 ^ 32 → item ≡ b + term_size i x → 4 * term_depth y + 1 < t × (IsValue y × item + term_size i y < 2 ^ 32)
-right_call i t b item op whole x y is h kind fits f = (second_below t (term_depth whole) (term_depth x) (term_depth y) h (ap term_depth is), ((subst IsValue is kind).1, second_room b (term_size i whole) (term_size i x) (term_size i y) item (ap (term_size i) is) fits f))
+right_call i t b item op whole x y is h kind fits f = (four_second_operand_below t (term_depth whole) (term_depth x) (term_depth y) h (ap term_depth is), ((subst IsValue is kind).1, second_room b (term_size i whole) (term_size i x) (term_size i y) item (ap (term_size i) is) fits f))
 
 -- ---- the calls for a condition
 
@@ -151,15 +151,6 @@ left_side_below t d e h = omega arith
 
 pub right_side_below : (t d e : ℕ) → 4 * max d e + 3 ≡ t → 4 * e + 1 < t
 right_side_below t d e h = omega arith
-
-pub side_below : (t d e : ℕ) → 4 * max d e + 3 ≡ t → 4 * e + 2 < t
-side_below t d e h = omega arith
-
-pub left_compared_below : (t d e : ℕ) → 4 * max d e + 2 ≡ t → 4 * d + 1 < t
-left_compared_below t d e h = omega arith
-
-pub right_compared_below : (t d e : ℕ) → 4 * max d e + 2 ≡ t → 4 * e + 1 < t
-right_compared_below t d e h = omega arith
 
 pub left_compared_room : (b x y : ℕ) → b + x + y < 2 ^ 32 → b + x < 2 ^ 32
 left_compared_room b x y h = omega arith

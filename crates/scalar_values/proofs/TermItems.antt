@@ -1,7 +1,7 @@
 -- Where the items of an expression stand, for its parts one after another: sums of their counts, written as facts on
 -- numbers.
-use Rattle.std.proofs.Common.{◌≡◌, ℕ, ◌+◌, ◌*◌, ◌<◌, ◌^◌, ◌++◌, Bool, true, false, List, Option, Some, None, refl, sym, ap, ap₂, ◌∙◌, arith}
-use Rattle.std.specs.Prelude.{ℤ, max, if◌then◌else◌, option_map, IfOk, OnOk}
+use Rattle.std.proofs.Common.{◌≡◌, ℕ, ◌+◌, ◌<◌, ◌^◌, ◌++◌, Bool, true, false, List, Option, Some, None, refl, sym, ap, ap₂, ◌∙◌, arith}
+use Rattle.std.specs.Prelude.{ℤ, if◌then◌else◌, option_map, IfOk}
 use Rattle.std.specs.Result.{result_and}
 use Rattle.std.specs.declared.result.Result.{Result}
 use Rattle.std.specs.declared.result.Result.TheVariants.{Ok, Err}
@@ -21,11 +21,6 @@ use Rattle.value_code.specs.declared.extent.Extent.TheVariants.{Whole}
 use Rattle.value_code.specs.ItemWords.{Side, Number, Register, index_word, index_register}
 use Rattle.value_code.specs.Code.{labels, IsLiteral, side_by, number_register, right_code, literal_code, loose_code, jump_code}
 
--- what is known at once is known after any call
-pub on_any : {T E P : Type 0} (r : Result T E) → P → OnOk r P
-on_any (Ok v) p = p
-on_any (Err e) p = tt
-
 -- a value that is put in place of another call's
 pub with_value : {T U E : Type 0} (r : Result T E) {q : Result U E} (v : U) (P : U → Type 0) → q ≡ result_and r (Ok v) → P v → IfOk q P
 with_value (Ok u) v P e p = rw e p
@@ -37,23 +32,6 @@ then_is t p q e = rw e refl
 pub else_is : {A : Type 0} (t : Bool) (p q : A) → t ≡ false → q ≡ (if t then p else q)
 else_is t p q e = rw e refl
 
--- ---- expressions stand above their operands
-
-pub left_below : (t d e : ℕ) → 4 * max d e + 2 ≡ t → 4 * d < t
-left_below t d e h = omega arith
-
-pub right_below : (t d e : ℕ) → 4 * max d e + 2 ≡ t → 4 * e < t
-right_below t d e h = omega arith
-
-pub truth_below : (t d : ℕ) → 4 * d + 2 ≡ t → 4 * d < t
-truth_below t d h = omega arith
-
-pub value_below : (t d : ℕ) → 4 * d + 2 ≡ t → 4 * d + 1 < t
-value_below t d h = omega arith
-
-pub index_below : (t d : ℕ) → 4 * d + 3 ≡ t → 4 * d + 2 < t
-index_below t d h = omega arith
-
 -- ---- room for items
 
 pub own_room : (b k : ℕ) → b + k < 2 ^ 32 → b < 2 ^ 32
@@ -64,9 +42,6 @@ next_fits b k h = omega arith
 
 pub whole_fits : (b k item : ℕ) → b + k < 2 ^ 32 → item + 1 ≡ b + k → Fits w64 (item + 1)
 whole_fits b k item h e = omega arith
-
-pub part_room : (b k : ℕ) → b + (k + 1) < 2 ^ 32 → b + k < 2 ^ 32
-part_room b k h = omega arith
 
 pub after_room : (b k item : ℕ) → b + (k + 1) < 2 ^ 32 → item ≡ b + k → item < 2 ^ 32
 after_room b k item h e = omega arith
@@ -122,11 +97,11 @@ chosen_room b x y size item is h e = omega arith
 
 -- ---- labels that are given
 
-pub still_given : (to n a b p : ℕ) → to < n → a ≡ n + 1 → b ≡ a + p → to < b
-still_given to n a b p h e f = omega arith
+pub given_past_label : (to n a b p : ℕ) → to < n → a ≡ n + 1 → b ≡ a + p → to < b
+given_past_label to n a b p h e f = omega arith
 
-pub over_given : (over n a b c p q : ℕ) → over ≡ n → a ≡ n + 1 → b ≡ a + p → c ≡ b + q → over < c
-over_given over n a b c p q e f g h = omega arith
+pub given_past_two_parts : (over n a b c p q : ℕ) → over ≡ n → a ≡ n + 1 → b ≡ a + p → c ≡ b + q → over < c
+given_past_two_parts over n a b c p q e f g h = omega arith
 
 pub both_given : (sense : Bool) (first over to n a : ℕ) → first ≡ (if sense then over else to) → over ≡ n → a ≡ n + 1 → to < n → first < a
 both_given true first over to n a e f g h = omega arith

@@ -24,14 +24,13 @@ use crate::side::Side;
 use a64_code::Reg;
 use kernel_scope::{Scope, array_type, first, own_type, side_type};
 use kernel_tree::{BinaryOp, Expr, Name, Ty};
+use label_fix::registers::ITERATION;
 use label_fix::{Draft, Label};
 use scalar_words::places::Places;
 use scalar_words::{Home, register_at};
 use std::alloc::AllocError;
 use value_code::extent::{Extent, converted_extent, within_type};
-use value_code::instructions::{
-    added_number, compare_word, compared_number, index as loop_variable, index_word,
-};
+use value_code::instructions::{added_number, compare_word, compared_number, index_word};
 use value_code::leaving::{binary_asks, shift_asks, unary_asks};
 use value_code::place::place_of;
 
@@ -300,7 +299,7 @@ fn emit_read(
 {
     let ty = array_type(scope, array);
     match place_of(places, homes, scope, array, index) {
-        Some(place) => emit_load(draft, places, ty, place, loop_variable(), item),
+        Some(place) => emit_load(draft, places, ty, place, ITERATION, item),
         None => {
             let x = emit_number(draft, places, homes, scope, index, item)?;
             emit_load(draft, places, ty, register_at(homes, array), x, item)

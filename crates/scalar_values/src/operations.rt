@@ -16,16 +16,16 @@ ghost use Rattle.scalar_values.specs.Sides.{side_view};
 use crate::registers::take;
 use crate::side::Side;
 use a64_code::{AddSubOp, Cond, LogicalOp, Reg, SelectOp, zero};
-use kernel_meaning::{fits, is_signed};
+use kernel_meaning::fits;
 use kernel_tree::{BinaryOp, CompareOp, Ty, UnaryOp};
+use label_fix::registers::{ITERATION, SCRATCH};
 use label_fix::{BranchKind, Draft, Label, Word};
 use scalar_words::instructions::{add_sub, condition, extending, is_narrow, logical, select};
 use scalar_words::operations::{emit_copy, emit_operation, emit_settle};
 use scalar_words::places::Places;
 use std::alloc::AllocError;
 use value_code::instructions::{
-    compare_word, index, load, product_word, scratch, shift_count, shift_word, shifted, sum_word,
-    turned, zero_test,
+    compare_word, load, product_word, shift_count, shift_word, shifted, sum_word, turned, zero_test,
 };
 
 // A word whose result is extended in place where it may have left the extended form.
@@ -49,9 +49,9 @@ fn emit_abs(draft: &mut Draft, leaves: bool, ty: Ty, d: Reg, a: Reg) -> Result<(
     ensures { OnOk result (Emits draft.old draft.new draft.old.labels
         (words.abs_code leaves (wrap.is_signed ty) ty d.number a.number)) }
 {
-    if is_signed(ty) {
-        draft.put(add_sub(AddSubOp::Subs, scratch(), zero(), a))?;
-        let word = select(SelectOp::Csel, d, scratch(), Cond::Ge, a);
+    if ty.is_signed() {
+        draft.put(add_sub(AddSubOp::Subs, SCRATCH, zero(), a))?;
+        let word = select(SelectOp::Csel, d, SCRATCH, Cond::Ge, a);
         emit_settled(draft, word, leaves, ty, d)
     } else {
         emit_copy(draft, d, a)
@@ -89,7 +89,7 @@ pub fn signed_side(want: Option<Ty>) -> bool
 {
     match want {
         None => false,
-        Some(ty) => is_signed(ty),
+        Some(ty) => ty.is_signed(),
     }
 }
 
@@ -201,7 +201,7 @@ fn emit_operator(
 {
     match side {
         Side::Register(c) => {
-            emit_operation(draft, op, is_signed(ty), d, a, c)?;
+            emit_operation(draft, op, ty.is_signed(), d, a, c)?;
             emit_settle(draft, leaves, ty, d)
         }
         Side::Number(number) => {
@@ -290,7 +290,7 @@ pub fn want_shift(
     match want {
         None => Ok(d),
         Some(ty) => {
-            let word = shifted(left, is_signed(ty), shift_count(count), d, a);
+            let word = shifted(left, ty.is_signed(), shift_count(count), d, a);
             emit_settled(draft, word, leaves, ty, d).and(Ok(d))
         }
     }
@@ -347,10 +347,10 @@ pub fn emit_offset(draft: &mut Draft, moved: Option<Word>) -> Result<Reg, AllocE
         (common.word_code (option_map word_view moved))) }
 {
     match moved {
-        None => Ok(index()),
+        None => Ok(ITERATION),
         Some(moved) => {
             draft.put(moved)?;
-            Ok(scratch())
+            Ok(SCRATCH)
         }
     }
 }

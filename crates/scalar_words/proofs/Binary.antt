@@ -1,5 +1,5 @@
 -- The code of an operator with two operands.
-use Rattle.std.proofs.Common.{◌≡◌, ℕ, zero, suc, ◌+◌, ◌*◌, ◌%◌, ◌^◌, ◌<◌, ◌≤◌, Bool, true, false, List, [], ◌∷◌, length, refl, sym, ap, ap₂, ◌∙◌, arith, cond}
+use Rattle.std.proofs.Common.{◌≡◌, ℕ, zero, suc, ◌+◌, ◌*◌, ◌%◌, ◌^◌, ◌≤◌, Bool, true, false, List, [], ◌∷◌, length, refl, sym, ap, ap₂, ◌∙◌, arith, cond}
 use Rattle.std.specs.Prelude.{ℤ, pos, negsuc, ◌+ℤ◌, ◌*ℤ◌, ◌-ℤ◌, neg_ℤ, bit_and, bit_or, bit_xor, int_lt, if◌then◌else◌}
 use Rattle.std.proofs.lemmas.List.{get_or_past}
 use Rattle.std.proofs.lemmas.Nat.{or_lt, xor_lt, and_le_l}
@@ -14,6 +14,7 @@ use Rattle.kernel_meaning.specs.TypeValues.{IsOf}
 use Rattle.kernel_meaning.proofs.Residues.{word-below, word-mul, word-add}
 use Rattle.kernel_meaning.proofs.ExtendedForm.{binary-kept}
 use Rattle.a64_code.specs.Table.{subs, csel}
+use Rattle.machine_model.proofs.StateLaws.{shifted_word-zero}
 use Rattle.scalar_words.proofs.Truths.{tested, tested_goes, tested_flags, tested_sized, tested_all, tested_changes, tested_shaped}
 use Rattle.scalar_words.proofs.Compare.{compared}
 use Rattle.label_fix.specs.DraftRun.{DraftEntry, Laid, ins, word_of}
@@ -26,9 +27,6 @@ use Rattle.scalar_words.proofs.LayoutStates.{changes_on, Assigned}
 use Rattle.scalar_words.proofs.WordsRuns.{Sets, set_more, settle_sets}
 use Rattle.kernel_tree.specs.declared.ops.BinaryOp.TheVariants as binary
 use Rattle.kernel_tree.specs.declared.ops.CompareOp.TheVariants as compare
-
-pub plain : (v : ℕ) → v < 2 ^ 64 → shifted_word 0 v 0 ≡ v
-plain v h = omega (arith, h)
 
 pub word-negated : (z : ℤ) → word (neg_ℤ z) ≡ difference 0 (word z)
 word-negated (pos zero) = refl
@@ -66,15 +64,15 @@ module _ (D : Laid) (L : Layout) (fit : Assigned L) where
   -- an operator that joins low bits, of any two integers
   pub joined_sets : {rest : List DraftEntry} {s : State} (op : BinaryOp) (leaves sg : Bool) (t : Ty) (x y : ℤ) (a c d : ℕ) → binary_joins op ≡ true → length s.x ≡ 31 → d ≤ 25 → (leaves ≡ false → word (wrap t (binary_on op x y)) ≡ word (binary_on op x y)) → x_at s a ≡ word x → x_at s c ≡ word y
       → Sets D (operation_code op sg d a c (word_code (settle_word leaves t d) rest)) s rest d (wrap t (binary_on op x y)) 2
-  joined_sets {s = s} binary.Add leaves sg t x y a c d j sized hi kept ex ey = settle_sets D L fit leaves t d (sum (x_at s a) (shifted_word 0 (x_at s c) 0)) (x +ℤ y) sized hi refl (ap₂ (λ m n. sum m (shifted_word 0 n 0)) ex ey ∙ ap (λ n. sum (word x) n) (plain (word y) (word-below y)) ∙ sym (word-add x y)) kept
-  joined_sets {s = s} binary.Sub leaves sg t x y a c d j sized hi kept ex ey = settle_sets D L fit leaves t d (difference (x_at s a) (shifted_word 0 (x_at s c) 0)) (x -ℤ y) sized hi refl (ap₂ (λ m n. difference m (shifted_word 0 n 0)) ex ey ∙ ap (λ n. difference (word x) n) (plain (word y) (word-below y)) ∙ sym (word-difference x y)) kept
+  joined_sets {s = s} binary.Add leaves sg t x y a c d j sized hi kept ex ey = settle_sets D L fit leaves t d (sum (x_at s a) (shifted_word 0 (x_at s c) 0)) (x +ℤ y) sized hi refl (ap₂ (λ m n. sum m (shifted_word 0 n 0)) ex ey ∙ ap (λ n. sum (word x) n) (shifted_word-zero (word y) (word-below y)) ∙ sym (word-add x y)) kept
+  joined_sets {s = s} binary.Sub leaves sg t x y a c d j sized hi kept ex ey = settle_sets D L fit leaves t d (difference (x_at s a) (shifted_word 0 (x_at s c) 0)) (x -ℤ y) sized hi refl (ap₂ (λ m n. difference m (shifted_word 0 n 0)) ex ey ∙ ap (λ n. difference (word x) n) (shifted_word-zero (word y) (word-below y)) ∙ sym (word-difference x y)) kept
   joined_sets {s = s} binary.Mul leaves sg t x y a c d j sized hi kept ex ey =
       let z : x_at s 31 ≡ 0 = get_or_past s.x 31 0 (omega (arith, sized)) in
       settle_sets D L fit leaves t d (sum (x_at s 31) (x_at s a * x_at s c % 2 ^ 64)) (x *ℤ y) sized hi refl
       (ap₂ (λ m n. sum (x_at s 31) (m * n % 2 ^ 64)) ex ey ∙ ap (λ n. sum n (word x * word y % 2 ^ 64)) z ∙ omega arith ∙ sym (word-mul x y)) kept
-  joined_sets {s = s} binary.And leaves sg t x y a c d j sized hi kept ex ey = settle_sets D L fit leaves t d (bit_and (x_at s a) (shifted_word 0 (x_at s c) 0)) (pos (bit_and (word x) (word y))) sized hi refl (ap₂ (λ m n. bit_and m (shifted_word 0 n 0)) ex ey ∙ ap (λ n. bit_and (word x) n) (plain (word y) (word-below y)) ∙ sym (mod-eq_of_lt (let h = and_le_l (word x) (word y) in omega (arith, h, word-below x)))) kept
-  joined_sets {s = s} binary.Or leaves sg t x y a c d j sized hi kept ex ey = settle_sets D L fit leaves t d (bit_or (x_at s a) (shifted_word 0 (x_at s c) 0)) (pos (bit_or (word x) (word y))) sized hi refl (ap₂ (λ m n. bit_or m (shifted_word 0 n 0)) ex ey ∙ ap (λ n. bit_or (word x) n) (plain (word y) (word-below y)) ∙ sym (mod-eq_of_lt (or_lt 64 (word x) (word y) (word-below x) (word-below y)))) kept
-  joined_sets {s = s} binary.Xor leaves sg t x y a c d j sized hi kept ex ey = settle_sets D L fit leaves t d (bit_xor (x_at s a) (shifted_word 0 (x_at s c) 0)) (pos (bit_xor (word x) (word y))) sized hi refl (ap₂ (λ m n. bit_xor m (shifted_word 0 n 0)) ex ey ∙ ap (λ n. bit_xor (word x) n) (plain (word y) (word-below y)) ∙ sym (mod-eq_of_lt (xor_lt 64 (word x) (word y) (word-below x) (word-below y)))) kept
+  joined_sets {s = s} binary.And leaves sg t x y a c d j sized hi kept ex ey = settle_sets D L fit leaves t d (bit_and (x_at s a) (shifted_word 0 (x_at s c) 0)) (pos (bit_and (word x) (word y))) sized hi refl (ap₂ (λ m n. bit_and m (shifted_word 0 n 0)) ex ey ∙ ap (λ n. bit_and (word x) n) (shifted_word-zero (word y) (word-below y)) ∙ sym (mod-eq_of_lt (let h = and_le_l (word x) (word y) in omega (arith, h, word-below x)))) kept
+  joined_sets {s = s} binary.Or leaves sg t x y a c d j sized hi kept ex ey = settle_sets D L fit leaves t d (bit_or (x_at s a) (shifted_word 0 (x_at s c) 0)) (pos (bit_or (word x) (word y))) sized hi refl (ap₂ (λ m n. bit_or m (shifted_word 0 n 0)) ex ey ∙ ap (λ n. bit_or (word x) n) (shifted_word-zero (word y) (word-below y)) ∙ sym (mod-eq_of_lt (or_lt 64 (word x) (word y) (word-below x) (word-below y)))) kept
+  joined_sets {s = s} binary.Xor leaves sg t x y a c d j sized hi kept ex ey = settle_sets D L fit leaves t d (bit_xor (x_at s a) (shifted_word 0 (x_at s c) 0)) (pos (bit_xor (word x) (word y))) sized hi refl (ap₂ (λ m n. bit_xor m (shifted_word 0 n 0)) ex ey ∙ ap (λ n. bit_xor (word x) n) (shifted_word-zero (word y) (word-below y)) ∙ sym (mod-eq_of_lt (xor_lt 64 (word x) (word y) (word-below x) (word-below y)))) kept
   joined_sets binary.Min leaves sg t x y a c d j sized hi kept ex ey = absurd cc
   joined_sets binary.Max leaves sg t x y a c d j sized hi kept ex ey = absurd cc
 

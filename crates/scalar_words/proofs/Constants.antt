@@ -84,11 +84,11 @@ module _ (D : Laid) (d : ℕ) (low : d < 31) where
   }
 
   -- the first word
-  starts : (o : Bool) (h p n : ℕ) (s : State) (rest : List DraftEntry) → length s.x ≡ 31 → (if o then inverted ((65535 - h) * 2 ^ (16 * p)) else h * 2 ^ (16 * p)) ≡ n → n < 2 ^ 64 → Fills D (start_code o d h p rest) s rest d n 1
-  starts true h p n s rest size e small =
+  start_code_fills : (o : Bool) (h p n : ℕ) (s : State) (rest : List DraftEntry) → length s.x ≡ 31 → (if o then inverted ((65535 - h) * 2 ^ (16 * p)) else h * 2 ^ (16 * p)) ≡ n → n < 2 ^ 64 → Fills D (start_code o d h p rest) s rest d n 1
+  start_code_fills true h p n s rest size e small =
       let v = inverted ((65535 - h) * 2 ^ (16 * p)) in
       record { end = wrote s d v; goes = put_goes refl; value = wrote_same s d v (omega (arith, low, size)) ∙ e; others = λ r ne. wrote_other s d v r ne; sized = wrote_sized s d v; memory = refl; frame = refl; shaped = λ h. wrote_shaped s d v (omega (arith, e, small)) h }
-  starts false h p n s rest size e small =
+  start_code_fills false h p n s rest size e small =
       let v = h * 2 ^ (16 * p) in
       record { end = wrote s d v; goes = put_goes refl; value = wrote_same s d v (omega (arith, low, size)) ∙ e; others = λ r ne. wrote_other s d v r ne; sized = wrote_sized s d v; memory = refl; frame = refl; shaped = λ h. wrote_shaped s d v (omega (arith, e, small)) h }
 
@@ -149,29 +149,29 @@ module _ (D : Laid) (d : ℕ) (low : d < 31) where
     bg : g < 65536
     bg = filler_below o
 
-    filled : (e0 e1 e2 e3 : Bool) → nat_eq h0 g ≡ e0 → nat_eq h1 g ≡ e1 → nat_eq h2 g ≡ e2 → nat_eq h3 g ≡ e3 → Fills D (filled_code e0 e1 e2 e3 o d h0 h1 h2 h3 rest) s rest d (four h0 h1 h2 h3) 4
-    filled false e1 e2 e3 q0 q1 q2 q3 =
-        let k = starts o h0 0 (four h0 g g g) s _ size (start_0 o h0 b0) (four_below h0 g g g b0 bg bg bg) in
+    constant_filled_by_halves : (e0 e1 e2 e3 : Bool) → nat_eq h0 g ≡ e0 → nat_eq h1 g ≡ e1 → nat_eq h2 g ≡ e2 → nat_eq h3 g ≡ e3 → Fills D (filled_code e0 e1 e2 e3 o d h0 h1 h2 h3 rest) s rest d (four h0 h1 h2 h3) 4
+    constant_filled_by_halves false e1 e2 e3 q0 q1 q2 q3 =
+        let k = start_code_fills o h0 0 (four h0 g g g) s _ size (start_0 o h0 b0) (four_below h0 g g g b0 bg bg bg) in
         after 4 (omega arith) k (last_three o h0 h1 h2 h3 b0 b1 b2 b3 rest k.end h0 g g g (k.sized ∙ size) k.value b0 refl refl refl)
-    filled true false e2 e3 q0 q1 q2 q3 =
-        let k = starts o h1 1 (four h0 h1 g g) s _ size (start_1 o h1 b1 ∙ ap (λ x. four x h1 g g) (sym (eqb-true h0 g q0))) (four_below h0 h1 g g b0 b1 bg bg) in
+    constant_filled_by_halves true false e2 e3 q0 q1 q2 q3 =
+        let k = start_code_fills o h1 1 (four h0 h1 g g) s _ size (start_1 o h1 b1 ∙ ap (λ x. four x h1 g g) (sym (eqb-true h0 g q0))) (four_below h0 h1 g g b0 b1 bg bg) in
         after 4 (omega arith) k (last_two o h0 h1 h2 h3 b0 b1 b2 b3 rest k.end h0 h1 g g (k.sized ∙ size) k.value b0 b1 refl refl)
-    filled true true false e3 q0 q1 q2 q3 =
+    constant_filled_by_halves true true false e3 q0 q1 q2 q3 =
         let z0 = eqb-true h0 g q0 in
         let z1 = eqb-true h1 g q1 in
-        let k = starts o h2 2 (four h0 h1 h2 g) s _ size (start_2 o h2 b2 ∙ ap₂ (λ x y. four x y h2 g) (sym z0) (sym z1)) (four_below h0 h1 h2 g b0 b1 b2 bg) in
+        let k = start_code_fills o h2 2 (four h0 h1 h2 g) s _ size (start_2 o h2 b2 ∙ ap₂ (λ x y. four x y h2 g) (sym z0) (sym z1)) (four_below h0 h1 h2 g b0 b1 b2 bg) in
         after 4 (omega arith) k (last o h0 h1 h2 h3 b0 b1 b2 b3 rest k.end h0 h1 h2 g (k.sized ∙ size) k.value b0 b1 b2 refl)
-    filled true true true false q0 q1 q2 q3 =
+    constant_filled_by_halves true true true false q0 q1 q2 q3 =
         let z0 = eqb-true h0 g q0 in
         let z1 = eqb-true h1 g q1 in
         let z2 = eqb-true h2 g q2 in
-        let k = starts o h3 3 (four h0 h1 h2 h3) s rest size (start_3 o h3 b3 ∙ ap₂ (λ x y. four x y g h3) (sym z0) (sym z1) ∙ ap (λ x. four h0 h1 x h3) (sym z2)) (four_below h0 h1 h2 h3 b0 b1 b2 b3) in
+        let k = start_code_fills o h3 3 (four h0 h1 h2 h3) s rest size (start_3 o h3 b3 ∙ ap₂ (λ x y. four x y g h3) (sym z0) (sym z1) ∙ ap (λ x. four h0 h1 x h3) (sym z2)) (four_below h0 h1 h2 h3 b0 b1 b2 b3) in
         record { end = k.end; goes = go_more 4 (omega arith) k.goes; value = k.value; others = k.others; sized = k.sized; memory = k.memory; frame = k.frame; shaped = k.shaped }
-    filled true true true true q0 q1 q2 q3 =
+    constant_filled_by_halves true true true true q0 q1 q2 q3 =
         let z1 = eqb-true h1 g q1 in
         let z2 = eqb-true h2 g q2 in
         let z3 = eqb-true h3 g q3 in
-        let k = starts o h0 0 (four h0 h1 h2 h3) s rest size (start_0 o h0 b0 ∙ ap₂ (λ x y. four h0 x y g) (sym z1) (sym z2) ∙ ap (λ x. four h0 h1 h2 x) (sym z3)) (four_below h0 h1 h2 h3 b0 b1 b2 b3) in
+        let k = start_code_fills o h0 0 (four h0 h1 h2 h3) s rest size (start_0 o h0 b0 ∙ ap₂ (λ x y. four h0 x y g) (sym z1) (sym z2) ∙ ap (λ x. four h0 h1 h2 x) (sym z3)) (four_below h0 h1 h2 h3 b0 b1 b2 b3) in
         record { end = k.end; goes = go_more 4 (omega arith) k.goes; value = k.value; others = k.others; sized = k.sized; memory = k.memory; frame = k.frame; shaped = k.shaped }
 
   halves_whole : (n : ℕ) → n < 2 ^ 64 → four (n % 65536) (n / 65536 % 65536) (n / 4294967296 % 65536) (n / 281474976710656 % 65536) ≡ n
@@ -185,7 +185,7 @@ module _ (D : Laid) (d : ℕ) (low : d < 31) where
       let h2 = n / 4294967296 % 65536 in
       let h3 = n / 281474976710656 % 65536 in
       let o = has_ones h0 h1 h2 h3 in
-      let k = filled o h0 h1 h2 h3 (omega arith) (omega arith) (omega arith) (omega arith) s rest size (nat_eq h0 (filler o)) (nat_eq h1 (filler o)) (nat_eq h2 (filler o)) (nat_eq h3 (filler o)) refl refl refl refl in
+      let k = constant_filled_by_halves o h0 h1 h2 h3 (omega arith) (omega arith) (omega arith) (omega arith) s rest size (nat_eq h0 (filler o)) (nat_eq h1 (filler o)) (nat_eq h2 (filler o)) (nat_eq h3 (filler o)) refl refl refl refl in
       record { end = k.end; goes = k.goes; value = k.value ∙ halves_whole n small; others = k.others; sized = k.sized; memory = k.memory; frame = k.frame; shaped = k.shaped }
 
 pub const_runs : (D : Laid) (L : Layout) (fit : Assigned L) {rest : List DraftEntry} {s : State} (p n : ℕ) (z : ℤ) (b e : ℕ) → length s.x ≡ 31 → b ≤ p → p < e → IsMade L p → n ≡ word z → Gets D L (const_code (reg_of L p) n rest) s rest b e (reg_of L p) z 4

@@ -69,5 +69,5 @@ half_below n h0 h1 h2 h3 (suc (suc (suc zero))) a b c d = d
 half_below n h0 h1 h2 h3 (suc (suc (suc (suc i)))) a b c d = omega (arith, a)
 
 -- the first of four halves
-pub begins : 0 < 4
-begins = omega arith
+pub zero_below_4 : 0 < 4
+zero_below_4 = omega arith

@@ -5,11 +5,11 @@ use Rattle.std.specs.List.{find}
 use Rattle.guest_types.specs.Memory.{Memory, IsMemory}
 use Rattle.machine_model.specs.Machine.{State, x_at, with_x, next}
 use Rattle.machine_model.specs.States.{IsState}
-use Rattle.machine_model.proofs.StateSteps.{moved, x_kept}
+use Rattle.machine_model.proofs.StateSteps.{next_is_state, x_kept}
 use Rattle.kernel_meaning.specs.Operators.{word}
-use Rattle.kernel_meaning.specs.Eval.{Named, Names, is_named, value_at, byte_count}
+use Rattle.kernel_meaning.specs.Eval.{Named, Names, is_named, value_at}
 use Rattle.kernel_tree.specs.Typing.{Local}
-use Rattle.kernel_tree.specs.Wrap.{bits_of}
+use Rattle.kernel_tree.specs.Wrap.{bits_of, byte_count}
 pub use Rattle.scalar_words.specs.Safe.{Assigned, IsSafe, AreSafe}
 pub use Rattle.kernel_meaning.specs.Ranges.{TypeRange, AreRanged}
 pub use Rattle.scalar_words.specs.Iterations.{Frame, frame_of}
@@ -29,7 +29,7 @@ pub wrote_sized : (s : State) (d v : ℕ) → length (wrote s d v).x ≡ length 
 wrote_sized s d v = length-set s.x d v
 
 pub wrote_shaped : (s : State) (d v : ℕ) → v < 2 ^ 64 → IsState s → IsState (wrote s d v)
-wrote_shaped s d v small is = moved (with_x s d v) (x_kept s d v is small)
+wrote_shaped s d v small is = next_is_state (with_x s d v) (x_kept s d v is small)
 
 -- Only the registers of the items from b until e, x26 to x30 and the flags changed.
 pub record Kept (L : Layout) (s t : State) (b e : ℕ) : Type 0 where
@@ -185,17 +185,17 @@ module _ (L : Layout) where
     pub high : register_at hs x ≤ 25
     pub apart : (q : ℕ) → b ≤ q → q < p → IsMade L q → reg_of L q ≢ register_at hs x
 
-  found_step : (t : Bool) (h : Home) (hs : Homes) (x : List ℕ) (b p : ℕ) → b ≤ p → is_home x h ≡ t → IsSafe L b h → (NameLasts hs x p → IsFound hs x b p) → NameLasts (h ∷ hs) x p → IsFound (h ∷ hs) x b p
-  found_step true h hs x b p le e safe rest lasts =
+  safe_home_found_of_cons : (t : Bool) (h : Home) (hs : Homes) (x : List ℕ) (b p : ℕ) → b ≤ p → is_home x h ≡ t → IsSafe L b h → (NameLasts hs x p → IsFound hs x b p) → NameLasts (h ∷ hs) x p → IsFound (h ∷ hs) x b p
+  safe_home_found_of_cons true h hs x b p le e safe rest lasts =
       let l : Lasts h.last_use p = subst (λ c. LastsAt (cond c (Some h) (find (is_home x) hs)) p) e lasts in
       let r : register_at (h ∷ hs) x ≡ h.register = ap (λ c. unwrap_or (option_map register_of (cond c (Some h) (find (is_home x) hs))) 31) e in
       let hi = safe.high (lasts_less h.last_use p b le l) in
       record { high = omega (arith, r, hi); apart = λ q lo up made eq. safe.apart q lo (lasts_less h.last_use p (suc q) (omega arith) l) made (eq ∙ r) }
-  found_step false h hs x b p le e safe rest lasts =
+  safe_home_found_of_cons false h hs x b p le e safe rest lasts =
       let f = rest (subst (λ c. LastsAt (cond c (Some h) (find (is_home x) hs)) p) e lasts) in
       let r : register_at (h ∷ hs) x ≡ register_at hs x = ap (λ c. unwrap_or (option_map register_of (cond c (Some h) (find (is_home x) hs))) 31) e in
       record { high = omega (arith, r, f.high); apart = λ q lo up made eq. f.apart q lo up made (eq ∙ r) }
 
   pub name_found : (hs : Homes) (x : List ℕ) (b p : ℕ) → b ≤ p → AreSafe L b hs → NameLasts hs x p → IsFound hs x b p
   name_found [] x b p le safe lasts = absurd lasts
-  name_found (h ∷ hs) x b p le safe lasts = found_step (is_home x h) h hs x b p le refl safe.0 (name_found hs x b p le safe.1) lasts
+  name_found (h ∷ hs) x b p le safe lasts = safe_home_found_of_cons (is_home x h) h hs x b p le refl safe.0 (name_found hs x b p le safe.1) lasts

@@ -8,7 +8,7 @@ use Rattle.kernel_tree.specs.declared.ast.Shape.{Shape}
 use Rattle.kernel_tree.specs.declared.fault.Binding.{Binding}
 use Rattle.kernel_tree.specs.Plain.{Program}
 use Rattle.kernel_tree.specs.Typing.{Local, has_name, binding_of, element_type, accumulator_type}
-use Rattle.kernel_tree.proofs.Names.{bytes_told}
+use Rattle.kernel_tree.proofs.Names.{bytes_eq-told}
 use Rattle.loop_form.specs.Entries.{Entry}
 use Rattle.loop_form.specs.Listing.{last_use_from}
 use Rattle.scalar_words.specs.Layout.{Layout, Home, Homes, is_home, register_of, reg_of, last_use_at, IsMade, register_at, Lasts, LastsAt, NameLasts}
@@ -130,7 +130,7 @@ module _ (k : Program) (R : ℕ → ℕ) (L : Layout) (all : List Entry) where
   at_step true b j l h ls hs x bd e same is rest known =
       let f : is_home x h ≡ true = ap (λ y. bytes_eq y x) same ∙ e in
       let g : l.binding ≡ bd = cc in
-      record { home = h; is = ap (λ c. cond c (Some h) (find (is_home x) hs)) f; named = bytes_told h.name x f; number = j; what = subst (λ d. HomeIs b j d h) g is }
+      record { home = h; is = ap (λ c. cond c (Some h) (find (is_home x) hs)) f; named = bytes_eq-told h.name x f; number = j; what = subst (λ d. HomeIs b j d h) g is }
   at_step false b j l h ls hs x bd e same is rest known =
       let f : is_home x h ≡ false = ap (λ y. bytes_eq y x) same ∙ e in
       let r = rest known in

@@ -1,36 +1,32 @@
 -- One more name of a kernel in its scope and among the homes.
-use Rattle.std.proofs.Common.{◌≡◌, ℕ, ◌+◌, ◌^◌, ◌<◌, ◌≤◌, List, [], ◌∷◌, ◌++◌, ◌∙◌, length, drop, get_or, sym, ap, arith, append_assoc, append-nil}
+use Rattle.std.proofs.Common.{◌≡◌, ℕ, ◌+◌, ◌^◌, ◌<◌, ◌≤◌, List, [], ◌∷◌, ◌++◌, ◌∙◌, length, drop, get_or, sym, ap, arith, append-nil}
 use Rattle.std.proofs.lemmas.List.{drop_all, map-append}
 use Rattle.kernel_tree.specs.declared.ast.Param.{Param}
 use Rattle.kernel_tree.specs.declared.ast.Var.{Var}
 use Rattle.kernel_tree.specs.Plain.{parameter_of, parameters_of, accumulator_of, accumulators_of}
 use Rattle.kernel_tree.specs.Typing.{Scope, after_params, after_vars}
+use Rattle.kernel_tree.proofs.Walks.{next_item, listed_one_on}
 use Rattle.kernel_scope.specs.Scopes.{lent_text, after_param, after_var}
-use Rattle.loop_form.proofs.LoopLists.{next-entry}
 use Rattle.scalar_words.specs.declared.home.Home.{Home}
 use Rattle.scalar_words.specs.View.{home_of, homes_of}
 use Rattle.scalar_words.specs.Layout.{Homes}
 use Rattle.scalar_words.specs.KernelRegisters.{param_home, param_homes, var_home, var_homes}
 
--- one more item of a list that is put together
-pub one_more : {A : Type 0} (old new whole : List A) (x : A) (rest all : List A) → new ≡ old ++ x ∷ [] → all ≡ x ∷ rest → old ++ all ≡ whole → new ++ rest ≡ whole
-one_more old new whole x rest all n a w = ap (λ l. l ++ rest) n ∙ append_assoc old (x ∷ []) rest ∙ ap (λ l. old ++ l) (sym a) ∙ w
-
 -- parameter i of some
 module _ (ps : List Param) (i : ℕ) (p : Param) (lt : i < length ps) (at : p ≡ get_or ps i p) where
   pub param_scope : (old new whole : Scope) → new ≡ after_param old (parameter_of p) → after_params old (parameters_of (drop i ps)) ≡ whole → after_params new (parameters_of (drop (i + 1) ps)) ≡ whole
-  param_scope old new whole e w = ap (λ s. after_params s (parameters_of (drop (i + 1) ps))) e ∙ sym (ap (λ l. after_params old (parameters_of l)) (next-entry ps i p lt at)) ∙ w
+  param_scope old new whole e w = ap (λ s. after_params s (parameters_of (drop (i + 1) ps))) e ∙ sym (ap (λ l. after_params old (parameters_of l)) (next_item ps i p lt at)) ∙ w
 
   pub param_more : (n : ℕ) (old new whole : Homes) → new ≡ old ++ param_home n (parameter_of p) ∷ [] → old ++ param_homes n (parameters_of (drop i ps)) ≡ whole → new ++ param_homes (n + 1) (parameters_of (drop (i + 1) ps)) ≡ whole
-  param_more n old new whole e w = one_more old new whole _ _ _ e (ap (λ l. param_homes n (parameters_of l)) (next-entry ps i p lt at)) w
+  param_more n old new whole e w = listed_one_on old new whole _ _ _ e (ap (λ l. param_homes n (parameters_of l)) (next_item ps i p lt at)) w
 
 -- accumulator i of some
 module _ (R : ℕ → ℕ) (vs : List Var) (i : ℕ) (v : Var) (lt : i < length vs) (at : v ≡ get_or vs i v) where
   pub var_scope : (old new whole : Scope) → new ≡ after_var old (accumulator_of v) → after_vars old (accumulators_of (drop i vs)) ≡ whole → after_vars new (accumulators_of (drop (i + 1) vs)) ≡ whole
-  var_scope old new whole e w = ap (λ s. after_vars s (accumulators_of (drop (i + 1) vs))) e ∙ sym (ap (λ l. after_vars old (accumulators_of l)) (next-entry vs i v lt at)) ∙ w
+  var_scope old new whole e w = ap (λ s. after_vars s (accumulators_of (drop (i + 1) vs))) e ∙ sym (ap (λ l. after_vars old (accumulators_of l)) (next_item vs i v lt at)) ∙ w
 
   pub var_more : (old new whole : Homes) → new ≡ old ++ var_home R i (accumulator_of v) ∷ [] → old ++ var_homes R i (accumulators_of (drop i vs)) ≡ whole → new ++ var_homes R (i + 1) (accumulators_of (drop (i + 1) vs)) ≡ whole
-  var_more old new whole e w = one_more old new whole _ _ _ e (ap (λ l. var_homes R i (accumulators_of l)) (next-entry vs i v lt at)) w
+  var_more old new whole e w = listed_one_on old new whole _ _ _ e (ap (λ l. var_homes R i (accumulators_of l)) (next_item vs i v lt at)) w
 
 -- after the last accumulator
 pub after_all : (vs : List Var) (i : ℕ) (s whole : Scope) → length vs ≤ i → after_vars s (accumulators_of (drop i vs)) ≡ whole → s ≡ whole

@@ -37,8 +37,8 @@ as_it_is leaves t d rest e = sym (ap (λ b. word_code (if b then Some (extending
 pub copied_not : (d a : ℕ) (rest : List DraftEntry) → d ≡ a → rest ≡ word_code (copy_word d a) rest
 copied_not d a rest e = sym (ap (λ b. word_code (if b then None else Some (word_of orr (d ∷ 31 ∷ 0 ∷ a ∷ 0 ∷ []))) rest) (eq-eqb d a e))
 
-pub copied : (d a : ℕ) (w : Listed) (rest : List DraftEntry) → d ≢ a → Put w ≡ copy d a → Put w ∷ rest ≡ word_code (copy_word d a) rest
-copied d a w rest e f = ap (λ i. i ∷ rest) f ∙ sym (ap (λ b. word_code (if b then None else Some (word_of orr (d ∷ 31 ∷ 0 ∷ a ∷ 0 ∷ []))) rest) (ne_eqb d a e))
+pub copy_before_rest : (d a : ℕ) (w : Listed) (rest : List DraftEntry) → d ≢ a → Put w ≡ copy d a → Put w ∷ rest ≡ word_code (copy_word d a) rest
+copy_before_rest d a w rest e f = ap (λ i. i ∷ rest) f ∙ sym (ap (λ b. word_code (if b then None else Some (word_of orr (d ∷ 31 ∷ 0 ∷ a ∷ 0 ∷ []))) rest) (ne_eqb d a e))
 
 -- an operator whose result is one of its operands, and any other
 pub chosen : (op : BinaryOp) (signed : Bool) (d a b : ℕ) (c w : Listed) (rest : List DraftEntry) → (op ≡ binary.Min) ⊎ (op ≡ binary.Max) → c ≡ word_of subs (31 ∷ a ∷ 0 ∷ b ∷ 0 ∷ []) → w ≡ operation_word op signed d a b → Put c ∷ Put w ∷ rest ≡ operation_code op signed d a b rest

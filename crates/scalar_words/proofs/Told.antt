@@ -6,7 +6,7 @@ use Rattle.guest_types.specs.Memory.{Memory, IsMemory}
 use Rattle.machine_model.specs.Machine.{State, x_at}
 use Rattle.kernel_tree.specs.Typing.{Local}
 use Rattle.kernel_tree.specs.Wrap.{bits_of}
-use Rattle.kernel_tree.proofs.Names.{bytes_told}
+use Rattle.kernel_tree.proofs.Names.{bytes_eq-told}
 use Rattle.kernel_meaning.specs.Operators.{word}
 use Rattle.kernel_meaning.specs.Eval.{Named, Names, is_named, value_at}
 use Rattle.kernel_meaning.specs.Iterate.{named, assigned}
@@ -34,7 +34,7 @@ told_same ls c (n ∷ ns) h = (refl, tells_same c (loose_in ls n.name) n.value n
 told_step : (b : Bool) (ls : List Loose) (c : ℕ) (z n : Named) (zs ns : Names) (x : List ℕ) → is_named x n ≡ b → z.name ≡ n.name → Tells c (loose_in ls n.name) z.value n.value → (b ≡ false → Tells c (loose_in ls x) (value_at zs x) (value_at ns x)) → Tells c (loose_in ls x) (value_at (z ∷ zs) x) (value_at (n ∷ ns) x)
 told_step true ls c z n zs ns x e same is rest =
     let f : is_named x z ≡ true = ap (λ y. bytes_eq y x) same ∙ e in
-    rw (e, f) (subst (λ y. Tells c (loose_in ls y) z.value n.value) (bytes_told n.name x e) is)
+    rw (e, f) (subst (λ y. Tells c (loose_in ls y) z.value n.value) (bytes_eq-told n.name x e) is)
 told_step false ls c z n zs ns x e same is rest =
     let f : is_named x z ≡ false = ap (λ y. bytes_eq y x) same ∙ e in
     rw (e, f) (rest refl)
@@ -85,7 +85,7 @@ told_none c (z ∷ zs) (n ∷ ns) h = ap₂ (λ (m : Named) (ms : Names). m ∷ 
 set_step : (b : Bool) (ls : List Loose) (c : ℕ) (z n : Named) (zs ns : Names) (x : List ℕ) (u v : ℤ) → is_named x n ≡ b → Tells c (loose_in ls x) u v → Told ls c (z ∷ zs) (n ∷ ns) → Told ls c (assigned x u zs) (assigned x v ns) → Told ls c (assigned x u (z ∷ zs)) (assigned x v (n ∷ ns))
 set_step true ls c z n zs ns x u v e is h rest =
     let f : is_named x z ≡ true = ap (λ y. bytes_eq y x) h.0 ∙ e in
-    let new : Told ls c (named z.name u ∷ zs) (named n.name v ∷ ns) = (h.0, subst (λ y. Tells c (loose_in ls y) u v) (sym (bytes_told n.name x e)) is, h.2) in
+    let new : Told ls c (named z.name u ∷ zs) (named n.name v ∷ ns) = (h.0, subst (λ y. Tells c (loose_in ls y) u v) (sym (bytes_eq-told n.name x e)) is, h.2) in
     subst (λ b. Told ls c (cond b (named z.name u ∷ zs) (z ∷ assigned x u zs)) (assigned x v (n ∷ ns))) (sym f)
     (subst (λ b. Told ls c (named z.name u ∷ zs) (cond b (named n.name v ∷ ns) (n ∷ assigned x v ns))) (sym e) new)
 set_step false ls c z n zs ns x u v e is h rest =

@@ -1,13 +1,14 @@
 -- What a comparison leaves.
-use Rattle.std.proofs.Common.{◌≡◌, ◌≢◌, ℕ, ◌^◌, ◌<◌, List, [], ◌∷◌, length, refl, sym, ap, ap₂, ◌∙◌, arith, length-set, get_or-set_other, ⊎_elim}
+use Rattle.std.proofs.Common.{◌≡◌, ◌≢◌, ℕ, List, [], ◌∷◌, length, refl, sym, ap, ap₂, ◌∙◌, arith, length-set, get_or-set_other, ⊎_elim}
 use Rattle.std.specs.Prelude.{ℤ}
 use Rattle.std.proofs.lemmas.List.{get_or_past}
 use Rattle.std.proofs.lemmas.Bool.{cases_eq}
 use Rattle.machine_model.specs.Machine.{State, x_at, with_x, next}
 use Rattle.machine_model.specs.States.{IsState}
-use Rattle.machine_model.proofs.StateSteps.{moved, x_kept, flags_kept}
+use Rattle.machine_model.proofs.StateSteps.{next_is_state, x_kept, flags_kept}
 use Rattle.machine_model.specs.Arithmetic.{difference, shifted_word, flags_of}
 use Rattle.a64_code.specs.Table.{subs}
+use Rattle.machine_model.proofs.StateLaws.{shifted_word-zero}
 use Rattle.kernel_meaning.specs.Operators.{word}
 use Rattle.kernel_meaning.proofs.Residues.{word-below}
 use Rattle.label_fix.specs.DraftRun.{DraftEntry, Put, Laid, word_of}
@@ -42,13 +43,10 @@ tested_changes s a c d = record { memory = refl; sized = tested_sized s a c; fra
 pub tested_shaped : (s : State) (a c : ℕ) → IsState s → IsState (tested s a c)
 tested_shaped s a c is =
     let v = difference (x_at s a) (shifted_word 0 (x_at s c) 0) in
-    moved _ (flags_kept (with_x s 31 v) (flags_of (x_at s a) (shifted_word 0 (x_at s c) 0)) (x_kept s 31 v is (omega arith)))
+    next_is_state _ (flags_kept (with_x s 31 v) (flags_of (x_at s a) (shifted_word 0 (x_at s c) 0)) (x_kept s 31 v is (omega arith)))
 
 pub tested_kept : (L : Layout) (s : State) (a c b e : ℕ) → Kept L s (tested s a c) b e
 tested_kept L s a c b e = record { memory = refl; sized = tested_sized s a c; frame = refl; others = λ r hi h. tested_other s a c r (λ eq. absurd (omega arith)) }
 
-plain : (v : ℕ) → v < 2 ^ 64 → shifted_word 0 v 0 ≡ v
-plain v h = omega (arith, h)
-
 pub tested_flags : (s : State) (a c : ℕ) (x y : ℤ) → x_at s a ≡ word x → x_at s c ≡ word y → (tested s a c).flags ≡ flags_of (word x) (word y)
-tested_flags s a c x y ex ey = ap₂ (λ m n. flags_of m (shifted_word 0 n 0)) ex ey ∙ ap (λ n. flags_of (word x) n) (plain (word y) (word-below y))
+tested_flags s a c x y ex ey = ap₂ (λ m n. flags_of m (shifted_word 0 n 0)) ex ey ∙ ap (λ n. flags_of (word x) n) (shifted_word-zero (word y) (word-below y))

@@ -13,8 +13,8 @@ use Rattle.kernel_tree.specs.declared.ops.BinaryOp.TheVariants as binary
 
 -- ---- the words of one item, before at most k others
 
-pub within : {x a b : ℕ} → a ≤ b → x ≤ a → x ≤ b
-within le h = omega (arith, le, h)
+pub le_of_le_of_le : {x a b : ℕ} → a ≤ b → x ≤ a → x ≤ b
+le_of_le_of_le le h = omega (arith, le, h)
 
 pub one_word : (o : Option Listed) (rest : List DraftEntry) (k : ℕ) → size rest ≤ k → size (word_code o rest) ≤ 1 + k
 one_word None rest k h = omega (arith, h)
@@ -26,18 +26,18 @@ operation_words other signed d a c rest k h = omega (arith, h)
 
 -- the words of an operator at a type
 pub operator_words : (op : BinaryOp) (t : Ty) (d a c : ℕ) (rest : List DraftEntry) (k : ℕ) → size rest ≤ k → size (binary_code op t d a c rest) ≤ 3 + k
-operator_words op t d a c rest k h = within (omega arith) (operation_words op (is_signed t) d a c _ (1 + k) (one_word (settle_word (binary_leaves op) t d) rest k h))
+operator_words op t d a c rest k h = le_of_le_of_le (omega arith) (operation_words op (is_signed t) d a c _ (1 + k) (one_word (settle_word (binary_leaves op) t d) rest k h))
 
 start_words : (o : Bool) (d h p : ℕ) (rest : List DraftEntry) (k : ℕ) → size rest ≤ k → size (start_code o d h p rest) ≤ 1 + k
 start_words true d h p rest k e = omega (arith, e)
 start_words false d h p rest k e = omega (arith, e)
 
 filled_words : (e0 e1 e2 e3 o : Bool) (d h0 h1 h2 h3 : ℕ) (rest : List DraftEntry) (k : ℕ) → size rest ≤ k → size (filled_code e0 e1 e2 e3 o d h0 h1 h2 h3 rest) ≤ 4 + k
-filled_words false e1 e2 e3 o d h0 h1 h2 h3 rest k h = within (omega arith) (start_words o d h0 0 _ _ (one_word (half_word d (filler o) h1 1) _ _ (one_word (half_word d (filler o) h2 2) _ _ (one_word (half_word d (filler o) h3 3) rest k h))))
-filled_words true false e2 e3 o d h0 h1 h2 h3 rest k h = within (omega arith) (start_words o d h1 1 _ _ (one_word (half_word d (filler o) h2 2) _ _ (one_word (half_word d (filler o) h3 3) rest k h)))
-filled_words true true false e3 o d h0 h1 h2 h3 rest k h = within (omega arith) (start_words o d h2 2 _ _ (one_word (half_word d (filler o) h3 3) rest k h))
-filled_words true true true false o d h0 h1 h2 h3 rest k h = within (omega arith) (start_words o d h3 3 rest k h)
-filled_words true true true true o d h0 h1 h2 h3 rest k h = within (omega arith) (start_words o d h0 0 rest k h)
+filled_words false e1 e2 e3 o d h0 h1 h2 h3 rest k h = le_of_le_of_le (omega arith) (start_words o d h0 0 _ _ (one_word (half_word d (filler o) h1 1) _ _ (one_word (half_word d (filler o) h2 2) _ _ (one_word (half_word d (filler o) h3 3) rest k h))))
+filled_words true false e2 e3 o d h0 h1 h2 h3 rest k h = le_of_le_of_le (omega arith) (start_words o d h1 1 _ _ (one_word (half_word d (filler o) h2 2) _ _ (one_word (half_word d (filler o) h3 3) rest k h)))
+filled_words true true false e3 o d h0 h1 h2 h3 rest k h = le_of_le_of_le (omega arith) (start_words o d h2 2 _ _ (one_word (half_word d (filler o) h3 3) rest k h))
+filled_words true true true false o d h0 h1 h2 h3 rest k h = le_of_le_of_le (omega arith) (start_words o d h3 3 rest k h)
+filled_words true true true true o d h0 h1 h2 h3 rest k h = le_of_le_of_le (omega arith) (start_words o d h0 0 rest k h)
 
 halves_words : (o : Bool) (d h0 h1 h2 h3 : ℕ) (rest : List DraftEntry) (k : ℕ) → size rest ≤ k → size (halves_code o d h0 h1 h2 h3 rest) ≤ 4 + k
 halves_words o d h0 h1 h2 h3 rest k h = filled_words (nat_eq h0 (filler o)) (nat_eq h1 (filler o)) (nat_eq h2 (filler o)) (nat_eq h3 (filler o)) o d h0 h1 h2 h3 rest k h

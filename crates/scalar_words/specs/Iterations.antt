@@ -12,6 +12,7 @@ use Rattle.kernel_meaning.specs.Ranges.{AreRanged}
 use Rattle.kernel_meaning.specs.Eval.{Names}
 use Rattle.kernel_meaning.specs.ScalarRun.{Run, End, Fault}
 use Rattle.label_fix.specs.DraftRun.{DraftEntry, Laid}
+use Rattle.label_fix.specs.Registers.{iteration}
 use Rattle.label_fix.specs.Stretches.{Stops, Ends}
 use Rattle.scalar_words.specs.Layout.{Homes}
 use Rattle.scalar_words.specs.KernelRegisters.{kernel_homes}
@@ -42,7 +43,7 @@ frame_of s = record { sp = s.sp; z = s.z; p = s.p; ffr = s.ffr; vl = s.vl; stops
 -- A state before iteration i, which stands in X9: the parameters and the accumulators have their values in their registers.
 pub record AtIteration (R : ℕ → ℕ) (k : Program) (i : ℕ) (names : Names) (m : Memory) (s : State) : Type 0 where
   pub sized : length s.x ≡ 31
-  pub index : x_at s 9 ≡ i
+  pub index : x_at s iteration ≡ i
   pub ranged : AreRanged (var_scope k).visible names
   pub held : AreHeld (kernel_homes R k) names s
   pub memory : s.memory ≡ m

@@ -2,6 +2,7 @@
 use Rattle.std.specs.Prelude.{ℕ, ◌<◌, ◌≤◌, ℤ, List, Option, Some, None, option_map, unwrap_or, slice_index, nat_eq, Bool, false, ◌&&◌, bytes_eq}
 use Rattle.std.specs.List.{find}
 use Rattle.kernel_tree.specs.declared.ops.Ty.{Ty}
+use Rattle.label_fix.specs.Registers.{xzr}
 use Rattle.loop_form.specs.Needs.{same_number}
 
 -- what a register may hold while iterations last: a number, or the address in another register and so many bytes more
@@ -106,7 +107,7 @@ register_of h = h.register
 
 -- the register of a name; a name that is not visible is read as zero
 abbrev pub register_at : Homes → List ℕ → ℕ
-register_at homes x = unwrap_or (option_map register_of (find (is_home x) homes)) 31
+register_at homes x = unwrap_or (option_map register_of (find (is_home x) homes)) xzr
 
 -- a value is kept up to an item
 abbrev pub Lasts : Option ℕ → ℕ → Type 0

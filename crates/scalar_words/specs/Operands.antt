@@ -4,6 +4,7 @@ use Rattle.a64_code.specs.Table.{add, sub, madd, land, orr, eor, csel}
 use Rattle.machine_model.specs.InstructionTable.{Listed}
 use Rattle.kernel_tree.specs.declared.ops.BinaryOp.{BinaryOp}
 use Rattle.label_fix.specs.DraftRun.{word_of}
+use Rattle.label_fix.specs.Registers.{xzr}
 use Rattle.scalar_words.specs.Words.{condition}
 use Rattle.kernel_tree.specs.declared.ops.BinaryOp.TheVariants as binary
 use Rattle.kernel_tree.specs.declared.ops.CompareOp.TheVariants as compare
@@ -12,7 +13,7 @@ use Rattle.kernel_tree.specs.declared.ops.CompareOp.TheVariants as compare
 abbrev pub operation_word : BinaryOp → Bool → ℕ → ℕ → ℕ → Listed
 operation_word binary.Add signed d a b = word_of add (d ∷ a ∷ 0 ∷ b ∷ 0 ∷ [])
 operation_word binary.Sub signed d a b = word_of sub (d ∷ a ∷ 0 ∷ b ∷ 0 ∷ [])
-operation_word binary.Mul signed d a b = word_of madd (d ∷ a ∷ 31 ∷ b ∷ [])
+operation_word binary.Mul signed d a b = word_of madd (d ∷ a ∷ xzr ∷ b ∷ [])
 operation_word binary.And signed d a b = word_of land (d ∷ a ∷ 0 ∷ b ∷ 0 ∷ [])
 operation_word binary.Or signed d a b = word_of orr (d ∷ a ∷ 0 ∷ b ∷ 0 ∷ [])
 operation_word binary.Xor signed d a b = word_of eor (d ∷ a ∷ 0 ∷ b ∷ 0 ∷ [])

@@ -1,5 +1,6 @@
 -- Registers of items and of names that do not meet.
 use Rattle.std.specs.Prelude.{◌≡◌, ◌≢◌, ℕ, suc, ◌<◌, ◌≤◌, [], ◌∷◌, Some, None, Bool, true, false, List}
+use Rattle.label_fix.specs.Registers.{iteration}
 use Rattle.scalar_words.specs.Layout.{Key, Layout, Home, Homes, reg_of, last_use_at, constant_at, IsGiven, IsMade, Lasts, is_home}
 
 -- registers of items: in range, and different where one is made while the other is needed; those that hold numbers and
@@ -8,7 +9,7 @@ pub record Assigned (L : Layout) : Type 0 where
   pub low : (p : ℕ) → IsMade L p → 10 ≤ reg_of L p
   pub high : (p : ℕ) → IsMade L p → reg_of L p ≤ 25
   pub apart : (p q : ℕ) → q < p → p < last_use_at L q → IsMade L p → reg_of L p ≢ reg_of L q
-  pub constants : (z : Key) (r : ℕ) → constant_at L z ≡ Some r → (r < 9) × IsGiven 9 z
+  pub constants : (z : Key) (r : ℕ) → constant_at L z ≡ Some r → (r < iteration) × IsGiven iteration z
 
 -- a name's register is none of those that items from p on write while the name is needed
 pub record IsSafe (L : Layout) (p : ℕ) (h : Home) : Type 0 where

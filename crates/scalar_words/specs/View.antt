@@ -2,6 +2,7 @@
 use Rattle.std.specs.Prelude.{ℕ, List, map, Option, Some, None, option_map, Bool, bytes_eq}
 use Rattle.std.specs.List.{find}
 use Rattle.word_rows.specs.declared.Bits.{Bits}
+use Rattle.label_fix.specs.Registers.{xzr}
 use Rattle.kernel_scope.specs.Scopes.{lent_text}
 use Rattle.scalar_words.specs.declared.constant.Constant.{Constant}
 use Rattle.scalar_words.specs.declared.constant.Key.{Key}
@@ -72,6 +73,6 @@ register_in h = h.register
 abbrev pub register_among : List Home → List ℕ → Option (Bits 5)
 register_among hs x = option_map register_in (find (named x) hs)
 
-abbrev pub number_or_31 : Option (Bits 5) → ℕ
-number_or_31 None = 31
-number_or_31 (Some r) = r.number
+abbrev pub number_or_xzr : Option (Bits 5) → ℕ
+number_or_xzr None = xzr
+number_or_xzr (Some r) = r.number

@@ -9,6 +9,8 @@ use Rattle.kernel_tree.specs.declared.ops.CompareOp.{CompareOp}
 use Rattle.kernel_tree.specs.Wrap.{bits_of, is_signed}
 use Rattle.kernel_meaning.specs.TypeValues.{binary_leaves}
 use Rattle.label_fix.specs.DraftRun.{DraftEntry, Put, word_of, ins}
+use Rattle.label_fix.specs.Registers.{xzr}
+use Rattle.label_fix.specs.Conditions as conditions
 use Rattle.kernel_tree.specs.declared.ops.BinaryOp.TheVariants as binary
 use Rattle.kernel_tree.specs.declared.ops.CompareOp.TheVariants as compare
 
@@ -73,11 +75,11 @@ abbrev pub extension : Ty → ℕ → ℕ → DraftEntry
 extension t d a = Put (extending t d a)
 
 abbrev pub copy : ℕ → ℕ → DraftEntry
-copy d a = ins orr (d ∷ 31 ∷ 0 ∷ a ∷ 0 ∷ [])
+copy d a = ins orr (d ∷ xzr ∷ 0 ∷ a ∷ 0 ∷ [])
 
 -- a register into another one: no word where they are one
 abbrev pub copy_word : ℕ → ℕ → Option Listed
-copy_word d a = if nat_eq d a then None else Some (word_of orr (d ∷ 31 ∷ 0 ∷ a ∷ 0 ∷ []))
+copy_word d a = if nat_eq d a then None else Some (word_of orr (d ∷ xzr ∷ 0 ∷ a ∷ 0 ∷ []))
 
 abbrev pub is_narrow : Ty → Bool
 is_narrow t = nat_lt (bits_of t) 64
@@ -92,27 +94,27 @@ settle_word leaves t d = if leaves && is_narrow t then Some (extending t d d) el
 
 -- the condition that holds of two operands, by whether they are signed
 abbrev pub condition : CompareOp → Bool → ℕ
-condition compare.Eq signed = 0
-condition compare.Ne signed = 1
-condition compare.Lt true = 11
-condition compare.Lt false = 3
-condition compare.Le true = 13
-condition compare.Le false = 9
-condition compare.Gt true = 12
-condition compare.Gt false = 8
-condition compare.Ge true = 10
-condition compare.Ge false = 2
+condition compare.Eq signed = conditions.eq
+condition compare.Ne signed = conditions.ne
+condition compare.Lt true = conditions.lt
+condition compare.Lt false = conditions.lo
+condition compare.Le true = conditions.le
+condition compare.Le false = conditions.ls
+condition compare.Gt true = conditions.gt
+condition compare.Gt false = conditions.hi
+condition compare.Ge true = conditions.ge
+condition compare.Ge false = conditions.hs
 
 -- an operator before its result is settled, by whether its type is signed
 abbrev pub operation_code : BinaryOp → Bool → ℕ → ℕ → ℕ → List DraftEntry → List DraftEntry
 operation_code binary.Add signed d a b rest = ins add (d ∷ a ∷ 0 ∷ b ∷ 0 ∷ []) ∷ rest
 operation_code binary.Sub signed d a b rest = ins sub (d ∷ a ∷ 0 ∷ b ∷ 0 ∷ []) ∷ rest
-operation_code binary.Mul signed d a b rest = ins madd (d ∷ a ∷ 31 ∷ b ∷ []) ∷ rest
+operation_code binary.Mul signed d a b rest = ins madd (d ∷ a ∷ xzr ∷ b ∷ []) ∷ rest
 operation_code binary.And signed d a b rest = ins land (d ∷ a ∷ 0 ∷ b ∷ 0 ∷ []) ∷ rest
 operation_code binary.Or signed d a b rest = ins orr (d ∷ a ∷ 0 ∷ b ∷ 0 ∷ []) ∷ rest
 operation_code binary.Xor signed d a b rest = ins eor (d ∷ a ∷ 0 ∷ b ∷ 0 ∷ []) ∷ rest
-operation_code binary.Min signed d a b rest = ins subs (31 ∷ a ∷ 0 ∷ b ∷ 0 ∷ []) ∷ ins csel (d ∷ b ∷ condition compare.Gt signed ∷ a ∷ []) ∷ rest
-operation_code binary.Max signed d a b rest = ins subs (31 ∷ a ∷ 0 ∷ b ∷ 0 ∷ []) ∷ ins csel (d ∷ a ∷ condition compare.Gt signed ∷ b ∷ []) ∷ rest
+operation_code binary.Min signed d a b rest = ins subs (xzr ∷ a ∷ 0 ∷ b ∷ 0 ∷ []) ∷ ins csel (d ∷ b ∷ condition compare.Gt signed ∷ a ∷ []) ∷ rest
+operation_code binary.Max signed d a b rest = ins subs (xzr ∷ a ∷ 0 ∷ b ∷ 0 ∷ []) ∷ ins csel (d ∷ a ∷ condition compare.Gt signed ∷ b ∷ []) ∷ rest
 
 abbrev pub binary_code : BinaryOp → Ty → ℕ → ℕ → ℕ → List DraftEntry → List DraftEntry
 binary_code op t d a b rest = operation_code op (is_signed t) d a b (word_code (settle_word (binary_leaves op) t d) rest)

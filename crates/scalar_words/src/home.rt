@@ -5,9 +5,8 @@ ghost use Rattle.kernel_tree.specs.Plain.{name_of};
 ghost use Rattle.scalar_words.specs.View.{homes_of};
 ghost use Rattle.scalar_words.specs.Layout as layout;
 
-use a64_code::Reg;
+use a64_code::{Reg, zero};
 use kernel_tree::Name;
-use word_rows::Bits;
 
 /// A name that is visible, the register of its value, and the item until which it is kept there, if not throughout.
 #[derive(Drop)]
@@ -26,7 +25,7 @@ pub fn register_named(homes: &[Home], text: &str) -> Reg
             return home.register;
         }
     }
-    Bits { number: 31 }
+    zero()
 }
 
 /// The register of a name.

@@ -7,6 +7,7 @@ ghost use Rattle.a64_code.specs.Table as table;
 ghost use Rattle.scalar_words.specs.Words as words;
 ghost use Rattle.scalar_words.specs.Operands as operands;
 ghost use Rattle.label_fix.specs.DraftRun as plain;
+ghost use Rattle.label_fix.specs.Registers.{xzr};
 ghost use Rattle.a64_code.specs.View as seen;
 
 use a64_code::{
@@ -57,15 +58,11 @@ pub fn copy(d: Reg, a: Reg) -> Word
 pub fn extending(ty: Ty, d: Reg, a: Reg) -> Word
     ensures { word_view result ≡ words.extending ty d.number a.number }
 {
-    match ty {
-        Ty::I8 => field(BitfieldOp::Sbfm, d, a, 7),
-        Ty::I16 => field(BitfieldOp::Sbfm, d, a, 15),
-        Ty::I32 => field(BitfieldOp::Sbfm, d, a, 31),
-        Ty::I64 => field(BitfieldOp::Sbfm, d, a, 63),
-        Ty::U8 => field(BitfieldOp::Ubfm, d, a, 7),
-        Ty::U16 => field(BitfieldOp::Ubfm, d, a, 15),
-        Ty::U32 => field(BitfieldOp::Ubfm, d, a, 31),
-        Ty::U64 => field(BitfieldOp::Ubfm, d, a, 63),
+    let top = ty.bits() - 1;
+    if ty.is_signed() {
+        field(BitfieldOp::Sbfm, d, a, top)
+    } else {
+        field(BitfieldOp::Ubfm, d, a, top)
     }
 }
 
@@ -99,7 +96,7 @@ pub fn wide(op: MoveWideOp, d: Reg, imm: u32, hw: u32) -> Word
 
 /// MADD with the zero register.
 pub fn multiply(d: Reg, a: Reg, b: Reg) -> Word
-    ensures { word_view result ≡ plain.word_of table.madd (d.number ∷ a.number ∷ 31 ∷ b.number ∷ []) }
+    ensures { word_view result ≡ plain.word_of table.madd (d.number ∷ a.number ∷ xzr ∷ b.number ∷ []) }
 {
     Word::A(A64::MultiplyAdd {
         op: MultiplyOp::Madd,
@@ -160,7 +157,7 @@ pub fn operation_word(op: BinaryOp, signed: bool, d: Reg, a: Reg, b: Reg) -> Wor
 pub fn is_narrow(ty: Ty) -> bool
     ensures { result ≡ words.is_narrow ty }
 {
-    !matches!(ty, Ty::I64 | Ty::U64)
+    ty.bits() < 64
 }
 
 fn count_halves(number: u32, h0: u32, h1: u32, h2: u32, h3: u32) -> u32

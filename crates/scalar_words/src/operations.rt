@@ -14,7 +14,7 @@ use crate::instructions::{
     add_sub, copy, extending, filler, has_ones, is_narrow, operation_word, wide,
 };
 use a64_code::{AddSubOp, MoveWideOp, Reg, zero};
-use kernel_meaning::{binary_leaves, is_signed};
+use kernel_meaning::binary_leaves;
 use kernel_tree::{BinaryOp, Ty, UpdateOp};
 use label_fix::{Draft, Word};
 use std::alloc::AllocError;
@@ -138,7 +138,7 @@ pub fn emit_binary(
     ensures { OnOk result (Emits draft.old draft.new draft.old.labels
         (words.binary_code op ty d.number a.number b.number)) }
 {
-    emit_operation(draft, op, is_signed(ty), d, a, b)?;
+    emit_operation(draft, op, ty.is_signed(), d, a, b)?;
     emit_settle(draft, binary_leaves(op), ty, d)
 }
 

@@ -1,20 +1,13 @@
 -- A text read word by word: its blanks and its numbers.
-use Rattle.std.proofs.Common.{◌≡◌, ℕ, List, [], ◌∷◌, ◌++◌, Bool, true, false, None, refl, sym, ap, ap₂, ◌∙◌, append_assoc, eqb}
-use Rattle.std.proofs.lemmas.Bool.{eqb-true, and_parts, not-true}
+use Rattle.std.proofs.Common.{◌≡◌, ℕ, List, [], ◌∷◌, ◌++◌, Bool, true, false, None, refl, sym, ap, ◌∙◌, append_assoc}
+use Rattle.std.proofs.lemmas.Bool.{and_parts, not-true}
 use Rattle.std.specs.Prelude.{◌&&◌, not, bytes_eq}
 use Rattle.std.specs.List.{list_all}
 use Rattle.std.proofs.lemmas.List.{append-nil}
 use Rattle.number_text.specs.Numbers.{decimal_of}
+use Rattle.number_text.proofs.Bytes.{bytes_eq-told}
 use Rattle.asm_forms.specs.Blanks.{is_word_byte, meanings, meaning_in, blank_of, over_words, blanked_word, numbers_of_word, byte_kept, no_number}
 use Rattle.sve_asm.proofs.Words.{IsBlanked}
-
-pub bytes_same : (a b : List ℕ) → bytes_eq a b ≡ true → a ≡ b
-bytes_same [] [] h = refl
-bytes_same [] (y ∷ b) h = cc
-bytes_same (x ∷ a) [] h = cc
-bytes_same (x ∷ a) (y ∷ b) h =
-    let p = and_parts (eqb x y) (bytes_eq a b) h in
-    ap₂ (λ (u : ℕ) (v : List ℕ). u ∷ v) (eqb-true x y p.0) (bytes_same a b p.1)
 
 -- no word goes on at the front of the text
 abbrev pub ends : List ℕ → Bool
@@ -27,30 +20,30 @@ closes [] = false
 closes (b ∷ []) = not (is_word_byte b)
 closes (b ∷ c ∷ text) = closes (c ∷ text)
 
-goes_on : (f : List ℕ → List ℕ) (g : ℕ → List ℕ) (w p text : List ℕ) → list_all is_word_byte w ≡ true → over_words f g p (w ++ text) ≡ over_words f g (p ++ w) text
+over_words_of_word : (f : List ℕ → List ℕ) (g : ℕ → List ℕ) (w p text : List ℕ) → list_all is_word_byte w ≡ true → over_words f g p (w ++ text) ≡ over_words f g (p ++ w) text
 unfolding over_words
-goes_on f g [] p text h = rw append-nil refl
-goes_on f g (b ∷ w) p text h =
+over_words_of_word f g [] p text h = rw append-nil refl
+over_words_of_word f g (b ∷ w) p text h =
     let q = and_parts (is_word_byte b) (list_all is_word_byte w) h in
-    rw q.0 (goes_on f g w (p ++ b ∷ []) text q.1 ∙ ap (λ x. over_words f g x text) (append_assoc p (b ∷ []) w))
+    rw q.0 (over_words_of_word f g w (p ++ b ∷ []) text q.1 ∙ ap (λ x. over_words f g x text) (append_assoc p (b ∷ []) w))
 
-stops : (f : List ℕ → List ℕ) (g : ℕ → List ℕ) (p text : List ℕ) → f [] ≡ [] → ends text ≡ true → over_words f g p text ≡ f p ++ over_words f g [] text
+over_words_at_stop : (f : List ℕ → List ℕ) (g : ℕ → List ℕ) (p text : List ℕ) → f [] ≡ [] → ends text ≡ true → over_words f g p text ≡ f p ++ over_words f g [] text
 unfolding over_words
-stops f g p [] e h = sym (rw (e, append-nil) refl)
-stops f g p (b ∷ text) e h = rw (not-true (is_word_byte b) h, e) (append_assoc (f p) (g b) (over_words f g [] text))
+over_words_at_stop f g p [] e h = sym (rw (e, append-nil) refl)
+over_words_at_stop f g p (b ∷ text) e h = rw (not-true (is_word_byte b) h, e) (append_assoc (f p) (g b) (over_words f g [] text))
 
-one_more : (f : List ℕ → List ℕ) (g : ℕ → List ℕ) (b : ℕ) (c p text : List ℕ) (x : Bool) → is_word_byte b ≡ x
+over_words_of_byte : (f : List ℕ → List ℕ) (g : ℕ → List ℕ) (b : ℕ) (c p text : List ℕ) (x : Bool) → is_word_byte b ≡ x
     → ((q : List ℕ) → over_words f g q (c ++ text) ≡ over_words f g q c ++ over_words f g [] text)
     → over_words f g p (b ∷ (c ++ text)) ≡ over_words f g p (b ∷ c) ++ over_words f g [] text
 unfolding over_words
-one_more f g b c p text true w ih = rw w (ih (p ++ b ∷ []))
-one_more f g b c p text false w ih = rw (w, ih []) (sym (append_assoc (f p ++ g b) (over_words f g [] c) (over_words f g [] text)))
+over_words_of_byte f g b c p text true w ih = rw w (ih (p ++ b ∷ []))
+over_words_of_byte f g b c p text false w ih = rw (w, ih []) (sym (append_assoc (f p ++ g b) (over_words f g [] c) (over_words f g [] text)))
 
-parts : (f : List ℕ → List ℕ) (g : ℕ → List ℕ) (c p text : List ℕ) → f [] ≡ [] → closes c ≡ true → over_words f g p (c ++ text) ≡ over_words f g p c ++ over_words f g [] text
+over_words_append : (f : List ℕ → List ℕ) (g : ℕ → List ℕ) (c p text : List ℕ) → f [] ≡ [] → closes c ≡ true → over_words f g p (c ++ text) ≡ over_words f g p c ++ over_words f g [] text
 unfolding over_words
-parts f g [] p text e h = cc
-parts f g (b ∷ []) p text e h = rw (not-true (is_word_byte b) h, e, append-nil) refl
-parts f g (b ∷ d ∷ c) p text e h = one_more f g b (d ∷ c) p text (is_word_byte b) refl (λ q. parts f g (d ∷ c) q text e h)
+over_words_append f g [] p text e h = cc
+over_words_append f g (b ∷ []) p text e h = rw (not-true (is_word_byte b) h, e, append-nil) refl
+over_words_append f g (b ∷ d ∷ c) p text e h = over_words_of_byte f g b (d ∷ c) p text (is_word_byte b) refl (λ q. over_words_append f g (d ∷ c) q text e h)
 
 -- the blanks and the numbers of a text
 pub record Reads (text blanks numbers : List ℕ) : Type 0 where
@@ -72,8 +65,8 @@ reads-none = record { blanks_are = no_blank; numbers_are = none_there }
 -- a word with a blank stands in front
 pub reads-blank : {w text blanks numbers : List ℕ} {b n : ℕ} → IsBlanked w b n → ends text ≡ true → Reads text blanks numbers → Reads (w ++ text) (b ∷ blanks) (n ∷ numbers)
 reads-blank {w} {text} {blanks} {numbers} {b} {n} is e r = record {
-  blanks_are = goes_on blanked_word byte_kept w [] text is.word ∙ stops blanked_word byte_kept w text no_blank e ∙ rw (is.blank, r.blanks_are) refl;
-  numbers_are = goes_on numbers_of_word no_number w [] text is.word ∙ stops numbers_of_word no_number w text none_there e ∙ rw (is.blank, r.numbers_are) refl;
+  blanks_are = over_words_of_word blanked_word byte_kept w [] text is.word ∙ over_words_at_stop blanked_word byte_kept w text no_blank e ∙ rw (is.blank, r.blanks_are) refl;
+  numbers_are = over_words_of_word numbers_of_word no_number w [] text is.word ∙ over_words_at_stop numbers_of_word no_number w text none_there e ∙ rw (is.blank, r.numbers_are) refl;
 }
 
 -- and nothing behind it
@@ -84,8 +77,8 @@ reads-last {w} {b} {n} is = rw append-nil at (reads-blank {text = []} is refl re
 pub reads-bytes : (c : List ℕ) {text blanks numbers : List ℕ} → closes c ≡ true → Reads text blanks numbers
     → Reads (c ++ text) (over_words blanked_word byte_kept [] c ++ blanks) (over_words numbers_of_word no_number [] c ++ numbers)
 reads-bytes c {text} {blanks} {numbers} h r = record {
-  blanks_are = parts blanked_word byte_kept c [] text no_blank h ∙ rw r.blanks_are refl;
-  numbers_are = parts numbers_of_word no_number c [] text none_there h ∙ rw r.numbers_are refl;
+  blanks_are = over_words_append blanked_word byte_kept c [] text no_blank h ∙ rw r.blanks_are refl;
+  numbers_are = over_words_append numbers_of_word no_number c [] text none_there h ∙ rw r.numbers_are refl;
 }
 
 -- bytes that end between words, and have no number
@@ -96,8 +89,8 @@ pub reads-plain : (c : List ℕ) {text blanks numbers : List ℕ} → is_plain c
 reads-plain c {text} {blanks} {numbers} h r =
     let p = and_parts (closes c) (bytes_eq (over_words blanked_word byte_kept [] c) c && bytes_eq (over_words numbers_of_word no_number [] c) []) h in
     let q = and_parts (bytes_eq (over_words blanked_word byte_kept [] c) c) (bytes_eq (over_words numbers_of_word no_number [] c) []) p.1 in
-    let b = bytes_same (over_words blanked_word byte_kept [] c) c q.0 in
-    let n = bytes_same (over_words numbers_of_word no_number [] c) [] q.1 in
+    let b = bytes_eq-told (over_words blanked_word byte_kept [] c) c q.0 in
+    let n = bytes_eq-told (over_words numbers_of_word no_number [] c) [] q.1 in
     let r = reads-bytes c p.0 r in
     record { blanks_are = r.blanks_are ∙ ap (λ x. x ++ blanks) b; numbers_are = r.numbers_are ∙ ap (λ x. x ++ numbers) n }
 
@@ -112,6 +105,6 @@ last_number w e = rw e refl
 -- a word without a meaning that stands last
 pub reads-word : (w : List ℕ) → list_all is_word_byte w ≡ true → blank_of w ≡ None → Reads w w []
 reads-word w h e = record {
-  blanks_are = ap (over_words blanked_word byte_kept []) (sym (append-nil w)) ∙ goes_on blanked_word byte_kept w [] [] h ∙ last_word w e;
-  numbers_are = ap (over_words numbers_of_word no_number []) (sym (append-nil w)) ∙ goes_on numbers_of_word no_number w [] [] h ∙ last_number w e;
+  blanks_are = ap (over_words blanked_word byte_kept []) (sym (append-nil w)) ∙ over_words_of_word blanked_word byte_kept w [] [] h ∙ last_word w e;
+  numbers_are = ap (over_words numbers_of_word no_number []) (sym (append-nil w)) ∙ over_words_of_word numbers_of_word no_number w [] [] h ∙ last_number w e;
 }

@@ -139,9 +139,9 @@ abbrev pub Each : (ℕ → Type 0) → ℕ → Type 0
 Each P zero = Unit {0}
 Each P (suc n) = P n × Each P n
 
-pub each : (P : ℕ → Type 0) (n : ℕ) → Each P n → (d : ℕ) → d < n → P d
-each P zero p d l = absurd (omega arith)
-each P (suc n) p d l = by_test (eqb d n) (λ q. subst P (sym (eqb-true d n q)) p.0) (λ q. each P n p.1 d (grind (arith, nat_tests)))
+pub holds_below : (P : ℕ → Type 0) (n : ℕ) → Each P n → (d : ℕ) → d < n → P d
+holds_below P zero p d l = absurd (omega arith)
+holds_below P (suc n) p d l = by_test (eqb d n) (λ q. subst P (sym (eqb-true d n q)) p.0) (λ q. holds_below P n p.1 d (grind (arith, nat_tests)))
 
 -- ---- a word whose text has no operands
 pub whole_word : (m : List ℕ) (base w : ℕ) → is_mnemonic m ≡ true → form_of m [] ≡ Some (Factors [], base) → w < 2 ^ 32 → base ≡ w → candidate m ≡ Some w

@@ -6,11 +6,11 @@ use Rattle.std.specs.List.{list_all, prefix_len}
 use Rattle.std.proofs.lemmas.Bool.{eqb-true, and_parts}
 use Rattle.std.proofs.lemmas.List.Folds.{list_all-append}
 use Rattle.number_text.specs.Numbers.{given, following, number_of, hexadecimal_of, decimal_of, are_digits, small_value, is_digit, is_hex_digit}
+use Rattle.number_text.proofs.Bytes.{bytes_eq-told}
 use Rattle.list_text.specs.Text.{word_text}
 use Rattle.asm_forms.specs.Blanks.{is_word_byte, over_words, blanked, blanked_word, byte_kept, numbers_of}
 use Rattle.asm_forms.specs.Rules.{Sum, Form, form_in, form_of, first_of, data_processing, branches, offset_accesses, indexed_accesses, predicates, counts, vectors, vector_accesses}
 use Rattle.asm_forms.specs.Reading.{candidate, by_form, if_word, listed_candidate, unlisted_candidate, mnemonic_of, operands_of}
-use Rattle.sve_asm.proofs.ByWords.{bytes_same}
 use Rattle.sve_asm.proofs.Complete.{text-back}
 
 abbrev pub is_clean_byte : ℕ → Bool
@@ -28,7 +28,7 @@ all_clean (f ∷ fs) = is_clean f.operands && all_clean fs
 form_step : (f : Form) (fs : List Form) (m k : List ℕ) (x : Sum × ℕ) (b : Bool) → bytes_eq f.operands k ≡ b → is_clean f.operands ≡ true
     → (form_in fs m k ≡ Some x → is_clean k ≡ true) → form_in (f ∷ fs) m k ≡ Some x → is_clean k ≡ true
 unfolding form_in
-form_step f fs m k x true w c ih e = subst (λ t. is_clean t ≡ true) (bytes_same f.operands k w) c
+form_step f fs m k x true w c ih e = subst (λ t. is_clean t ≡ true) (bytes_eq-told f.operands k w) c
 form_step f fs m k x false w c ih e = ih (rw w at e)
 
 form_in-clean : (fs : List Form) (m k : List ℕ) (x : Sum × ℕ) → all_clean fs ≡ true → form_in fs m k ≡ Some x → is_clean k ≡ true

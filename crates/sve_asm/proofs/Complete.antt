@@ -25,15 +25,15 @@ pub record Found {Name : Type 0} (row : Name → Row) (w : ℕ) (i : Instruction
   pub taken : takes (row i.name) w ≡ true
   pub numbers : i.numbers ≡ numbers_in w (row i.name).fields
 
-pub found : {Name : Type 0} (row : Name → Row) (names : List Name) (w : ℕ) (i : Instruction Name) → reads row names w ≡ Some i → Found row w i
+pub found_of_reads : {Name : Type 0} (row : Name → Row) (names : List Name) (w : ℕ) (i : Instruction Name) → reads row names w ≡ Some i → Found row w i
 unfolding reads
-found row [] w i e = cc
-found row (n ∷ names) w i e =
+found_of_reads row [] w i e = cc
+found_of_reads row (n ∷ names) w i e =
     elim (cases_Bool (takes (row n) w)) [
       | inl h ↦
           let s : record { name = n; numbers = numbers_in w (row n).fields } ≡ i = same_Some _ i (sym (cond-true _ _ _ h) ∙ e) in
           subst (Found row w) s (record { taken = h; numbers = refl })
-      | inr h ↦ found row names w i (sym (cond-false _ _ _ h) ∙ e)
+      | inr h ↦ found_of_reads row names w i (sym (cond-false _ _ _ h) ∙ e)
     ]
 
 -- ---- a word in no row
@@ -94,13 +94,13 @@ unlisted-back w h = rw (unlisted_number w h, is_word w h) refl
 sve_back : (w : ℕ) (o : Option (Instruction sve.Name)) → reads sve.row sve.sve_names w ≡ o → w < 2 ^ 32 → candidate (sve_text_or w o) ≡ Some w
 sve_back w None e h = unlisted-back w h
 sve_back w (Some i) e h =
-    let f = found sve.row sve.sve_names w i e in
+    let f = found_of_reads sve.row sve.sve_names w i e in
     ap (λ ns. candidate (sve_text.text_of i.name ns)) f.numbers ∙ sve_row i.name w h f.taken
 
 a64_back : (w : ℕ) (o : Option (Instruction a64.Name)) → reads a64.row a64.a64_names w ≡ o → w < 2 ^ 32 → candidate (a64_text_or w o) ≡ Some w
 a64_back w None e h = sve_back w (reads sve.row sve.sve_names w) refl h
 a64_back w (Some i) e h =
-    let f = found a64.row a64.a64_names w i e in
+    let f = found_of_reads a64.row a64.a64_names w i e in
     ap (λ ns. candidate (a64_text.text_of i.name ns)) f.numbers ∙ a64_row i.name w h f.taken
 
 -- the text of a word has that word

@@ -13,8 +13,8 @@ use Rattle.list_text.specs.Parts.{x_register, w_register, x_or_sp, w_or_sp, comm
 use Rattle.list_text.specs.A64Text as a64_text
 use Rattle.list_text.specs.SveText as sve_text
 use Rattle.list_text.specs.Text.{word_text, hex_word, line_text, list_text, unlisted_text, sve_text_or, a64_text_or}
-use Rattle.sve_asm.proofs.Complete.{found}
-use Rattle.sve_asm.proofs.TextLengths.{AreSmall, Fits, same, both, of_length, within, signed_length, x_length, w_length, x_or_sp_length, w_or_sp_length, condition_length, size_length, access_length, dotted_length, z_length, p_length, number_length, index_length, near_branch_length, far_branch_length, left_small, right_small, add_sub_length, shifted_register_length, move_wide_length, multiply_add_length, shift_variable_length, bitfield_length, conditional_select_length, compare_branch_length, exception_length, immediate_length, byte_register_length, at_register_length, predicate_logical_length, break_at_length, element_count_length, vectors_length, bitwise_length, shift_immediate_length, binary_length, unary_length, extend_length, reduction_length, compare_length, load_length, load_first_length, gather_length}
+use Rattle.sve_asm.proofs.Complete.{found_of_reads}
+use Rattle.sve_asm.proofs.TextLengths.{AreSmall, Fits, fits_its_length, fits_append, of_length, fits_of_le, signed_length, x_length, w_length, x_or_sp_length, w_or_sp_length, condition_length, size_length, access_length, dotted_length, z_length, p_length, number_length, index_length, near_branch_length, far_branch_length, left_small, right_small, add_sub_length, shifted_register_length, move_wide_length, multiply_add_length, shift_variable_length, bitfield_length, conditional_select_length, compare_branch_length, exception_length, immediate_length, byte_register_length, at_register_length, predicate_logical_length, break_at_length, element_count_length, vectors_length, bitwise_length, shift_immediate_length, binary_length, unary_length, extend_length, reduction_length, compare_length, load_length, load_first_length, gather_length}
 
 -- ---- the text of each row
 a64_length : (name : a64.Name) (ns : List ℕ) → AreSmall ns → Fits 100 (a64_text.text_of name ns)
@@ -40,15 +40,15 @@ a64_length a64.sbfm ns small = bitfield_length (codes "sbfm ") ns refl small
 a64_length a64.ubfm ns small = bitfield_length (codes "ubfm ") ns refl small
 a64_length a64.csel ns small = conditional_select_length (codes "csel ") ns refl small
 a64_length a64.csinc ns small = conditional_select_length (codes "csinc ") ns refl small
-a64_length a64.b ns small = within 100 (both (same (codes "b ")) (far_branch_length ns small 0)) refl
-a64_length a64.b_cond ns small = within 100 (both (both (both (same (codes "b.")) (condition_length (slice_index ns 0))) (same (codes " "))) (near_branch_length ns small 1)) refl
+a64_length a64.b ns small = fits_of_le 100 (fits_append (fits_its_length (codes "b ")) (far_branch_length ns small 0)) refl
+a64_length a64.b_cond ns small = fits_of_le 100 (fits_append (fits_append (fits_append (fits_its_length (codes "b.")) (condition_length (slice_index ns 0))) (fits_its_length (codes " "))) (near_branch_length ns small 1)) refl
 a64_length a64.cbz ns small = compare_branch_length (codes "cbz ") ns refl small
 a64_length a64.cbnz ns small = compare_branch_length (codes "cbnz ") ns refl small
-a64_length a64.ret ns small = within 100 (both (same (codes "ret ")) (x_length (slice_index ns 0) (small.at 0))) refl
+a64_length a64.ret ns small = fits_of_le 100 (fits_append (fits_its_length (codes "ret ")) (x_length (slice_index ns 0) (small.at 0))) refl
 a64_length a64.svc ns small = exception_length (codes "svc ") ns refl small
 a64_length a64.brk ns small = exception_length (codes "brk ") ns refl small
-a64_length a64.nop ns small = within 100 (same (codes "nop")) refl
-a64_length a64.umov ns small = within 100 (both (both (both (both (same (codes "umov ")) (x_length (slice_index ns 0) (small.at 0))) (same (codes ", v"))) (number_length (slice_index ns 1) (small.at 1))) (same (codes ".d[0]"))) refl
+a64_length a64.nop ns small = fits_of_le 100 (fits_its_length (codes "nop")) refl
+a64_length a64.umov ns small = fits_of_le 100 (fits_append (fits_append (fits_append (fits_append (fits_its_length (codes "umov ")) (x_length (slice_index ns 0) (small.at 0))) (fits_its_length (codes ", v"))) (number_length (slice_index ns 1) (small.at 1))) (fits_its_length (codes ".d[0]"))) refl
 a64_length a64.ldrb ns small = immediate_length (codes "ldrb ") ns refl small w_register 1 w_length refl
 a64_length a64.ldrsb ns small = immediate_length (codes "ldrsb ") ns refl small x_register 1 x_length refl
 a64_length a64.strb ns small = immediate_length (codes "strb ") ns refl small w_register 1 w_length refl
@@ -73,10 +73,10 @@ a64_length a64.str_w_register ns small = at_register_length (codes "str ") ns re
 a64_length a64.str_x_register ns small = at_register_length (codes "str ") ns refl small x_register 3 x_length refl
 
 sve_length : (name : sve.Name) (ns : List ℕ) → AreSmall ns → Fits 100 (sve_text.text_of name ns)
-sve_length sve.ptrue ns small = within 100 (both (both (same (codes "ptrue ")) (p_length (slice_index ns 0) (small.at 0))) (dotted_length (slice_index ns 1))) refl
-sve_length sve.pfalse ns small = within 100 (both (both (same (codes "pfalse ")) (p_length (slice_index ns 0) (small.at 0))) (same (codes ".b"))) refl
-sve_length sve.whilelo ns small = within 100 (both (both (both (both (both (both (same (codes "whilelo ")) (p_length (slice_index ns 0) (small.at 0))) (dotted_length (slice_index ns 3))) (same comma)) (x_length (slice_index ns 1) (small.at 1))) (same comma)) (x_length (slice_index ns 2) (small.at 2))) refl
-sve_length sve.ptest ns small = within 100 (both (both (both (both (same (codes "ptest ")) (p_length (slice_index ns 1) (small.at 1))) (same comma)) (p_length (slice_index ns 0) (small.at 0))) (same (codes ".b"))) refl
+sve_length sve.ptrue ns small = fits_of_le 100 (fits_append (fits_append (fits_its_length (codes "ptrue ")) (p_length (slice_index ns 0) (small.at 0))) (dotted_length (slice_index ns 1))) refl
+sve_length sve.pfalse ns small = fits_of_le 100 (fits_append (fits_append (fits_its_length (codes "pfalse ")) (p_length (slice_index ns 0) (small.at 0))) (fits_its_length (codes ".b"))) refl
+sve_length sve.whilelo ns small = fits_of_le 100 (fits_append (fits_append (fits_append (fits_append (fits_append (fits_append (fits_its_length (codes "whilelo ")) (p_length (slice_index ns 0) (small.at 0))) (dotted_length (slice_index ns 3))) (fits_its_length comma)) (x_length (slice_index ns 1) (small.at 1))) (fits_its_length comma)) (x_length (slice_index ns 2) (small.at 2))) refl
+sve_length sve.ptest ns small = fits_of_le 100 (fits_append (fits_append (fits_append (fits_append (fits_its_length (codes "ptest ")) (p_length (slice_index ns 1) (small.at 1))) (fits_its_length comma)) (p_length (slice_index ns 0) (small.at 0))) (fits_its_length (codes ".b"))) refl
 sve_length sve.p_and ns small = predicate_logical_length (codes "and ") ns refl small
 sve_length sve.p_bic ns small = predicate_logical_length (codes "bic ") ns refl small
 sve_length sve.p_eor ns small = predicate_logical_length (codes "eor ") ns refl small
@@ -84,19 +84,19 @@ sve_length sve.p_orr ns small = predicate_logical_length (codes "orr ") ns refl 
 sve_length sve.p_ands ns small = predicate_logical_length (codes "ands ") ns refl small
 sve_length sve.brka ns small = break_at_length (codes "brka ") ns refl small
 sve_length sve.brkb ns small = break_at_length (codes "brkb ") ns refl small
-sve_length sve.rdffr ns small = within 100 (both (both (same (codes "rdffr ")) (p_length (slice_index ns 0) (small.at 0))) (same (codes ".b"))) refl
-sve_length sve.rdffr_z ns small = within 100 (both (both (both (both (same (codes "rdffr ")) (p_length (slice_index ns 0) (small.at 0))) (same (codes ".b, "))) (p_length (slice_index ns 1) (small.at 1))) (same (codes "/z"))) refl
-sve_length sve.setffr ns small = within 100 (same (codes "setffr")) refl
-sve_length sve.wrffr ns small = within 100 (both (both (same (codes "wrffr ")) (p_length (slice_index ns 0) (small.at 0))) (same (codes ".b"))) refl
+sve_length sve.rdffr ns small = fits_of_le 100 (fits_append (fits_append (fits_its_length (codes "rdffr ")) (p_length (slice_index ns 0) (small.at 0))) (fits_its_length (codes ".b"))) refl
+sve_length sve.rdffr_z ns small = fits_of_le 100 (fits_append (fits_append (fits_append (fits_append (fits_its_length (codes "rdffr ")) (p_length (slice_index ns 0) (small.at 0))) (fits_its_length (codes ".b, "))) (p_length (slice_index ns 1) (small.at 1))) (fits_its_length (codes "/z"))) refl
+sve_length sve.setffr ns small = fits_of_le 100 (fits_its_length (codes "setffr")) refl
+sve_length sve.wrffr ns small = fits_of_le 100 (fits_append (fits_append (fits_its_length (codes "wrffr ")) (p_length (slice_index ns 0) (small.at 0))) (fits_its_length (codes ".b"))) refl
 sve_length sve.cntb ns small = element_count_length (codes "cntb ") ns refl small
 sve_length sve.cnth ns small = element_count_length (codes "cnth ") ns refl small
 sve_length sve.cntw ns small = element_count_length (codes "cntw ") ns refl small
 sve_length sve.cntd ns small = element_count_length (codes "cntd ") ns refl small
-sve_length sve.incp ns small = within 100 (both (both (both (both (same (codes "incp ")) (x_length (slice_index ns 0) (small.at 0))) (same comma)) (p_length (slice_index ns 1) (small.at 1))) (dotted_length (slice_index ns 2))) refl
-sve_length sve.cntp ns small = within 100 (both (both (both (both (both (both (same (codes "cntp ")) (x_length (slice_index ns 0) (small.at 0))) (same comma)) (p_length (slice_index ns 2) (small.at 2))) (same comma)) (p_length (slice_index ns 1) (small.at 1))) (dotted_length (slice_index ns 3))) refl
-sve_length sve.dup ns small = within 100 (both (both (both (same (codes "dup ")) (z_length (slice_index ns 2) (slice_index ns 0) (small.at 0))) (same comma)) (cond_both (slice_index ns 2 == 3) (x_or_sp (slice_index ns 1)) (w_or_sp (slice_index ns 1)) (λ t. Fits 11 t) (λ e. x_or_sp_length (slice_index ns 1) (small.at 1)) (λ e. w_or_sp_length (slice_index ns 1) (small.at 1)))) refl
-sve_length sve.index_row ns small = within 100 (both (both (both (both (both (same (codes "index ")) (z_length (slice_index ns 3) (slice_index ns 0) (small.at 0))) (same comma)) (cond_both (slice_index ns 3 == 3) (x_register (slice_index ns 1)) (w_register (slice_index ns 1)) (λ t. Fits 11 t) (λ e. x_length (slice_index ns 1) (small.at 1)) (λ e. w_length (slice_index ns 1) (small.at 1)))) (same comma)) (let s = small.at 2 in signed_length 1 16 (slice_index ns 2) (omega (arith, s)) (omega (arith, s)))) refl
-sve_length sve.sel ns small = within 100 (both (both (both (both (both (both (both (same (codes "sel ")) (z_length (slice_index ns 4) (slice_index ns 0) (small.at 0))) (same comma)) (p_length (slice_index ns 2) (small.at 2))) (same comma)) (z_length (slice_index ns 4) (slice_index ns 1) (small.at 1))) (same comma)) (z_length (slice_index ns 4) (slice_index ns 3) (small.at 3))) refl
+sve_length sve.incp ns small = fits_of_le 100 (fits_append (fits_append (fits_append (fits_append (fits_its_length (codes "incp ")) (x_length (slice_index ns 0) (small.at 0))) (fits_its_length comma)) (p_length (slice_index ns 1) (small.at 1))) (dotted_length (slice_index ns 2))) refl
+sve_length sve.cntp ns small = fits_of_le 100 (fits_append (fits_append (fits_append (fits_append (fits_append (fits_append (fits_its_length (codes "cntp ")) (x_length (slice_index ns 0) (small.at 0))) (fits_its_length comma)) (p_length (slice_index ns 2) (small.at 2))) (fits_its_length comma)) (p_length (slice_index ns 1) (small.at 1))) (dotted_length (slice_index ns 3))) refl
+sve_length sve.dup ns small = fits_of_le 100 (fits_append (fits_append (fits_append (fits_its_length (codes "dup ")) (z_length (slice_index ns 2) (slice_index ns 0) (small.at 0))) (fits_its_length comma)) (cond_both (slice_index ns 2 == 3) (x_or_sp (slice_index ns 1)) (w_or_sp (slice_index ns 1)) (λ t. Fits 11 t) (λ e. x_or_sp_length (slice_index ns 1) (small.at 1)) (λ e. w_or_sp_length (slice_index ns 1) (small.at 1)))) refl
+sve_length sve.index_row ns small = fits_of_le 100 (fits_append (fits_append (fits_append (fits_append (fits_append (fits_its_length (codes "index ")) (z_length (slice_index ns 3) (slice_index ns 0) (small.at 0))) (fits_its_length comma)) (cond_both (slice_index ns 3 == 3) (x_register (slice_index ns 1)) (w_register (slice_index ns 1)) (λ t. Fits 11 t) (λ e. x_length (slice_index ns 1) (small.at 1)) (λ e. w_length (slice_index ns 1) (small.at 1)))) (fits_its_length comma)) (let s = small.at 2 in signed_length 1 16 (slice_index ns 2) (omega (arith, s)) (omega (arith, s)))) refl
+sve_length sve.sel ns small = fits_of_le 100 (fits_append (fits_append (fits_append (fits_append (fits_append (fits_append (fits_append (fits_its_length (codes "sel ")) (z_length (slice_index ns 4) (slice_index ns 0) (small.at 0))) (fits_its_length comma)) (p_length (slice_index ns 2) (small.at 2))) (fits_its_length comma)) (z_length (slice_index ns 4) (slice_index ns 1) (small.at 1))) (fits_its_length comma)) (z_length (slice_index ns 4) (slice_index ns 3) (small.at 3))) refl
 sve_length sve.z_add ns small = vectors_length (codes "add ") ns refl small
 sve_length sve.z_sub ns small = vectors_length (codes "sub ") ns refl small
 sve_length sve.z_and ns small = bitwise_length (codes "and ") ns refl small
@@ -125,7 +125,7 @@ sve_length sve.sxth ns small = unary_length (codes "sxth ") ns refl small
 sve_length sve.uxth ns small = unary_length (codes "uxth ") ns refl small
 sve_length sve.sxtw ns small = extend_length (codes "sxtw ") ns refl small
 sve_length sve.uxtw ns small = extend_length (codes "uxtw ") ns refl small
-sve_length sve.uaddv ns small = reduction_length (codes "uaddv ") ns refl small (codes "d") (same (codes "d"))
+sve_length sve.uaddv ns small = reduction_length (codes "uaddv ") ns refl small (codes "d") (fits_its_length (codes "d"))
 sve_length sve.smaxv ns small = reduction_length (codes "smaxv ") ns refl small (size_letter (slice_index ns 3)) (size_length (slice_index ns 3))
 sve_length sve.umaxv ns small = reduction_length (codes "umaxv ") ns refl small (size_letter (slice_index ns 3)) (size_length (slice_index ns 3))
 sve_length sve.sminv ns small = reduction_length (codes "sminv ") ns refl small (size_letter (slice_index ns 3)) (size_length (slice_index ns 3))
@@ -149,7 +149,7 @@ sve_length sve.gld1d ns small = gather_length (codes "ld1d") ns refl small
 sve_length sve.gld1sb ns small = gather_length (codes "ld1sb") ns refl small
 sve_length sve.gld1sh ns small = gather_length (codes "ld1sh") ns refl small
 sve_length sve.gld1sw ns small = gather_length (codes "ld1sw") ns refl small
-sve_length sve.st1 ns small = within 100 (both (both (both (both (both (both (same (codes "st1")) (access_length (slice_index ns 5))) (same (codes " {"))) (z_length (slice_index ns 4) (slice_index ns 0) (small.at 0))) (same (codes "}, "))) (p_length (slice_index ns 2) (small.at 2))) (let s = small.at 5 in index_length (slice_index ns 1) (slice_index ns 3) (slice_index ns 5) (small.at 1) (small.at 3) (omega (arith, s)))) refl
+sve_length sve.st1 ns small = fits_of_le 100 (fits_append (fits_append (fits_append (fits_append (fits_append (fits_append (fits_its_length (codes "st1")) (access_length (slice_index ns 5))) (fits_its_length (codes " {"))) (z_length (slice_index ns 4) (slice_index ns 0) (small.at 0))) (fits_its_length (codes "}, "))) (p_length (slice_index ns 2) (small.at 2))) (let s = small.at 5 in index_length (slice_index ns 1) (slice_index ns 3) (slice_index ns 5) (small.at 1) (small.at 3) (omega (arith, s)))) refl
 
 -- ---- the text of a word
 field_small : (word : ℕ) (fields : List Field) (k : ℕ) → word < 2 ^ 32 → slice_index (numbers_in word fields) k < 2 ^ 32
@@ -162,7 +162,7 @@ field_small word (f ∷ fs) (suc k) h = field_small word fs k h
 
 numbers_small : {Name : Type 0} (row : Name → Row) (names : List Name) (word : ℕ) (i : Instruction Name) → reads row names word ≡ Some i → word < 2 ^ 32 → AreSmall i.numbers
 numbers_small row names word i e h =
-    let f = found row names word i e in
+    let f = found_of_reads row names word i e in
     subst AreSmall (sym f.numbers) (record { at = λ k. field_small word (row i.name).fields k h })
 
 sve_text_length : (word : ℕ) (i : Option (Instruction sve.Name)) → reads sve.row sve.sve_names word ≡ i → word < 2 ^ 32 → Fits 100 (sve_text_or word i)
@@ -179,7 +179,7 @@ text_length word h = a64_text_length word (reads a64.row a64.a64_names word) ref
 -- ---- a listing
 line_length : (address word : ℕ) → word < 2 ^ 32 → length (line_text address word) ≤ 128
 line_length address word h =
-    (both (both (both (both (both (both (same (hex_word (address / 2 ^ 32))) (same (hex_word (address % 2 ^ 32)))) (same (codes ": "))) (same (hex_word word))) (same (codes " "))) (text_length word h)) (same (codes "\n"))).bound
+    (fits_append (fits_append (fits_append (fits_append (fits_append (fits_append (fits_its_length (hex_word (address / 2 ^ 32))) (fits_its_length (hex_word (address % 2 ^ 32)))) (fits_its_length (codes ": "))) (fits_its_length (hex_word word))) (fits_its_length (codes " "))) (text_length word h)) (fits_its_length (codes "\n"))).bound
 
 lines_length : (address : ℕ) (words : List ℕ) → AllByRecursion (λ w. w < 2 ^ 32) words → length (list_text address words) ≤ 128 * length words
 unfolding list_text

@@ -133,17 +133,17 @@ room words n h = grind (arith, nat_tests)
 after_word : (line word : ℕ) (words : List ℕ) (n : ℕ) → length words + suc n ≤ 65536 → after_line line (Some (Word word)) words ≡ Ok (words ++ word ∷ [])
 after_word line word words n h = rw (room words n h) refl
 
-pub listed : (words : List ℕ) (address line : ℕ) (before : List ℕ) → AllByRecursion (λ w. w < 2 ^ 32) words → length before + length words ≤ 65536
+pub words_listed_so_far : (words : List ℕ) (address line : ℕ) (before : List ℕ) → AllByRecursion (λ w. w < 2 ^ 32) words → length before + length words ≤ 65536
     → after_lines line (lines_of (list_text address words)) before ≡ Ok (before ++ words)
 unfolding after_lines list_text asm_line_of
-listed [] address line before small few = rw append-nil refl
-listed (word ∷ words) address line before small few =
+words_listed_so_far [] address line before small few = rw append-nil refl
+words_listed_so_far (word ∷ words) address line before small few =
     let first = line_with (address / 2 ^ 32) (address % 2 ^ 32) word (word_text word) in
     let said : asm_line_of first ≡ Some (Word word) = line-said (address / 2 ^ 32) (address % 2 ^ 32) word (word_text word) small.0 (text_there (word_text word) word (text-back word small.0)) (read-back word small.0) in
     ap (λ ls. after_lines line ls before) (lines_first address word words small.0)
     ∙ ap (λ o. go_on (after_line line o before) (after_lines (line + 1) (lines_of (list_text (address + 4) words)))) said
     ∙ ap (λ r. go_on r (after_lines (line + 1) (lines_of (list_text (address + 4) words)))) (after_word line word before (length words) few)
-    ∙ listed words (address + 4) (line + 1) (before ++ word ∷ []) small.1 (omega (arith, length-append before (word ∷ [])))
+    ∙ words_listed_so_far words (address + 4) (line + 1) (before ++ word ∷ []) small.1 (omega (arith, length-append before (word ∷ [])))
     ∙ ap (λ ws. Ok ws) (append_assoc before (word ∷ []) words)
 
 not_long : (n : ℕ) → n ≤ 8388608 → nat_lt 8388608 n ≡ false
@@ -151,4 +151,4 @@ not_long n h = grind (arith, nat_tests)
 
 pub read-listing : (address : ℕ) (words : List ℕ) → AllByRecursion (λ w. w < 2 ^ 32) words → length words ≤ 65536 → words_of (list_text address words) ≡ Ok words
 unfolding words_of
-read-listing address words small few = rw (not_long (length (list_text address words)) (short_listing address words small few)) (listed words address 1 [] small (omega arith))
+read-listing address words small few = rw (not_long (length (list_text address words)) (short_listing address words small few)) (words_listed_so_far words address 1 [] small (omega arith))

@@ -1,30 +1,25 @@
 -- What a text spells.
-use Rattle.std.proofs.Common.{◌≡◌, ℕ, ◌<◌, ◌^◌, List, [], ◌∷◌, Bool, true, false, Option, Some, None, refl, sym, ap, subst, ◌∙◌, arith}
+use Rattle.std.proofs.Common.{◌≡◌, ℕ, ◌<◌, ◌^◌, List, Bool, true, false, Option, Some, None, refl, sym, ap, subst, ◌∙◌, arith}
 use Rattle.std.specs.Prelude.{bytes_eq, codes, if◌then◌else◌, nat_lt, nat_le, ◌&&◌, ◌+◌, ◌%◌, length}
 use Rattle.std.proofs.lemmas.Bool.Decides.{nat_tests}
 use Rattle.std.proofs.lemmas.Option.{same_Some}
-use Rattle.std.proofs.lemmas.Bool.{eq-eqb}
 use Rattle.std.specs.Option.{IfSome}
 use Rattle.asm_forms.specs.Blanks.{blanked, numbers_of}
 use Rattle.asm_forms.specs.Rules.{Sum, sum_of, form_of}
 use Rattle.list_text.specs.Text.{word_text}
 use Rattle.asm_forms.specs.Reading.{candidate, by_form, if_word, listed_candidate, unlisted_candidate, mnemonic_of, operands_of}
 use Rattle.number_text.specs.Numbers.{given, following, number_of}
+use Rattle.number_text.proofs.Bytes.{bytes_eq-told, bytes_eq-refl}
 use Rattle.sve_asm.specs.WordOf.{Spells, if_spelled, word_of}
-use Rattle.sve_asm.proofs.ByWords.{bytes_same}
 use Rattle.sve_asm.proofs.Complete.{text-back}
 
 -- two words never have one text
 pub one-text : (v w : ℕ) → v < 2 ^ 32 → w < 2 ^ 32 → word_text v ≡ word_text w → v ≡ w
 one-text v w hv hw e = same_Some v w (sym (text-back v hv) ∙ ap candidate e ∙ text-back w hw)
 
-bytes_self : (b : List ℕ) → bytes_eq b b ≡ true
-bytes_self [] = refl
-bytes_self (x ∷ b) = rw (eq-eqb x x refl, bytes_self b) refl
-
 pub read-back : (w : ℕ) → w < 2 ^ 32 → word_of (word_text w) ≡ Some w
 unfolding word_of
-read-back w h = rw (text-back w h, bytes_self (word_text w)) refl
+read-back w h = rw (text-back w h, bytes_eq-refl (word_text w)) refl
 
 pub only-one : (text : List ℕ) (w : ℕ) → Spells text w → word_of text ≡ Some w
 only-one text w s = subst (λ t. word_of t ≡ Some w) s.spelled (read-back w s.word_of_32)
@@ -68,7 +63,7 @@ candidate-small text w e = given_small (following (codes ".word ") text) text w 
 same_text : (text : List ℕ) (v w : ℕ) (b : Bool) → bytes_eq (word_text v) text ≡ b → v < 2 ^ 32 → (if b then Some v else None) ≡ Some w → Spells text w
 same_text text v w true h small e =
     let s : v ≡ w = same_Some v w e in
-    subst (Spells text) s (record { word_of_32 = small; spelled = bytes_same (word_text v) text h })
+    subst (Spells text) s (record { word_of_32 = small; spelled = bytes_eq-told (word_text v) text h })
 same_text text v w false h small e = cc
 
 spelled_if : (text : List ℕ) (o : Option ℕ) (w : ℕ) → ((v : ℕ) → o ≡ Some v → v < 2 ^ 32) → if_spelled text o ≡ Some w → Spells text w

@@ -14,7 +14,7 @@ use Rattle.sve_asm.proofs.PredicateForms.{form_break, form_count_true, form_fals
 use Rattle.sve_asm.proofs.ScalarForms.{form_count}
 use Rattle.sve_asm.proofs.VectorAccessForms.{form_gather, form_load, form_load_lsl, form_load_no, form_store, form_store_lsl}
 use Rattle.sve_asm.proofs.Pieces.{d-blanked}
-use Rattle.sve_asm.proofs.Cases.{dup_any, left_any, reduce_any, right_any, series_any, whole_word, bits_below, wider, at_least, each}
+use Rattle.sve_asm.proofs.Cases.{dup_any, left_any, reduce_any, right_any, series_any, whole_word, bits_below, wider, at_least, holds_below}
 
 pub sve_row : (n : sve.Name) (w : ℕ) → w < 2 ^ 32 → takes (sve.row n) w ≡ true → candidate (sve_text.text_of n (numbers_in w (sve.row n).fields)) ≡ Some w
 unfolding sum_into form_of form_in base_of data_processing branches offset_accesses indexed_accesses predicates counts vectors vector_accesses
@@ -84,7 +84,7 @@ sve_row sve.cmpge w h t = form_compare_z (codes "cmpge") 0x24008000 w (bits w 0 
 sve_row sve.cmpgt w h t = form_compare_z (codes "cmpgt") 0x24008010 w (bits w 0 4) (bits w 5 5) (bits w 10 3) (bits w 16 5) (bits w 22 2) refl refl (bits_below w 0 4) (bits_below w 5 5) (wider w 10) (bits_below w 16 5) (bits_below w 22 2) h (row-sum (sve.row sve.cmpgt) w refl h t)
 sve_row sve.cmpeq w h t = form_compare_z (codes "cmpeq") 0x2400A000 w (bits w 0 4) (bits w 5 5) (bits w 10 3) (bits w 16 5) (bits w 22 2) refl refl (bits_below w 0 4) (bits_below w 5 5) (wider w 10) (bits_below w 16 5) (bits_below w 22 2) h (row-sum (sve.row sve.cmpeq) w refl h t)
 sve_row sve.cmpne w h t = form_compare_z (codes "cmpne") 0x2400A010 w (bits w 0 4) (bits w 5 5) (bits w 10 3) (bits w 16 5) (bits w 22 2) refl refl (bits_below w 0 4) (bits_below w 5 5) (wider w 10) (bits_below w 16 5) (bits_below w 22 2) h (row-sum (sve.row sve.cmpne) w refl h t)
-sve_row sve.ld1 w h t = each (λ d. 0xA4004000 + (bits w 0 5) * 1 + (bits w 5 5) * 32 + (bits w 10 3) * 1024 + (bits w 16 5) * 65536 + d * 2097152 ≡ w → candidate (sve_text.text_of sve.ld1 ((bits w 0 5) ∷ (bits w 5 5) ∷ (bits w 10 3) ∷ (bits w 16 5) ∷ d ∷ [])) ≡ Some w) 16 (
+sve_row sve.ld1 w h t = holds_below (λ d. 0xA4004000 + (bits w 0 5) * 1 + (bits w 5 5) * 32 + (bits w 10 3) * 1024 + (bits w 16 5) * 65536 + d * 2097152 ≡ w → candidate (sve_text.text_of sve.ld1 ((bits w 0 5) ∷ (bits w 5 5) ∷ (bits w 10 3) ∷ (bits w 16 5) ∷ d ∷ [])) ≡ Some w) 16 (
   (λ e. form_load_lsl 2097152 (codes "ld1d") 0xA5804000 w (bits w 0 5) (bits w 5 5) (bits w 10 3) (bits w 16 5) 3 3 refl refl (bits_below w 0 5) (bits_below w 5 5) (wider w 10) (bits_below w 16 5) (omega arith) (omega arith) refl (omega arith)),
   (
     (λ e. form_load 18446744073707454464 (codes "ld1sb") 0xA5E04000 w (bits w 0 5) (bits w 5 5) (bits w 10 3) (bits w 16 5) 1 refl refl (bits_below w 0 5) (bits_below w 5 5) (wider w 10) (bits_below w 16 5) (omega arith) (omega arith)),
@@ -133,7 +133,7 @@ sve_row sve.ld1 w h t = each (λ d. 0xA4004000 + (bits w 0 5) * 1 + (bits w 5 5)
     ),
   ),
 ) (bits w 21 4) (bits_below w 21 4) (row-sum (sve.row sve.ld1) w refl h t)
-sve_row sve.ldff1 w h t = each (λ d. 0xA4006000 + (bits w 0 5) * 1 + (bits w 5 5) * 32 + (bits w 10 3) * 1024 + (bits w 16 5) * 65536 + d * 2097152 ≡ w → candidate (sve_text.text_of sve.ldff1 ((bits w 0 5) ∷ (bits w 5 5) ∷ (bits w 10 3) ∷ (bits w 16 5) ∷ d ∷ [])) ≡ Some w) 16 (
+sve_row sve.ldff1 w h t = holds_below (λ d. 0xA4006000 + (bits w 0 5) * 1 + (bits w 5 5) * 32 + (bits w 10 3) * 1024 + (bits w 16 5) * 65536 + d * 2097152 ≡ w → candidate (sve_text.text_of sve.ldff1 ((bits w 0 5) ∷ (bits w 5 5) ∷ (bits w 10 3) ∷ (bits w 16 5) ∷ d ∷ [])) ≡ Some w) 16 (
   (λ e. form_load_lsl 2097152 (codes "ldff1d") 0xA5806000 w (bits w 0 5) (bits w 5 5) (bits w 10 3) (bits w 16 5) 3 3 refl refl (bits_below w 0 5) (bits_below w 5 5) (wider w 10) (bits_below w 16 5) (omega arith) (omega arith) refl (omega arith)),
   (
     (λ e. form_load 18446744073707454464 (codes "ldff1sb") 0xA5E06000 w (bits w 0 5) (bits w 5 5) (bits w 10 3) (bits w 16 5) 1 refl refl (bits_below w 0 5) (bits_below w 5 5) (wider w 10) (bits_below w 16 5) (omega arith) (omega arith)),
@@ -182,7 +182,7 @@ sve_row sve.ldff1 w h t = each (λ d. 0xA4006000 + (bits w 0 5) * 1 + (bits w 5 
     ),
   ),
 ) (bits w 21 4) (bits_below w 21 4) (row-sum (sve.row sve.ldff1) w refl h t)
-sve_row sve.ldnf1 w h t = each (λ d. 0xA410A000 + (bits w 0 5) * 1 + (bits w 5 5) * 32 + (bits w 10 3) * 1024 + d * 2097152 ≡ w → candidate (sve_text.text_of sve.ldnf1 ((bits w 0 5) ∷ (bits w 5 5) ∷ (bits w 10 3) ∷ d ∷ [])) ≡ Some w) 16 (
+sve_row sve.ldnf1 w h t = holds_below (λ d. 0xA410A000 + (bits w 0 5) * 1 + (bits w 5 5) * 32 + (bits w 10 3) * 1024 + d * 2097152 ≡ w → candidate (sve_text.text_of sve.ldnf1 ((bits w 0 5) ∷ (bits w 5 5) ∷ (bits w 10 3) ∷ d ∷ [])) ≡ Some w) 16 (
   (λ e. form_load_no 2097152 (codes "ldnf1d") 0xA590A000 w (bits w 0 5) (bits w 5 5) (bits w 10 3) 3 refl refl (bits_below w 0 5) (bits_below w 5 5) (wider w 10) (omega arith) (omega arith)),
   (
     (λ e. form_load_no 18446744073707454464 (codes "ldnf1sb") 0xA5F0A000 w (bits w 0 5) (bits w 5 5) (bits w 10 3) 1 refl refl (bits_below w 0 5) (bits_below w 5 5) (wider w 10) (omega arith) (omega arith)),
@@ -238,7 +238,7 @@ sve_row sve.gld1d w h t = form_gather (codes "ld1d") 0xC5C0C000 w (bits w 0 5) (
 sve_row sve.gld1sb w h t = form_gather (codes "ld1sb") 0xC4408000 w (bits w 0 5) (bits w 5 5) (bits w 10 3) (bits w 16 5) refl refl (bits_below w 0 5) (bits_below w 5 5) (wider w 10) (bits_below w 16 5) h (row-sum (sve.row sve.gld1sb) w refl h t)
 sve_row sve.gld1sh w h t = form_gather (codes "ld1sh") 0xC4C08000 w (bits w 0 5) (bits w 5 5) (bits w 10 3) (bits w 16 5) refl refl (bits_below w 0 5) (bits_below w 5 5) (wider w 10) (bits_below w 16 5) h (row-sum (sve.row sve.gld1sh) w refl h t)
 sve_row sve.gld1sw w h t = form_gather (codes "ld1sw") 0xC5408000 w (bits w 0 5) (bits w 5 5) (bits w 10 3) (bits w 16 5) refl refl (bits_below w 0 5) (bits_below w 5 5) (wider w 10) (bits_below w 16 5) h (row-sum (sve.row sve.gld1sw) w refl h t)
-sve_row sve.st1 w h t = each (λ d. 0xE4004000 + (bits w 0 5) * 1 + (bits w 5 5) * 32 + (bits w 10 3) * 1024 + (bits w 16 5) * 65536 + (bits w 21 2) * 2097152 + d * 8388608 ≡ w → candidate (sve_text.text_of sve.st1 ((bits w 0 5) ∷ (bits w 5 5) ∷ (bits w 10 3) ∷ (bits w 16 5) ∷ (bits w 21 2) ∷ d ∷ [])) ≡ Some w) 4 (
+sve_row sve.st1 w h t = holds_below (λ d. 0xE4004000 + (bits w 0 5) * 1 + (bits w 5 5) * 32 + (bits w 10 3) * 1024 + (bits w 16 5) * 65536 + (bits w 21 2) * 2097152 + d * 8388608 ≡ w → candidate (sve_text.text_of sve.st1 ((bits w 0 5) ∷ (bits w 5 5) ∷ (bits w 10 3) ∷ (bits w 16 5) ∷ (bits w 21 2) ∷ d ∷ [])) ≡ Some w) 4 (
   (λ e. form_store_lsl (codes "st1d") 0xE5804000 w (bits w 0 5) (bits w 5 5) (bits w 10 3) (bits w 16 5) (bits w 21 2) 3 refl refl (bits_below w 0 5) (bits_below w 5 5) (wider w 10) (bits_below w 16 5) (bits_below w 21 2) (omega arith) refl h (omega arith)),
   (
     (λ e. form_store_lsl (codes "st1w") 0xE5004000 w (bits w 0 5) (bits w 5 5) (bits w 10 3) (bits w 16 5) (bits w 21 2) 2 refl refl (bits_below w 0 5) (bits_below w 5 5) (wider w 10) (bits_below w 16 5) (bits_below w 21 2) (omega arith) refl h (omega arith)),

@@ -16,19 +16,19 @@ use Rattle.sve_asm.proofs.Words.{below, below-at, by_test}
 pub record Fits (most : ℕ) (text : List ℕ) : Type 0 where
   pub bound : length text ≤ most
 
-pub same : (x : List ℕ) → Fits (length x) x
-same x = record { bound = omega arith }
+pub fits_its_length : (x : List ℕ) → Fits (length x) x
+fits_its_length x = record { bound = omega arith }
 
-pub both : {a b : ℕ} {x y : List ℕ} → Fits a x → Fits b y → Fits (a + b) (x ++ y)
-both {a = a} {b = b} {x = x} {y = y} p q = record { bound = let h = p.bound in let k = q.bound in omega (arith, h, k, length-append x y) }
+pub fits_append : {a b : ℕ} {x y : List ℕ} → Fits a x → Fits b y → Fits (a + b) (x ++ y)
+fits_append {a = a} {b = b} {x = x} {y = y} p q = record { bound = let h = p.bound in let k = q.bound in omega (arith, h, k, length-append x y) }
 
 -- a text of known length
 pub of_length : (n : ℕ) (x : List ℕ) → nat_le (length x) n ≡ true → Fits n x
 of_length n x h = record { bound = leb-true (length x) n h }
 
 -- a length that is known to be enough
-pub within : {a : ℕ} {x : List ℕ} (n : ℕ) → Fits a x → nat_le a n ≡ true → Fits n x
-within {a = a} {x = x} n p h = record { bound = let k = p.bound in omega (arith, k, leb-true a n h) }
+pub fits_of_le : {a : ℕ} {x : List ℕ} (n : ℕ) → Fits a x → nat_le a n ≡ true → Fits n x
+fits_of_le {a = a} {x = x} n p h = record { bound = let k = p.bound in omega (arith, k, leb-true a n h) }
 
 -- the longest of some texts
 entry : (n : ℕ) (texts : List (List ℕ)) (k : ℕ) → list_all (λ x. nat_le (length x) n) texts ≡ true → Fits n (slice_index_or texts k [])
@@ -48,37 +48,37 @@ constant_digits : (n : ℕ) → n < 2 ^ 38 → Fits 12 (decimal n)
 constant_digits n h = record { bound = length-decimal-le 12 n (omega arith) (omega (arith, h)) (omega (arith, h)) }
 
 pub constant_length : (n : ℕ) → n < 2 ^ 38 → Fits 13 (constant n)
-constant_length n h = both (same (codes "#")) (constant_digits n h)
+constant_length n h = fits_append (fits_its_length (codes "#")) (constant_digits n h)
 
 pub signed_length : (unit half n : ℕ) → unit * n < 2 ^ 38 → unit * (2 * half - n) < 2 ^ 38 → Fits 14 (signed_multiple unit half n)
 signed_length unit half n h k =
     cond_both (nat_lt n half) (codes "#" ++ decimal (unit * n)) (codes "#-" ++ decimal (unit * (2 * half - n))) (λ t. Fits 14 t)
-    (λ e. within 14 (both (same (codes "#")) (constant_digits (unit * n) h)) refl)
-    (λ e. within 14 (both (same (codes "#-")) (constant_digits (unit * (2 * half - n)) k)) refl)
+    (λ e. fits_of_le 14 (fits_append (fits_its_length (codes "#")) (constant_digits (unit * n) h)) refl)
+    (λ e. fits_of_le 14 (fits_append (fits_its_length (codes "#-")) (constant_digits (unit * (2 * half - n)) k)) refl)
 
 pub lsl_length : (n : ℕ) → n < 2 ^ 38 → Fits 19 (lsl_by n)
 lsl_length n h =
     cond_both (n == 0) [] (codes ", lsl " ++ constant n) (λ t. Fits 19 t)
-    (λ e. of_length 19 [] refl) (λ e. both (same (codes ", lsl ")) (constant_length n h))
+    (λ e. of_length 19 [] refl) (λ e. fits_append (fits_its_length (codes ", lsl ")) (constant_length n h))
 
 shift_name_length : (shift : ℕ) → Fits 6 (shift_name shift)
 shift_name_length shift =
     cond_both (shift == 0) (codes ", lsl ") (cond (shift == 1) (codes ", lsr ") (cond (shift == 2) (codes ", asr ") (codes ", ror "))) (λ t. Fits 6 t)
-    (λ e. same (codes ", lsl "))
+    (λ e. fits_its_length (codes ", lsl "))
     (λ e. cond_both (shift == 1) (codes ", lsr ") (cond (shift == 2) (codes ", asr ") (codes ", ror ")) (λ t. Fits 6 t)
-    (λ e. same (codes ", lsr "))
-    (λ e. cond_both (shift == 2) (codes ", asr ") (codes ", ror ") (λ t. Fits 6 t) (λ e. same (codes ", asr ")) (λ e. same (codes ", ror "))))
+    (λ e. fits_its_length (codes ", lsr "))
+    (λ e. cond_both (shift == 2) (codes ", asr ") (codes ", ror ") (λ t. Fits 6 t) (λ e. fits_its_length (codes ", asr ")) (λ e. fits_its_length (codes ", ror "))))
 
 shifted_length : (shift n : ℕ) → n < 2 ^ 38 → Fits 19 (shifted_by shift n)
 shifted_length shift n h =
     cond_both ((shift == 0) && (n == 0)) [] (shift_name shift ++ constant n) (λ t. Fits 19 t)
-    (λ e. of_length 19 [] refl) (λ e. both (shift_name_length shift) (constant_length n h))
+    (λ e. of_length 19 [] refl) (λ e. fits_append (shift_name_length shift) (constant_length n h))
 
 -- ---- registers
 register_length : (letter last : List ℕ) (n : ℕ) → nat_le (length letter) 1 ≡ true → nat_le (length last) 11 ≡ true → n < 2 ^ 32 → Fits 11 (general_register letter last n)
 register_length letter last n a b h =
     cond_both (n == 31) last (letter ++ decimal n) (λ t. Fits 11 t)
-    (λ e. of_length 11 last b) (λ e. both (of_length 1 letter a) (digits n h))
+    (λ e. of_length 11 last b) (λ e. fits_append (of_length 1 letter a) (digits n h))
 
 pub x_length : (n : ℕ) → n < 2 ^ 32 → Fits 11 (x_register n)
 x_length n h = register_length (codes "x") (codes "xzr") n refl refl h
@@ -102,13 +102,13 @@ pub access_length : (size : ℕ) → Fits 1 (access_letter size)
 access_length size = entry 1 (codes "b" ∷ codes "h" ∷ codes "w" ∷ codes "d" ∷ []) size refl
 
 pub dotted_length : (size : ℕ) → Fits 2 (dotted size)
-dotted_length size = both (same (codes ".")) (size_length size)
+dotted_length size = fits_append (fits_its_length (codes ".")) (size_length size)
 
 pub z_length : (size n : ℕ) → n < 2 ^ 32 → Fits 13 (z_register size n)
-z_length size n h = both (both (same (codes "z")) (digits n h)) (dotted_length size)
+z_length size n h = fits_append (fits_append (fits_its_length (codes "z")) (digits n h)) (dotted_length size)
 
 pub p_length : (n : ℕ) → n < 2 ^ 32 → Fits 11 (p_register n)
-p_length n h = both (same (codes "p")) (digits n h)
+p_length n h = fits_append (fits_its_length (codes "p")) (digits n h)
 
 -- a vector register seen as a scalar, or an element of one
 pub number_length : (n : ℕ) → n < 2 ^ 32 → Fits 10 (decimal n)
@@ -117,17 +117,17 @@ number_length n h = digits n h
 -- ---- addresses
 pub offset_length : (rn bytes : ℕ) → rn < 2 ^ 32 → bytes < 2 ^ 38 → Fits 30 (at_offset rn bytes)
 offset_length rn bytes h k =
-    both (both (both (same (codes ", [")) (x_or_sp_length rn h))
-    (cond_both (bytes == 0) [] (comma ++ constant bytes) (λ t. Fits 15 t) (λ e. of_length 15 [] refl) (λ e. both (same comma) (constant_length bytes k))))
-    (same (codes "]"))
+    fits_append (fits_append (fits_append (fits_its_length (codes ", [")) (x_or_sp_length rn h))
+    (cond_both (bytes == 0) [] (comma ++ constant bytes) (λ t. Fits 15 t) (λ e. of_length 15 [] refl) (λ e. fits_append (fits_its_length comma) (constant_length bytes k))))
+    (fits_its_length (codes "]"))
 
 pub index_length : (rn rm shift : ℕ) → rn < 2 ^ 32 → rm < 2 ^ 32 → shift < 2 ^ 38 → Fits 47 (at_register rn rm shift)
 index_length rn rm shift h k l =
-    both (both (both (both (both (same (codes ", [")) (x_or_sp_length rn h)) (same comma)) (x_length rm k)) (lsl_length shift l)) (same (codes "]"))
+    fits_append (fits_append (fits_append (fits_append (fits_append (fits_its_length (codes ", [")) (x_or_sp_length rn h)) (fits_its_length comma)) (x_length rm k)) (lsl_length shift l)) (fits_its_length (codes "]"))
 
 vector_length : (rn zm : ℕ) → rn < 2 ^ 32 → zm < 2 ^ 32 → Fits 30 (at_vector rn zm)
 vector_length rn zm h k =
-    both (both (both (both (same (codes ", [")) (x_or_sp_length rn h)) (same comma)) (z_length 3 zm k)) (same (codes "]"))
+    fits_append (fits_append (fits_append (fits_append (fits_its_length (codes ", [")) (x_or_sp_length rn h)) (fits_its_length comma)) (z_length 3 zm k)) (fits_its_length (codes "]"))
 
 -- a number of a field, times a small one
 scaled : (size n : ℕ) → nat_le size 8 ≡ true → n < 2 ^ 32 → size * n < 2 ^ 38
@@ -155,48 +155,48 @@ module _ (mnemonic : List ℕ) (ns : List ℕ) (short : nat_le (length mnemonic)
 
   pub add_sub_length : (R : ℕ → List ℕ) → ((n : ℕ) → n < 2 ^ 32 → Fits 11 (R n)) → Fits 100 (add_sub_immediate mnemonic R ns)
   add_sub_length R r =
-      within 100 (both (both (both (both (both (both name (r (slice_index ns 0) (small.at 0))) (same comma)) (x_or_sp_length (slice_index ns 1) (small.at 1))) (same comma)) (value 2))
+      fits_of_le 100 (fits_append (fits_append (fits_append (fits_append (fits_append (fits_append name (r (slice_index ns 0) (small.at 0))) (fits_its_length comma)) (x_or_sp_length (slice_index ns 1) (small.at 1))) (fits_its_length comma)) (value 2))
       (lsl_length (12 * slice_index ns 3) (let s = small.at 3 in omega (arith, s)))) refl
 
   pub shifted_register_length : Fits 100 (shifted_register mnemonic ns)
   shifted_register_length =
-      within 100 (both (both (both (both (both (both name (x 0)) (same comma)) (x 1)) (same comma)) (x 3))
+      fits_of_le 100 (fits_append (fits_append (fits_append (fits_append (fits_append (fits_append name (x 0)) (fits_its_length comma)) (x 1)) (fits_its_length comma)) (x 3))
       (shifted_length (slice_index ns 4) (slice_index ns 2) (let s = small.at 2 in omega (arith, s)))) refl
 
   pub move_wide_length : Fits 100 (move_wide mnemonic ns)
-  move_wide_length = within 100 (both (both (both (both name (x 0)) (same comma)) (value 1)) (lsl_length (16 * slice_index ns 2) (let s = small.at 2 in omega (arith, s)))) refl
+  move_wide_length = fits_of_le 100 (fits_append (fits_append (fits_append (fits_append name (x 0)) (fits_its_length comma)) (value 1)) (lsl_length (16 * slice_index ns 2) (let s = small.at 2 in omega (arith, s)))) refl
 
   pub multiply_add_length : Fits 100 (multiply_add mnemonic ns)
-  multiply_add_length = within 100 (both (both (both (both (both (both (both name (x 0)) (same comma)) (x 1)) (same comma)) (x 3)) (same comma)) (x 2)) refl
+  multiply_add_length = fits_of_le 100 (fits_append (fits_append (fits_append (fits_append (fits_append (fits_append (fits_append name (x 0)) (fits_its_length comma)) (x 1)) (fits_its_length comma)) (x 3)) (fits_its_length comma)) (x 2)) refl
 
   pub shift_variable_length : Fits 100 (shift_variable mnemonic ns)
-  shift_variable_length = within 100 (both (both (both (both (both name (x 0)) (same comma)) (x 1)) (same comma)) (x 2)) refl
+  shift_variable_length = fits_of_le 100 (fits_append (fits_append (fits_append (fits_append (fits_append name (x 0)) (fits_its_length comma)) (x 1)) (fits_its_length comma)) (x 2)) refl
 
   pub bitfield_length : Fits 100 (bitfield mnemonic ns)
-  bitfield_length = within 100 (both (both (both (both (both (both (both name (x 0)) (same comma)) (x 1)) (same comma)) (value 3)) (same comma)) (value 2)) refl
+  bitfield_length = fits_of_le 100 (fits_append (fits_append (fits_append (fits_append (fits_append (fits_append (fits_append name (x 0)) (fits_its_length comma)) (x 1)) (fits_its_length comma)) (value 3)) (fits_its_length comma)) (value 2)) refl
 
   pub conditional_select_length : Fits 100 (conditional_select mnemonic ns)
   conditional_select_length =
-      within 100 (both (both (both (both (both (both (both name (x 0)) (same comma)) (x 1)) (same comma)) (x 3)) (same comma)) (condition_length (slice_index ns 2))) refl
+      fits_of_le 100 (fits_append (fits_append (fits_append (fits_append (fits_append (fits_append (fits_append name (x 0)) (fits_its_length comma)) (x 1)) (fits_its_length comma)) (x 3)) (fits_its_length comma)) (condition_length (slice_index ns 2))) refl
 
   pub compare_branch_length : Fits 100 (compare_branch mnemonic ns)
-  compare_branch_length = within 100 (both (both (both name (x 0)) (same comma)) (near_branch_length ns small 1)) refl
+  compare_branch_length = fits_of_le 100 (fits_append (fits_append (fits_append name (x 0)) (fits_its_length comma)) (near_branch_length ns small 1)) refl
 
   pub exception_length : Fits 100 (exception mnemonic ns)
-  exception_length = within 100 (both name (value 0)) refl
+  exception_length = fits_of_le 100 (fits_append name (value 0)) refl
 
   pub immediate_length : (R : ℕ → List ℕ) (size : ℕ) → ((n : ℕ) → n < 2 ^ 32 → Fits 11 (R n)) → nat_le size 8 ≡ true → Fits 100 (load_store_immediate mnemonic R size ns)
   immediate_length R size r h =
-      within 100 (both (both name (r (slice_index ns 0) (small.at 0)))
+      fits_of_le 100 (fits_append (fits_append name (r (slice_index ns 0) (small.at 0)))
       (offset_length (slice_index ns 1) (size * slice_index ns 2) (small.at 1) (scaled size (slice_index ns 2) h (small.at 2)))) refl
 
   pub byte_register_length : (R : ℕ → List ℕ) → ((n : ℕ) → n < 2 ^ 32 → Fits 11 (R n)) → Fits 100 (load_store_byte_register mnemonic R ns)
   byte_register_length R r =
-      within 100 (both (both name (r (slice_index ns 0) (small.at 0))) (index_length (slice_index ns 1) (slice_index ns 2) 0 (small.at 1) (small.at 2) (omega arith))) refl
+      fits_of_le 100 (fits_append (fits_append name (r (slice_index ns 0) (small.at 0))) (index_length (slice_index ns 1) (slice_index ns 2) 0 (small.at 1) (small.at 2) (omega arith))) refl
 
   pub at_register_length : (R : ℕ → List ℕ) (log : ℕ) → ((n : ℕ) → n < 2 ^ 32 → Fits 11 (R n)) → nat_le log 8 ≡ true → Fits 100 (load_store_register mnemonic R log ns)
   at_register_length R log r h =
-      within 100 (both (both name (r (slice_index ns 0) (small.at 0)))
+      fits_of_le 100 (fits_append (fits_append name (r (slice_index ns 0) (small.at 0)))
       (index_length (slice_index ns 1) (slice_index ns 3) (log * slice_index ns 2) (small.at 1) (small.at 3) (scaled log (slice_index ns 2) h (small.at 2)))) refl
 
 -- ---- what SVE instructions are made of
@@ -214,10 +214,10 @@ right_small value h = let w = width_small value in omega (arith, w)
 
 access_name_length : (dtype : ℕ) → Fits 2 (access_name dtype)
 access_name_length dtype =
-    both (cond_both (is_signed dtype) (codes "s") [] (λ t. Fits 1 t) (λ e. same (codes "s")) (λ e. of_length 1 [] refl)) (access_length (memory_size dtype))
+    fits_append (cond_both (is_signed dtype) (codes "s") [] (λ t. Fits 1 t) (λ e. fits_its_length (codes "s")) (λ e. of_length 1 [] refl)) (access_length (memory_size dtype))
 
 loaded_length : (size zt pg : ℕ) → zt < 2 ^ 32 → pg < 2 ^ 32 → Fits 31 (loaded size zt pg)
-loaded_length size zt pg h k = within 31 (both (both (both (both (same (codes " {")) (z_length size zt h)) (same (codes "}, "))) (p_length pg k)) (same (codes "/z"))) refl
+loaded_length size zt pg h k = fits_of_le 31 (fits_append (fits_append (fits_append (fits_append (fits_its_length (codes " {")) (z_length size zt h)) (fits_its_length (codes "}, "))) (p_length pg k)) (fits_its_length (codes "/z"))) refl
 
 -- the logarithm of the bytes that a load reads of each number, by its dtype
 memory_listed : below 16 (λ dtype. nat_le (memory_size dtype) 3) ≡ true
@@ -247,19 +247,19 @@ module _ (mnemonic : List ℕ) (ns : List ℕ) (short : nat_le (length mnemonic)
 
   pub predicate_logical_length : Fits 100 (predicate_logical mnemonic ns)
   predicate_logical_length =
-      within 100 (both (both (both (both (both (both (both (both sve_name (q 0)) (same (codes ".b, "))) (q 2)) (same (codes "/z, "))) (q 1)) (same (codes ".b, "))) (q 3)) (same (codes ".b"))) refl
+      fits_of_le 100 (fits_append (fits_append (fits_append (fits_append (fits_append (fits_append (fits_append (fits_append sve_name (q 0)) (fits_its_length (codes ".b, "))) (q 2)) (fits_its_length (codes "/z, "))) (q 1)) (fits_its_length (codes ".b, "))) (q 3)) (fits_its_length (codes ".b"))) refl
 
   pub break_at_length : Fits 100 (break_at mnemonic ns)
-  break_at_length = within 100 (both (both (both (both (both (both sve_name (q 0)) (same (codes ".b, "))) (q 2)) (same (codes "/z, "))) (q 1)) (same (codes ".b"))) refl
+  break_at_length = fits_of_le 100 (fits_append (fits_append (fits_append (fits_append (fits_append (fits_append sve_name (q 0)) (fits_its_length (codes ".b, "))) (q 2)) (fits_its_length (codes "/z, "))) (q 1)) (fits_its_length (codes ".b"))) refl
 
   pub element_count_length : Fits 100 (element_count mnemonic ns)
-  element_count_length = within 100 (both sve_name (x_length (slice_index ns 0) (small.at 0))) refl
+  element_count_length = fits_of_le 100 (fits_append sve_name (x_length (slice_index ns 0) (small.at 0))) refl
 
   pub vectors_length : Fits 100 (vectors mnemonic ns)
-  vectors_length = let size = slice_index ns 3 in within 100 (both (both (both (both (both sve_name (z size 0)) (same comma)) (z size 1)) (same comma)) (z size 2)) refl
+  vectors_length = let size = slice_index ns 3 in fits_of_le 100 (fits_append (fits_append (fits_append (fits_append (fits_append sve_name (z size 0)) (fits_its_length comma)) (z size 1)) (fits_its_length comma)) (z size 2)) refl
 
   pub bitwise_length : Fits 100 (bitwise mnemonic ns)
-  bitwise_length = within 100 (both (both (both (both (both sve_name (z 3 0)) (same comma)) (z 3 1)) (same comma)) (z 3 2)) refl
+  bitwise_length = fits_of_le 100 (fits_append (fits_append (fits_append (fits_append (fits_append sve_name (z 3 0)) (fits_its_length comma)) (z 3 1)) (fits_its_length comma)) (z 3 2)) refl
 
   shift_value_small : shift_value ns < 2 ^ 38
   shift_value_small = let a = small.at 2 in let b = small.at 3 in let c = small.at 4 in omega (arith, a, b, c)
@@ -267,41 +267,41 @@ module _ (mnemonic : List ℕ) (ns : List ℕ) (short : nat_le (length mnemonic)
   pub shift_immediate_length : (amount : ℕ → ℕ) → ((value : ℕ) → value < 2 ^ 38 → amount value < 2 ^ 38) → Fits 100 (shift_immediate mnemonic amount ns)
   shift_immediate_length amount f =
       let size = shift_size (shift_value ns) in
-      within 100 (both (both (both (both (both sve_name (z size 0)) (same comma)) (z size 1)) (same comma)) (constant_length (amount (shift_value ns)) (f (shift_value ns) shift_value_small))) refl
+      fits_of_le 100 (fits_append (fits_append (fits_append (fits_append (fits_append sve_name (z size 0)) (fits_its_length comma)) (z size 1)) (fits_its_length comma)) (constant_length (amount (shift_value ns)) (f (shift_value ns) shift_value_small))) refl
 
   pub binary_length : Fits 100 (binary_predicated mnemonic ns)
   binary_length =
       let size = slice_index ns 3 in
-      within 100 (both (both (both (both (both (both (both sve_name (z size 0)) (same comma)) (q 2)) (same (codes "/m, "))) (z size 0)) (same comma)) (z size 1)) refl
+      fits_of_le 100 (fits_append (fits_append (fits_append (fits_append (fits_append (fits_append (fits_append sve_name (z size 0)) (fits_its_length comma)) (q 2)) (fits_its_length (codes "/m, "))) (z size 0)) (fits_its_length comma)) (z size 1)) refl
 
   pub unary_length : Fits 100 (unary_predicated mnemonic ns)
-  unary_length = let size = slice_index ns 3 in within 100 (both (both (both (both (both sve_name (z size 0)) (same comma)) (q 2)) (same (codes "/m, "))) (z size 1)) refl
+  unary_length = let size = slice_index ns 3 in fits_of_le 100 (fits_append (fits_append (fits_append (fits_append (fits_append sve_name (z size 0)) (fits_its_length comma)) (q 2)) (fits_its_length (codes "/m, "))) (z size 1)) refl
 
   pub extend_length : Fits 100 (extend_word mnemonic ns)
-  extend_length = within 100 (both (both (both (both (both sve_name (z 3 0)) (same comma)) (q 2)) (same (codes "/m, "))) (z 3 1)) refl
+  extend_length = fits_of_le 100 (fits_append (fits_append (fits_append (fits_append (fits_append sve_name (z 3 0)) (fits_its_length comma)) (q 2)) (fits_its_length (codes "/m, "))) (z 3 1)) refl
 
   pub reduction_length : (letter : List ℕ) → Fits 1 letter → Fits 100 (reduction mnemonic letter ns)
   reduction_length letter one =
-      within 100 (both (both (both (both (both (both sve_name one) (number_length (slice_index ns 0) (small.at 0))) (same comma)) (q 2)) (same comma)) (z (slice_index ns 3) 1)) refl
+      fits_of_le 100 (fits_append (fits_append (fits_append (fits_append (fits_append (fits_append sve_name one) (number_length (slice_index ns 0) (small.at 0))) (fits_its_length comma)) (q 2)) (fits_its_length comma)) (z (slice_index ns 3) 1)) refl
 
   pub compare_length : Fits 100 (compare_vectors mnemonic ns)
   compare_length =
       let size = slice_index ns 4 in
-      within 100 (both (both (both (both (both (both (both (both sve_name (q 0)) (dotted_length size)) (same comma)) (q 2)) (same (codes "/z, "))) (z size 1)) (same comma)) (z size 3)) refl
+      fits_of_le 100 (fits_append (fits_append (fits_append (fits_append (fits_append (fits_append (fits_append (fits_append sve_name (q 0)) (dotted_length size)) (fits_its_length comma)) (q 2)) (fits_its_length (codes "/z, "))) (z size 1)) (fits_its_length comma)) (z size 3)) refl
 
   pub load_length : Fits 100 (load mnemonic ns)
   load_length =
       let dtype = slice_index ns 4 in
-      within 100 (both (both (both sve_name (access_name_length dtype)) (loaded_length (element_size dtype) (slice_index ns 0) (slice_index ns 2) (small.at 0) (small.at 2)))
+      fits_of_le 100 (fits_append (fits_append (fits_append sve_name (access_name_length dtype)) (loaded_length (element_size dtype) (slice_index ns 0) (slice_index ns 2) (small.at 0) (small.at 2)))
       (index_length (slice_index ns 1) (slice_index ns 3) (memory_size dtype) (small.at 1) (small.at 3) (memory_small dtype))) refl
 
   pub load_first_length : Fits 100 (mnemonic ++ access_name (slice_index ns 3) ++ loaded (element_size (slice_index ns 3)) (slice_index ns 0) (slice_index ns 2) ++ at_offset (slice_index ns 1) 0)
   load_first_length =
       let dtype = slice_index ns 3 in
-      within 100 (both (both (both sve_name (access_name_length dtype)) (loaded_length (element_size dtype) (slice_index ns 0) (slice_index ns 2) (small.at 0) (small.at 2)))
+      fits_of_le 100 (fits_append (fits_append (fits_append sve_name (access_name_length dtype)) (loaded_length (element_size dtype) (slice_index ns 0) (slice_index ns 2) (small.at 0) (small.at 2)))
       (offset_length (slice_index ns 1) 0 (small.at 1) (omega arith))) refl
 
   pub gather_length : Fits 100 (gather mnemonic ns)
   gather_length =
-      within 100 (both (both sve_name (loaded_length 3 (slice_index ns 0) (slice_index ns 2) (small.at 0) (small.at 2)))
+      fits_of_le 100 (fits_append (fits_append sve_name (loaded_length 3 (slice_index ns 0) (slice_index ns 2) (small.at 0) (small.at 2)))
       (vector_length (slice_index ns 1) (slice_index ns 3) (small.at 1) (small.at 3))) refl

@@ -1,14 +1,14 @@
 -- Words of a text that have a meaning: digits, and words of small numbers, which compute.
-use Rattle.std.proofs.Common.{◌≡◌, ℕ, zero, suc, ◌+◌, ◌*◌, ◌-◌, ◌≤◌, ◌<◌, ◌^◌, List, [], ◌∷◌, length, Bool, true, false, Option, Some, None, refl, ap, ap₂, ◌∙◌, arith, eqb}
+use Rattle.std.proofs.Common.{◌≡◌, ℕ, zero, suc, ◌-◌, ◌≤◌, ◌<◌, ◌^◌, List, [], ◌∷◌, length, Bool, true, false, Option, Some, None, refl, ap, ap₂, ◌∙◌, arith, eqb}
 use Rattle.std.specs.Prelude.{◌&&◌, ◌==◌, decimal, bytes_eq, nat_lt}
-use Rattle.std.specs.List.{list_all, fold}
-use Rattle.std.specs.Char.{digit_value as std_value}
-use Rattle.std.specs.Str.Parse.{AllDigits, digits_value_after}
+use Rattle.std.specs.List.{list_all}
+use Rattle.std.specs.Str.Parse.{AllDigits}
 use Rattle.std.proofs.lemmas.Bool.Decides.{nat_tests}
 use Rattle.std.proofs.lemmas.Fmt.{decimal_is_IsNumeral}
 use Rattle.std.proofs.lemmas.Str.Parse.{tells_digits}
 use Rattle.std.proofs.lemmas.Bool.{and_parts}
-use Rattle.number_text.specs.Numbers.{is_digit, digit_value, appended, value_of, decimal_of}
+use Rattle.number_text.specs.Numbers.{value_of, decimal_of}
+use Rattle.number_text.proofs.DecimalDigits.{digit_is, all_digits, digits_value-is}
 use Rattle.asm_forms.specs.Blanks.{is_word_byte, Meaning, meanings, meaning_in, blank_of}
 
 -- ---- tests of small numbers
@@ -16,16 +16,16 @@ unfoldable pub below : ℕ → (ℕ → Bool) → Bool
 below zero test = true
 below (suc n) test = test n && below n test
 
-at_last : (n k : ℕ) (test : ℕ → Bool) (b : Bool) → eqb k n ≡ b → test n ≡ true → (k < n → test k ≡ true) → k < suc n → test k ≡ true
-at_last n k test true e h rest l = let s : k ≡ n = grind (arith, nat_tests) in rw s h
-at_last n k test false e h rest l = rest (grind (arith, nat_tests))
+test_below_suc : (n k : ℕ) (test : ℕ → Bool) (b : Bool) → eqb k n ≡ b → test n ≡ true → (k < n → test k ≡ true) → k < suc n → test k ≡ true
+test_below_suc n k test true e h rest l = let s : k ≡ n = grind (arith, nat_tests) in rw s h
+test_below_suc n k test false e h rest l = rest (grind (arith, nat_tests))
 
 pub below-at : (n : ℕ) (test : ℕ → Bool) → below n test ≡ true → (k : ℕ) → k < n → test k ≡ true
 unfolding below
 below-at zero test h k l = absurd (omega arith)
 below-at (suc n) test h k l =
     let p = and_parts (test n) (below n test) h in
-    at_last n k test (eqb k n) refl p.0 (λ m. below-at n test p.1 k m) l
+    test_below_suc n k test (eqb k n) refl p.0 (λ m. below-at n test p.1 k m) l
 
 -- one of two, by a test
 pub by_test : {P : Type 0} (x : Bool) → (x ≡ true → P) → (x ≡ false → P) → P
@@ -60,29 +60,10 @@ blanked-small text b m h n l =
     record { word = p.0; blank = blank-is b n (blank_of (text n)) p.1 }
 
 -- ---- digits
-digit_is : (d : ℕ) → 48 ≤ d → d ≤ 57 → is_digit d ≡ true
-digit_is d l u = grind (arith, nat_tests)
-
-value_here : (d : ℕ) → 48 ≤ d → d ≤ 57 → digit_value d ≡ d - 48
-value_here d l u = rw (digit_is d l u) refl
-
-value_there : (d : ℕ) → 48 ≤ d → d ≤ 57 → std_value d ≡ d - 48
-value_there d l u = grind (arith, nat_tests)
-
-all_digits : (ds : List ℕ) → AllDigits 10 ds → list_all is_digit ds ≡ true
-all_digits [] h = refl
-all_digits (d ∷ ds) h = let p = tells_digits.parts d ds h in let i = all_digits ds p.1 in rw (digit_is d p.0.0 p.0.1) i
 
 all_of_words : (ds : List ℕ) → AllDigits 10 ds → list_all is_word_byte ds ≡ true
 all_of_words [] h = refl
 all_of_words (d ∷ ds) h = let p = tells_digits.parts d ds h in let i = all_of_words ds p.1 in rw (digit_is d p.0.0 p.0.1) i
-
-value_is : (n : ℕ) (ds : List ℕ) → AllDigits 10 ds → fold (appended 10) n ds ≡ digits_value_after 10 n ds
-value_is n [] h = refl
-value_is n (d ∷ ds) h =
-    let p = tells_digits.parts d ds h in
-    let e : 10 * n + digit_value d ≡ n * 10 + std_value d = omega (arith, value_here d p.0.0 p.0.1, value_there d p.0.0 p.0.1) in
-    value_is (10 * n + digit_value d) ds p.1 ∙ ap (λ m. digits_value_after 10 m ds) e
 
 some_there : (ds : List ℕ) → 0 < length ds → nat_lt 0 (length ds) ≡ true
 some_there ds h = grind (arith, nat_tests)
@@ -131,5 +112,5 @@ decimal-blanked n s =
     let d = decimal_is_IsNumeral n s in
     record {
       word = all_of_words (decimal n) d.0.1;
-      blank = number-blank n (decimal n) d.0.1 d.0.0 (decimal-read n (decimal n) d.0.0 d.0.1 (value_is 0 (decimal n) d.0.1 ∙ d.1) s);
+      blank = number-blank n (decimal n) d.0.1 d.0.0 (decimal-read n (decimal n) d.0.0 d.0.1 (digits_value-is 0 (decimal n) d.0.1 ∙ d.1) s);
     }

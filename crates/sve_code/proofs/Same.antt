@@ -303,40 +303,40 @@ form_view (sve.CompareVectors vector_compare_ops.Hs pd zn pg zm size) = refl
 form_view (sve.GatherLoad gather_ops.Ld1b zt rn pg zm) = refl
 form_view other = refl
 
-alike : (x y : Sve) → instruction_view x ≡ instruction_view y → form x ≡ form y
-alike x y e = sym (form_view x) ∙ ap (λ (i : Instruction Name). form_of i.name) e ∙ form_view y
+equal_forms_of_equal_views : (x y : Sve) → instruction_view x ≡ instruction_view y → form x ≡ form y
+equal_forms_of_equal_views x y e = sym (form_view x) ∙ ap (λ (i : Instruction Name). form_of i.name) e ∙ form_view y
 
-pub same : (x y : Sve) → instruction_view x ≡ instruction_view y → x ≡ y
+pub equal_of_equal_views : (x y : Sve) → instruction_view x ≡ instruction_view y → x ≡ y
 unfolding form number
-same (sve.Ptrue pd size) (sve.Ptrue pd' size') e = let at_pd : pd ≡ pd' = same_bits pd pd' (ap (λ (i : Instruction Name). slice_index i.numbers 0) e) in let at_size : size ≡ size' = same_size size size' (ap (λ (i : Instruction Name). slice_index i.numbers 1) e) in cc
-same (sve.Pfalse pd) (sve.Pfalse pd') e = let at_pd : pd ≡ pd' = same_bits pd pd' (ap (λ (i : Instruction Name). slice_index i.numbers 0) e) in cc
-same (sve.Whilelo pd rn rm size) (sve.Whilelo pd' rn' rm' size') e = let at_pd : pd ≡ pd' = same_bits pd pd' (ap (λ (i : Instruction Name). slice_index i.numbers 0) e) in let at_rn : rn ≡ rn' = same_bits rn rn' (ap (λ (i : Instruction Name). slice_index i.numbers 1) e) in let at_rm : rm ≡ rm' = same_bits rm rm' (ap (λ (i : Instruction Name). slice_index i.numbers 2) e) in let at_size : size ≡ size' = same_size size size' (ap (λ (i : Instruction Name). slice_index i.numbers 3) e) in cc
-same (sve.Ptest pn pg) (sve.Ptest pn' pg') e = let at_pn : pn ≡ pn' = same_bits pn pn' (ap (λ (i : Instruction Name). slice_index i.numbers 0) e) in let at_pg : pg ≡ pg' = same_bits pg pg' (ap (λ (i : Instruction Name). slice_index i.numbers 1) e) in cc
-same (sve.PredicateLogical op pd pn pg pm) (sve.PredicateLogical op' pd' pn' pg' pm') e = let f : PredicateLogical op ≡ PredicateLogical op' = alike (sve.PredicateLogical op pd pn pg pm) (sve.PredicateLogical op' pd' pn' pg' pm') e in let at_op : op ≡ op' = cc in let at_pd : pd ≡ pd' = same_bits pd pd' (ap (λ (i : Instruction Name). slice_index i.numbers 0) e) in let at_pn : pn ≡ pn' = same_bits pn pn' (ap (λ (i : Instruction Name). slice_index i.numbers 1) e) in let at_pg : pg ≡ pg' = same_bits pg pg' (ap (λ (i : Instruction Name). slice_index i.numbers 2) e) in let at_pm : pm ≡ pm' = same_bits pm pm' (ap (λ (i : Instruction Name). slice_index i.numbers 3) e) in cc
-same (sve.Break op pd pn pg) (sve.Break op' pd' pn' pg') e = let f : Break op ≡ Break op' = alike (sve.Break op pd pn pg) (sve.Break op' pd' pn' pg') e in let at_op : op ≡ op' = cc in let at_pd : pd ≡ pd' = same_bits pd pd' (ap (λ (i : Instruction Name). slice_index i.numbers 0) e) in let at_pn : pn ≡ pn' = same_bits pn pn' (ap (λ (i : Instruction Name). slice_index i.numbers 1) e) in let at_pg : pg ≡ pg' = same_bits pg pg' (ap (λ (i : Instruction Name). slice_index i.numbers 2) e) in cc
-same (sve.Rdffr pd) (sve.Rdffr pd') e = let at_pd : pd ≡ pd' = same_bits pd pd' (ap (λ (i : Instruction Name). slice_index i.numbers 0) e) in cc
-same (sve.RdffrPredicated pd pg) (sve.RdffrPredicated pd' pg') e = let at_pd : pd ≡ pd' = same_bits pd pd' (ap (λ (i : Instruction Name). slice_index i.numbers 0) e) in let at_pg : pg ≡ pg' = same_bits pg pg' (ap (λ (i : Instruction Name). slice_index i.numbers 1) e) in cc
-same sve.Setffr sve.Setffr e = refl
-same (sve.Wrffr pn) (sve.Wrffr pn') e = let at_pn : pn ≡ pn' = same_bits pn pn' (ap (λ (i : Instruction Name). slice_index i.numbers 0) e) in cc
-same (sve.ElementCount op rd) (sve.ElementCount op' rd') e = let f : ElementCount op ≡ ElementCount op' = alike (sve.ElementCount op rd) (sve.ElementCount op' rd') e in let at_op : op ≡ op' = cc in let at_rd : rd ≡ rd' = same_bits rd rd' (ap (λ (i : Instruction Name). slice_index i.numbers 0) e) in cc
-same (sve.Incp rd pm size) (sve.Incp rd' pm' size') e = let at_rd : rd ≡ rd' = same_bits rd rd' (ap (λ (i : Instruction Name). slice_index i.numbers 0) e) in let at_pm : pm ≡ pm' = same_bits pm pm' (ap (λ (i : Instruction Name). slice_index i.numbers 1) e) in let at_size : size ≡ size' = same_size size size' (ap (λ (i : Instruction Name). slice_index i.numbers 2) e) in cc
-same (sve.Cntp rd pn pg size) (sve.Cntp rd' pn' pg' size') e = let at_rd : rd ≡ rd' = same_bits rd rd' (ap (λ (i : Instruction Name). slice_index i.numbers 0) e) in let at_pn : pn ≡ pn' = same_bits pn pn' (ap (λ (i : Instruction Name). slice_index i.numbers 1) e) in let at_pg : pg ≡ pg' = same_bits pg pg' (ap (λ (i : Instruction Name). slice_index i.numbers 2) e) in let at_size : size ≡ size' = same_size size size' (ap (λ (i : Instruction Name). slice_index i.numbers 3) e) in cc
-same (sve.DupScalar zd rn size) (sve.DupScalar zd' rn' size') e = let at_zd : zd ≡ zd' = same_bits zd zd' (ap (λ (i : Instruction Name). slice_index i.numbers 0) e) in let at_rn : rn ≡ rn' = same_bits rn rn' (ap (λ (i : Instruction Name). slice_index i.numbers 1) e) in let at_size : size ≡ size' = same_size size size' (ap (λ (i : Instruction Name). slice_index i.numbers 2) e) in cc
-same (sve.IndexScalarImmediate zd rn imm5 size) (sve.IndexScalarImmediate zd' rn' imm5' size') e = let at_zd : zd ≡ zd' = same_bits zd zd' (ap (λ (i : Instruction Name). slice_index i.numbers 0) e) in let at_rn : rn ≡ rn' = same_bits rn rn' (ap (λ (i : Instruction Name). slice_index i.numbers 1) e) in let at_imm5 : imm5 ≡ imm5' = same_bits imm5 imm5' (ap (λ (i : Instruction Name). slice_index i.numbers 2) e) in let at_size : size ≡ size' = same_size size size' (ap (λ (i : Instruction Name). slice_index i.numbers 3) e) in cc
-same (sve.Sel zd zn pg zm size) (sve.Sel zd' zn' pg' zm' size') e = let at_zd : zd ≡ zd' = same_bits zd zd' (ap (λ (i : Instruction Name). slice_index i.numbers 0) e) in let at_zn : zn ≡ zn' = same_bits zn zn' (ap (λ (i : Instruction Name). slice_index i.numbers 1) e) in let at_pg : pg ≡ pg' = same_bits pg pg' (ap (λ (i : Instruction Name). slice_index i.numbers 2) e) in let at_zm : zm ≡ zm' = same_bits zm zm' (ap (λ (i : Instruction Name). slice_index i.numbers 3) e) in let at_size : size ≡ size' = same_size size size' (ap (λ (i : Instruction Name). slice_index i.numbers 4) e) in cc
-same (sve.AddSub op zd zn zm size) (sve.AddSub op' zd' zn' zm' size') e = let f : AddSub op ≡ AddSub op' = alike (sve.AddSub op zd zn zm size) (sve.AddSub op' zd' zn' zm' size') e in let at_op : op ≡ op' = cc in let at_zd : zd ≡ zd' = same_bits zd zd' (ap (λ (i : Instruction Name). slice_index i.numbers 0) e) in let at_zn : zn ≡ zn' = same_bits zn zn' (ap (λ (i : Instruction Name). slice_index i.numbers 1) e) in let at_zm : zm ≡ zm' = same_bits zm zm' (ap (λ (i : Instruction Name). slice_index i.numbers 2) e) in let at_size : size ≡ size' = same_size size size' (ap (λ (i : Instruction Name). slice_index i.numbers 3) e) in cc
-same (sve.Bitwise op zd zn zm) (sve.Bitwise op' zd' zn' zm') e = let f : Bitwise op ≡ Bitwise op' = alike (sve.Bitwise op zd zn zm) (sve.Bitwise op' zd' zn' zm') e in let at_op : op ≡ op' = cc in let at_zd : zd ≡ zd' = same_bits zd zd' (ap (λ (i : Instruction Name). slice_index i.numbers 0) e) in let at_zn : zn ≡ zn' = same_bits zn zn' (ap (λ (i : Instruction Name). slice_index i.numbers 1) e) in let at_zm : zm ≡ zm' = same_bits zm zm' (ap (λ (i : Instruction Name). slice_index i.numbers 2) e) in cc
-same (sve.ShiftImmediate op zd zn amount) (sve.ShiftImmediate op' zd' zn' amount') e = let f : ShiftImmediate op ≡ ShiftImmediate op' = alike (sve.ShiftImmediate op zd zn amount) (sve.ShiftImmediate op' zd' zn' amount') e in let at_op : op ≡ op' = cc in let at_zd : zd ≡ zd' = same_bits zd zd' (ap (λ (i : Instruction Name). slice_index i.numbers 0) e) in let at_zn : zn ≡ zn' = same_bits zn zn' (ap (λ (i : Instruction Name). slice_index i.numbers 1) e) in let at_amount : amount ≡ amount' = same_shift_amount amount amount' (ap (λ (i : Instruction Name). slice_index i.numbers 2) e) (ap (λ (i : Instruction Name). slice_index i.numbers 3) e) (ap (λ (i : Instruction Name). slice_index i.numbers 4) e) in cc
-same (sve.BinaryPredicated op zdn zm pg size) (sve.BinaryPredicated op' zdn' zm' pg' size') e = let f : BinaryPredicated op ≡ BinaryPredicated op' = alike (sve.BinaryPredicated op zdn zm pg size) (sve.BinaryPredicated op' zdn' zm' pg' size') e in let at_op : op ≡ op' = cc in let at_zdn : zdn ≡ zdn' = same_bits zdn zdn' (ap (λ (i : Instruction Name). slice_index i.numbers 0) e) in let at_zm : zm ≡ zm' = same_bits zm zm' (ap (λ (i : Instruction Name). slice_index i.numbers 1) e) in let at_pg : pg ≡ pg' = same_bits pg pg' (ap (λ (i : Instruction Name). slice_index i.numbers 2) e) in let at_size : size ≡ size' = same_size size size' (ap (λ (i : Instruction Name). slice_index i.numbers 3) e) in cc
-same (sve.UnaryPredicated op zd zn pg size) (sve.UnaryPredicated op' zd' zn' pg' size') e = let f : UnaryPredicated op ≡ UnaryPredicated op' = alike (sve.UnaryPredicated op zd zn pg size) (sve.UnaryPredicated op' zd' zn' pg' size') e in let at_op : op ≡ op' = cc in let at_zd : zd ≡ zd' = same_bits zd zd' (ap (λ (i : Instruction Name). slice_index i.numbers 0) e) in let at_zn : zn ≡ zn' = same_bits zn zn' (ap (λ (i : Instruction Name). slice_index i.numbers 1) e) in let at_pg : pg ≡ pg' = same_bits pg pg' (ap (λ (i : Instruction Name). slice_index i.numbers 2) e) in let at_size : size ≡ size' = same_size size size' (ap (λ (i : Instruction Name). slice_index i.numbers 3) e) in cc
-same (sve.ExtendByte op zd zn pg size) (sve.ExtendByte op' zd' zn' pg' size') e = let f : ExtendByte op ≡ ExtendByte op' = alike (sve.ExtendByte op zd zn pg size) (sve.ExtendByte op' zd' zn' pg' size') e in let at_op : op ≡ op' = cc in let at_zd : zd ≡ zd' = same_bits zd zd' (ap (λ (i : Instruction Name). slice_index i.numbers 0) e) in let at_zn : zn ≡ zn' = same_bits zn zn' (ap (λ (i : Instruction Name). slice_index i.numbers 1) e) in let at_pg : pg ≡ pg' = same_bits pg pg' (ap (λ (i : Instruction Name). slice_index i.numbers 2) e) in let at_size : size ≡ size' = same_size_from_h size size' (ap (λ (i : Instruction Name). slice_index i.numbers 3) e) in cc
-same (sve.ExtendHalfword op zd zn pg size) (sve.ExtendHalfword op' zd' zn' pg' size') e = let f : ExtendHalfword op ≡ ExtendHalfword op' = alike (sve.ExtendHalfword op zd zn pg size) (sve.ExtendHalfword op' zd' zn' pg' size') e in let at_op : op ≡ op' = cc in let at_zd : zd ≡ zd' = same_bits zd zd' (ap (λ (i : Instruction Name). slice_index i.numbers 0) e) in let at_zn : zn ≡ zn' = same_bits zn zn' (ap (λ (i : Instruction Name). slice_index i.numbers 1) e) in let at_pg : pg ≡ pg' = same_bits pg pg' (ap (λ (i : Instruction Name). slice_index i.numbers 2) e) in let at_size : size ≡ size' = same_size_from_s size size' (ap (λ (i : Instruction Name). slice_index i.numbers 3) e) in cc
-same (sve.ExtendWord op zd zn pg) (sve.ExtendWord op' zd' zn' pg') e = let f : ExtendWord op ≡ ExtendWord op' = alike (sve.ExtendWord op zd zn pg) (sve.ExtendWord op' zd' zn' pg') e in let at_op : op ≡ op' = cc in let at_zd : zd ≡ zd' = same_bits zd zd' (ap (λ (i : Instruction Name). slice_index i.numbers 0) e) in let at_zn : zn ≡ zn' = same_bits zn zn' (ap (λ (i : Instruction Name). slice_index i.numbers 1) e) in let at_pg : pg ≡ pg' = same_bits pg pg' (ap (λ (i : Instruction Name). slice_index i.numbers 2) e) in cc
-same (sve.Reduction op zd zn pg size) (sve.Reduction op' zd' zn' pg' size') e = let f : Reduction op ≡ Reduction op' = alike (sve.Reduction op zd zn pg size) (sve.Reduction op' zd' zn' pg' size') e in let at_op : op ≡ op' = cc in let at_zd : zd ≡ zd' = same_bits zd zd' (ap (λ (i : Instruction Name). slice_index i.numbers 0) e) in let at_zn : zn ≡ zn' = same_bits zn zn' (ap (λ (i : Instruction Name). slice_index i.numbers 1) e) in let at_pg : pg ≡ pg' = same_bits pg pg' (ap (λ (i : Instruction Name). slice_index i.numbers 2) e) in let at_size : size ≡ size' = same_size size size' (ap (λ (i : Instruction Name). slice_index i.numbers 3) e) in cc
-same (sve.CompareVectors op pd zn pg zm size) (sve.CompareVectors op' pd' zn' pg' zm' size') e = let f : CompareVectors op ≡ CompareVectors op' = alike (sve.CompareVectors op pd zn pg zm size) (sve.CompareVectors op' pd' zn' pg' zm' size') e in let at_op : op ≡ op' = cc in let at_pd : pd ≡ pd' = same_bits pd pd' (ap (λ (i : Instruction Name). slice_index i.numbers 0) e) in let at_zn : zn ≡ zn' = same_bits zn zn' (ap (λ (i : Instruction Name). slice_index i.numbers 1) e) in let at_pg : pg ≡ pg' = same_bits pg pg' (ap (λ (i : Instruction Name). slice_index i.numbers 2) e) in let at_zm : zm ≡ zm' = same_bits zm zm' (ap (λ (i : Instruction Name). slice_index i.numbers 3) e) in let at_size : size ≡ size' = same_size size size' (ap (λ (i : Instruction Name). slice_index i.numbers 4) e) in cc
-same (sve.ContiguousLoad zt rn pg offset dtype) (sve.ContiguousLoad zt' rn' pg' offset' dtype') e = let at_zt : zt ≡ zt' = same_bits zt zt' (ap (λ (i : Instruction Name). slice_index i.numbers 0) e) in let at_rn : rn ≡ rn' = same_bits rn rn' (ap (λ (i : Instruction Name). slice_index i.numbers 1) e) in let at_pg : pg ≡ pg' = same_bits pg pg' (ap (λ (i : Instruction Name). slice_index i.numbers 2) e) in let at_offset : offset ≡ offset' = same_offset_reg offset offset' (ap (λ (i : Instruction Name). slice_index i.numbers 3) e) in let at_dtype : dtype ≡ dtype' = same_dtype dtype dtype' (ap (λ (i : Instruction Name). slice_index i.numbers 4) e) in cc
-same (sve.FirstFaultLoad zt rn pg rm dtype) (sve.FirstFaultLoad zt' rn' pg' rm' dtype') e = let at_zt : zt ≡ zt' = same_bits zt zt' (ap (λ (i : Instruction Name). slice_index i.numbers 0) e) in let at_rn : rn ≡ rn' = same_bits rn rn' (ap (λ (i : Instruction Name). slice_index i.numbers 1) e) in let at_pg : pg ≡ pg' = same_bits pg pg' (ap (λ (i : Instruction Name). slice_index i.numbers 2) e) in let at_rm : rm ≡ rm' = same_bits rm rm' (ap (λ (i : Instruction Name). slice_index i.numbers 3) e) in let at_dtype : dtype ≡ dtype' = same_dtype dtype dtype' (ap (λ (i : Instruction Name). slice_index i.numbers 4) e) in cc
-same (sve.NonFaultLoad zt rn pg dtype) (sve.NonFaultLoad zt' rn' pg' dtype') e = let at_zt : zt ≡ zt' = same_bits zt zt' (ap (λ (i : Instruction Name). slice_index i.numbers 0) e) in let at_rn : rn ≡ rn' = same_bits rn rn' (ap (λ (i : Instruction Name). slice_index i.numbers 1) e) in let at_pg : pg ≡ pg' = same_bits pg pg' (ap (λ (i : Instruction Name). slice_index i.numbers 2) e) in let at_dtype : dtype ≡ dtype' = same_dtype dtype dtype' (ap (λ (i : Instruction Name). slice_index i.numbers 3) e) in cc
-same (sve.GatherLoad op zt rn pg zm) (sve.GatherLoad op' zt' rn' pg' zm') e = let f : GatherLoad op ≡ GatherLoad op' = alike (sve.GatherLoad op zt rn pg zm) (sve.GatherLoad op' zt' rn' pg' zm') e in let at_op : op ≡ op' = cc in let at_zt : zt ≡ zt' = same_bits zt zt' (ap (λ (i : Instruction Name). slice_index i.numbers 0) e) in let at_rn : rn ≡ rn' = same_bits rn rn' (ap (λ (i : Instruction Name). slice_index i.numbers 1) e) in let at_pg : pg ≡ pg' = same_bits pg pg' (ap (λ (i : Instruction Name). slice_index i.numbers 2) e) in let at_zm : zm ≡ zm' = same_bits zm zm' (ap (λ (i : Instruction Name). slice_index i.numbers 3) e) in cc
-same (sve.ContiguousStore zt rn pg offset sizes) (sve.ContiguousStore zt' rn' pg' offset' sizes') e = let at_zt : zt ≡ zt' = same_bits zt zt' (ap (λ (i : Instruction Name). slice_index i.numbers 0) e) in let at_rn : rn ≡ rn' = same_bits rn rn' (ap (λ (i : Instruction Name). slice_index i.numbers 1) e) in let at_pg : pg ≡ pg' = same_bits pg pg' (ap (λ (i : Instruction Name). slice_index i.numbers 2) e) in let at_offset : offset ≡ offset' = same_offset_reg offset offset' (ap (λ (i : Instruction Name). slice_index i.numbers 3) e) in let at_sizes : sizes ≡ sizes' = same_store_sizes sizes sizes' (ap (λ (i : Instruction Name). slice_index i.numbers 4) e) (ap (λ (i : Instruction Name). slice_index i.numbers 5) e) in cc
-same x y e = absurd (eqb-false (number (form x)) (number (form y)) refl (ap number (alike x y e)))
+equal_of_equal_views (sve.Ptrue pd size) (sve.Ptrue pd' size') e = let at_pd : pd ≡ pd' = same_bits pd pd' (ap (λ (i : Instruction Name). slice_index i.numbers 0) e) in let at_size : size ≡ size' = same_size size size' (ap (λ (i : Instruction Name). slice_index i.numbers 1) e) in cc
+equal_of_equal_views (sve.Pfalse pd) (sve.Pfalse pd') e = let at_pd : pd ≡ pd' = same_bits pd pd' (ap (λ (i : Instruction Name). slice_index i.numbers 0) e) in cc
+equal_of_equal_views (sve.Whilelo pd rn rm size) (sve.Whilelo pd' rn' rm' size') e = let at_pd : pd ≡ pd' = same_bits pd pd' (ap (λ (i : Instruction Name). slice_index i.numbers 0) e) in let at_rn : rn ≡ rn' = same_bits rn rn' (ap (λ (i : Instruction Name). slice_index i.numbers 1) e) in let at_rm : rm ≡ rm' = same_bits rm rm' (ap (λ (i : Instruction Name). slice_index i.numbers 2) e) in let at_size : size ≡ size' = same_size size size' (ap (λ (i : Instruction Name). slice_index i.numbers 3) e) in cc
+equal_of_equal_views (sve.Ptest pn pg) (sve.Ptest pn' pg') e = let at_pn : pn ≡ pn' = same_bits pn pn' (ap (λ (i : Instruction Name). slice_index i.numbers 0) e) in let at_pg : pg ≡ pg' = same_bits pg pg' (ap (λ (i : Instruction Name). slice_index i.numbers 1) e) in cc
+equal_of_equal_views (sve.PredicateLogical op pd pn pg pm) (sve.PredicateLogical op' pd' pn' pg' pm') e = let f : PredicateLogical op ≡ PredicateLogical op' = equal_forms_of_equal_views (sve.PredicateLogical op pd pn pg pm) (sve.PredicateLogical op' pd' pn' pg' pm') e in let at_op : op ≡ op' = cc in let at_pd : pd ≡ pd' = same_bits pd pd' (ap (λ (i : Instruction Name). slice_index i.numbers 0) e) in let at_pn : pn ≡ pn' = same_bits pn pn' (ap (λ (i : Instruction Name). slice_index i.numbers 1) e) in let at_pg : pg ≡ pg' = same_bits pg pg' (ap (λ (i : Instruction Name). slice_index i.numbers 2) e) in let at_pm : pm ≡ pm' = same_bits pm pm' (ap (λ (i : Instruction Name). slice_index i.numbers 3) e) in cc
+equal_of_equal_views (sve.Break op pd pn pg) (sve.Break op' pd' pn' pg') e = let f : Break op ≡ Break op' = equal_forms_of_equal_views (sve.Break op pd pn pg) (sve.Break op' pd' pn' pg') e in let at_op : op ≡ op' = cc in let at_pd : pd ≡ pd' = same_bits pd pd' (ap (λ (i : Instruction Name). slice_index i.numbers 0) e) in let at_pn : pn ≡ pn' = same_bits pn pn' (ap (λ (i : Instruction Name). slice_index i.numbers 1) e) in let at_pg : pg ≡ pg' = same_bits pg pg' (ap (λ (i : Instruction Name). slice_index i.numbers 2) e) in cc
+equal_of_equal_views (sve.Rdffr pd) (sve.Rdffr pd') e = let at_pd : pd ≡ pd' = same_bits pd pd' (ap (λ (i : Instruction Name). slice_index i.numbers 0) e) in cc
+equal_of_equal_views (sve.RdffrPredicated pd pg) (sve.RdffrPredicated pd' pg') e = let at_pd : pd ≡ pd' = same_bits pd pd' (ap (λ (i : Instruction Name). slice_index i.numbers 0) e) in let at_pg : pg ≡ pg' = same_bits pg pg' (ap (λ (i : Instruction Name). slice_index i.numbers 1) e) in cc
+equal_of_equal_views sve.Setffr sve.Setffr e = refl
+equal_of_equal_views (sve.Wrffr pn) (sve.Wrffr pn') e = let at_pn : pn ≡ pn' = same_bits pn pn' (ap (λ (i : Instruction Name). slice_index i.numbers 0) e) in cc
+equal_of_equal_views (sve.ElementCount op rd) (sve.ElementCount op' rd') e = let f : ElementCount op ≡ ElementCount op' = equal_forms_of_equal_views (sve.ElementCount op rd) (sve.ElementCount op' rd') e in let at_op : op ≡ op' = cc in let at_rd : rd ≡ rd' = same_bits rd rd' (ap (λ (i : Instruction Name). slice_index i.numbers 0) e) in cc
+equal_of_equal_views (sve.Incp rd pm size) (sve.Incp rd' pm' size') e = let at_rd : rd ≡ rd' = same_bits rd rd' (ap (λ (i : Instruction Name). slice_index i.numbers 0) e) in let at_pm : pm ≡ pm' = same_bits pm pm' (ap (λ (i : Instruction Name). slice_index i.numbers 1) e) in let at_size : size ≡ size' = same_size size size' (ap (λ (i : Instruction Name). slice_index i.numbers 2) e) in cc
+equal_of_equal_views (sve.Cntp rd pn pg size) (sve.Cntp rd' pn' pg' size') e = let at_rd : rd ≡ rd' = same_bits rd rd' (ap (λ (i : Instruction Name). slice_index i.numbers 0) e) in let at_pn : pn ≡ pn' = same_bits pn pn' (ap (λ (i : Instruction Name). slice_index i.numbers 1) e) in let at_pg : pg ≡ pg' = same_bits pg pg' (ap (λ (i : Instruction Name). slice_index i.numbers 2) e) in let at_size : size ≡ size' = same_size size size' (ap (λ (i : Instruction Name). slice_index i.numbers 3) e) in cc
+equal_of_equal_views (sve.DupScalar zd rn size) (sve.DupScalar zd' rn' size') e = let at_zd : zd ≡ zd' = same_bits zd zd' (ap (λ (i : Instruction Name). slice_index i.numbers 0) e) in let at_rn : rn ≡ rn' = same_bits rn rn' (ap (λ (i : Instruction Name). slice_index i.numbers 1) e) in let at_size : size ≡ size' = same_size size size' (ap (λ (i : Instruction Name). slice_index i.numbers 2) e) in cc
+equal_of_equal_views (sve.IndexScalarImmediate zd rn imm5 size) (sve.IndexScalarImmediate zd' rn' imm5' size') e = let at_zd : zd ≡ zd' = same_bits zd zd' (ap (λ (i : Instruction Name). slice_index i.numbers 0) e) in let at_rn : rn ≡ rn' = same_bits rn rn' (ap (λ (i : Instruction Name). slice_index i.numbers 1) e) in let at_imm5 : imm5 ≡ imm5' = same_bits imm5 imm5' (ap (λ (i : Instruction Name). slice_index i.numbers 2) e) in let at_size : size ≡ size' = same_size size size' (ap (λ (i : Instruction Name). slice_index i.numbers 3) e) in cc
+equal_of_equal_views (sve.Sel zd zn pg zm size) (sve.Sel zd' zn' pg' zm' size') e = let at_zd : zd ≡ zd' = same_bits zd zd' (ap (λ (i : Instruction Name). slice_index i.numbers 0) e) in let at_zn : zn ≡ zn' = same_bits zn zn' (ap (λ (i : Instruction Name). slice_index i.numbers 1) e) in let at_pg : pg ≡ pg' = same_bits pg pg' (ap (λ (i : Instruction Name). slice_index i.numbers 2) e) in let at_zm : zm ≡ zm' = same_bits zm zm' (ap (λ (i : Instruction Name). slice_index i.numbers 3) e) in let at_size : size ≡ size' = same_size size size' (ap (λ (i : Instruction Name). slice_index i.numbers 4) e) in cc
+equal_of_equal_views (sve.AddSub op zd zn zm size) (sve.AddSub op' zd' zn' zm' size') e = let f : AddSub op ≡ AddSub op' = equal_forms_of_equal_views (sve.AddSub op zd zn zm size) (sve.AddSub op' zd' zn' zm' size') e in let at_op : op ≡ op' = cc in let at_zd : zd ≡ zd' = same_bits zd zd' (ap (λ (i : Instruction Name). slice_index i.numbers 0) e) in let at_zn : zn ≡ zn' = same_bits zn zn' (ap (λ (i : Instruction Name). slice_index i.numbers 1) e) in let at_zm : zm ≡ zm' = same_bits zm zm' (ap (λ (i : Instruction Name). slice_index i.numbers 2) e) in let at_size : size ≡ size' = same_size size size' (ap (λ (i : Instruction Name). slice_index i.numbers 3) e) in cc
+equal_of_equal_views (sve.Bitwise op zd zn zm) (sve.Bitwise op' zd' zn' zm') e = let f : Bitwise op ≡ Bitwise op' = equal_forms_of_equal_views (sve.Bitwise op zd zn zm) (sve.Bitwise op' zd' zn' zm') e in let at_op : op ≡ op' = cc in let at_zd : zd ≡ zd' = same_bits zd zd' (ap (λ (i : Instruction Name). slice_index i.numbers 0) e) in let at_zn : zn ≡ zn' = same_bits zn zn' (ap (λ (i : Instruction Name). slice_index i.numbers 1) e) in let at_zm : zm ≡ zm' = same_bits zm zm' (ap (λ (i : Instruction Name). slice_index i.numbers 2) e) in cc
+equal_of_equal_views (sve.ShiftImmediate op zd zn amount) (sve.ShiftImmediate op' zd' zn' amount') e = let f : ShiftImmediate op ≡ ShiftImmediate op' = equal_forms_of_equal_views (sve.ShiftImmediate op zd zn amount) (sve.ShiftImmediate op' zd' zn' amount') e in let at_op : op ≡ op' = cc in let at_zd : zd ≡ zd' = same_bits zd zd' (ap (λ (i : Instruction Name). slice_index i.numbers 0) e) in let at_zn : zn ≡ zn' = same_bits zn zn' (ap (λ (i : Instruction Name). slice_index i.numbers 1) e) in let at_amount : amount ≡ amount' = same_shift_amount amount amount' (ap (λ (i : Instruction Name). slice_index i.numbers 2) e) (ap (λ (i : Instruction Name). slice_index i.numbers 3) e) (ap (λ (i : Instruction Name). slice_index i.numbers 4) e) in cc
+equal_of_equal_views (sve.BinaryPredicated op zdn zm pg size) (sve.BinaryPredicated op' zdn' zm' pg' size') e = let f : BinaryPredicated op ≡ BinaryPredicated op' = equal_forms_of_equal_views (sve.BinaryPredicated op zdn zm pg size) (sve.BinaryPredicated op' zdn' zm' pg' size') e in let at_op : op ≡ op' = cc in let at_zdn : zdn ≡ zdn' = same_bits zdn zdn' (ap (λ (i : Instruction Name). slice_index i.numbers 0) e) in let at_zm : zm ≡ zm' = same_bits zm zm' (ap (λ (i : Instruction Name). slice_index i.numbers 1) e) in let at_pg : pg ≡ pg' = same_bits pg pg' (ap (λ (i : Instruction Name). slice_index i.numbers 2) e) in let at_size : size ≡ size' = same_size size size' (ap (λ (i : Instruction Name). slice_index i.numbers 3) e) in cc
+equal_of_equal_views (sve.UnaryPredicated op zd zn pg size) (sve.UnaryPredicated op' zd' zn' pg' size') e = let f : UnaryPredicated op ≡ UnaryPredicated op' = equal_forms_of_equal_views (sve.UnaryPredicated op zd zn pg size) (sve.UnaryPredicated op' zd' zn' pg' size') e in let at_op : op ≡ op' = cc in let at_zd : zd ≡ zd' = same_bits zd zd' (ap (λ (i : Instruction Name). slice_index i.numbers 0) e) in let at_zn : zn ≡ zn' = same_bits zn zn' (ap (λ (i : Instruction Name). slice_index i.numbers 1) e) in let at_pg : pg ≡ pg' = same_bits pg pg' (ap (λ (i : Instruction Name). slice_index i.numbers 2) e) in let at_size : size ≡ size' = same_size size size' (ap (λ (i : Instruction Name). slice_index i.numbers 3) e) in cc
+equal_of_equal_views (sve.ExtendByte op zd zn pg size) (sve.ExtendByte op' zd' zn' pg' size') e = let f : ExtendByte op ≡ ExtendByte op' = equal_forms_of_equal_views (sve.ExtendByte op zd zn pg size) (sve.ExtendByte op' zd' zn' pg' size') e in let at_op : op ≡ op' = cc in let at_zd : zd ≡ zd' = same_bits zd zd' (ap (λ (i : Instruction Name). slice_index i.numbers 0) e) in let at_zn : zn ≡ zn' = same_bits zn zn' (ap (λ (i : Instruction Name). slice_index i.numbers 1) e) in let at_pg : pg ≡ pg' = same_bits pg pg' (ap (λ (i : Instruction Name). slice_index i.numbers 2) e) in let at_size : size ≡ size' = same_size_from_h size size' (ap (λ (i : Instruction Name). slice_index i.numbers 3) e) in cc
+equal_of_equal_views (sve.ExtendHalfword op zd zn pg size) (sve.ExtendHalfword op' zd' zn' pg' size') e = let f : ExtendHalfword op ≡ ExtendHalfword op' = equal_forms_of_equal_views (sve.ExtendHalfword op zd zn pg size) (sve.ExtendHalfword op' zd' zn' pg' size') e in let at_op : op ≡ op' = cc in let at_zd : zd ≡ zd' = same_bits zd zd' (ap (λ (i : Instruction Name). slice_index i.numbers 0) e) in let at_zn : zn ≡ zn' = same_bits zn zn' (ap (λ (i : Instruction Name). slice_index i.numbers 1) e) in let at_pg : pg ≡ pg' = same_bits pg pg' (ap (λ (i : Instruction Name). slice_index i.numbers 2) e) in let at_size : size ≡ size' = same_size_from_s size size' (ap (λ (i : Instruction Name). slice_index i.numbers 3) e) in cc
+equal_of_equal_views (sve.ExtendWord op zd zn pg) (sve.ExtendWord op' zd' zn' pg') e = let f : ExtendWord op ≡ ExtendWord op' = equal_forms_of_equal_views (sve.ExtendWord op zd zn pg) (sve.ExtendWord op' zd' zn' pg') e in let at_op : op ≡ op' = cc in let at_zd : zd ≡ zd' = same_bits zd zd' (ap (λ (i : Instruction Name). slice_index i.numbers 0) e) in let at_zn : zn ≡ zn' = same_bits zn zn' (ap (λ (i : Instruction Name). slice_index i.numbers 1) e) in let at_pg : pg ≡ pg' = same_bits pg pg' (ap (λ (i : Instruction Name). slice_index i.numbers 2) e) in cc
+equal_of_equal_views (sve.Reduction op zd zn pg size) (sve.Reduction op' zd' zn' pg' size') e = let f : Reduction op ≡ Reduction op' = equal_forms_of_equal_views (sve.Reduction op zd zn pg size) (sve.Reduction op' zd' zn' pg' size') e in let at_op : op ≡ op' = cc in let at_zd : zd ≡ zd' = same_bits zd zd' (ap (λ (i : Instruction Name). slice_index i.numbers 0) e) in let at_zn : zn ≡ zn' = same_bits zn zn' (ap (λ (i : Instruction Name). slice_index i.numbers 1) e) in let at_pg : pg ≡ pg' = same_bits pg pg' (ap (λ (i : Instruction Name). slice_index i.numbers 2) e) in let at_size : size ≡ size' = same_size size size' (ap (λ (i : Instruction Name). slice_index i.numbers 3) e) in cc
+equal_of_equal_views (sve.CompareVectors op pd zn pg zm size) (sve.CompareVectors op' pd' zn' pg' zm' size') e = let f : CompareVectors op ≡ CompareVectors op' = equal_forms_of_equal_views (sve.CompareVectors op pd zn pg zm size) (sve.CompareVectors op' pd' zn' pg' zm' size') e in let at_op : op ≡ op' = cc in let at_pd : pd ≡ pd' = same_bits pd pd' (ap (λ (i : Instruction Name). slice_index i.numbers 0) e) in let at_zn : zn ≡ zn' = same_bits zn zn' (ap (λ (i : Instruction Name). slice_index i.numbers 1) e) in let at_pg : pg ≡ pg' = same_bits pg pg' (ap (λ (i : Instruction Name). slice_index i.numbers 2) e) in let at_zm : zm ≡ zm' = same_bits zm zm' (ap (λ (i : Instruction Name). slice_index i.numbers 3) e) in let at_size : size ≡ size' = same_size size size' (ap (λ (i : Instruction Name). slice_index i.numbers 4) e) in cc
+equal_of_equal_views (sve.ContiguousLoad zt rn pg offset dtype) (sve.ContiguousLoad zt' rn' pg' offset' dtype') e = let at_zt : zt ≡ zt' = same_bits zt zt' (ap (λ (i : Instruction Name). slice_index i.numbers 0) e) in let at_rn : rn ≡ rn' = same_bits rn rn' (ap (λ (i : Instruction Name). slice_index i.numbers 1) e) in let at_pg : pg ≡ pg' = same_bits pg pg' (ap (λ (i : Instruction Name). slice_index i.numbers 2) e) in let at_offset : offset ≡ offset' = same_offset_reg offset offset' (ap (λ (i : Instruction Name). slice_index i.numbers 3) e) in let at_dtype : dtype ≡ dtype' = same_dtype dtype dtype' (ap (λ (i : Instruction Name). slice_index i.numbers 4) e) in cc
+equal_of_equal_views (sve.FirstFaultLoad zt rn pg rm dtype) (sve.FirstFaultLoad zt' rn' pg' rm' dtype') e = let at_zt : zt ≡ zt' = same_bits zt zt' (ap (λ (i : Instruction Name). slice_index i.numbers 0) e) in let at_rn : rn ≡ rn' = same_bits rn rn' (ap (λ (i : Instruction Name). slice_index i.numbers 1) e) in let at_pg : pg ≡ pg' = same_bits pg pg' (ap (λ (i : Instruction Name). slice_index i.numbers 2) e) in let at_rm : rm ≡ rm' = same_bits rm rm' (ap (λ (i : Instruction Name). slice_index i.numbers 3) e) in let at_dtype : dtype ≡ dtype' = same_dtype dtype dtype' (ap (λ (i : Instruction Name). slice_index i.numbers 4) e) in cc
+equal_of_equal_views (sve.NonFaultLoad zt rn pg dtype) (sve.NonFaultLoad zt' rn' pg' dtype') e = let at_zt : zt ≡ zt' = same_bits zt zt' (ap (λ (i : Instruction Name). slice_index i.numbers 0) e) in let at_rn : rn ≡ rn' = same_bits rn rn' (ap (λ (i : Instruction Name). slice_index i.numbers 1) e) in let at_pg : pg ≡ pg' = same_bits pg pg' (ap (λ (i : Instruction Name). slice_index i.numbers 2) e) in let at_dtype : dtype ≡ dtype' = same_dtype dtype dtype' (ap (λ (i : Instruction Name). slice_index i.numbers 3) e) in cc
+equal_of_equal_views (sve.GatherLoad op zt rn pg zm) (sve.GatherLoad op' zt' rn' pg' zm') e = let f : GatherLoad op ≡ GatherLoad op' = equal_forms_of_equal_views (sve.GatherLoad op zt rn pg zm) (sve.GatherLoad op' zt' rn' pg' zm') e in let at_op : op ≡ op' = cc in let at_zt : zt ≡ zt' = same_bits zt zt' (ap (λ (i : Instruction Name). slice_index i.numbers 0) e) in let at_rn : rn ≡ rn' = same_bits rn rn' (ap (λ (i : Instruction Name). slice_index i.numbers 1) e) in let at_pg : pg ≡ pg' = same_bits pg pg' (ap (λ (i : Instruction Name). slice_index i.numbers 2) e) in let at_zm : zm ≡ zm' = same_bits zm zm' (ap (λ (i : Instruction Name). slice_index i.numbers 3) e) in cc
+equal_of_equal_views (sve.ContiguousStore zt rn pg offset sizes) (sve.ContiguousStore zt' rn' pg' offset' sizes') e = let at_zt : zt ≡ zt' = same_bits zt zt' (ap (λ (i : Instruction Name). slice_index i.numbers 0) e) in let at_rn : rn ≡ rn' = same_bits rn rn' (ap (λ (i : Instruction Name). slice_index i.numbers 1) e) in let at_pg : pg ≡ pg' = same_bits pg pg' (ap (λ (i : Instruction Name). slice_index i.numbers 2) e) in let at_offset : offset ≡ offset' = same_offset_reg offset offset' (ap (λ (i : Instruction Name). slice_index i.numbers 3) e) in let at_sizes : sizes ≡ sizes' = same_store_sizes sizes sizes' (ap (λ (i : Instruction Name). slice_index i.numbers 4) e) (ap (λ (i : Instruction Name). slice_index i.numbers 5) e) in cc
+equal_of_equal_views x y e = absurd (eqb-false (number (form x)) (number (form y)) refl (ap number (equal_forms_of_equal_views x y e)))

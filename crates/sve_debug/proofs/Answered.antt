@@ -1,5 +1,5 @@
 -- A session whose input fails: the lines that were ended are answered.
-use Rattle.std.proofs.Common.{◌≡◌, ℕ, Bool, true, false, List, [], ◌∷◌, ◌++◌, drop, Option, Some, None, Ok, All, refl, sym, ap, ◌∙◌, subst, arith, append_assoc, append-nil}
+use Rattle.std.proofs.Common.{◌≡◌, ℕ, ◌+◌, ◌<◌, ◌≤◌, length, Bool, true, false, List, [], ◌∷◌, ◌++◌, drop, Option, Some, None, Ok, All, refl, sym, ap, ◌∙◌, subst, arith, append_assoc, append-nil}
 use Rattle.std.specs.Prelude.{IfSome, not, slice_get}
 use Rattle.std.proofs.lemmas.Bool.{cond-true, cond-false, eqb-true}
 use Rattle.std.proofs.lemmas.List.Elements.{All-push, All-head, All-tail}
@@ -7,8 +7,8 @@ use Rattle.text_parts.specs.Parts.{is_byte}
 use Rattle.machine_model.specs.Machine.{State}
 use Rattle.sve_debug.specs.DebuggerState.{DebuggerState, Stands}
 use Rattle.sve_debug.specs.Replies.{Session, after_line, line_text, quits, replies}
-use Rattle.sve_debug.specs.Sessions.{is_end, pending, byte_answer, ends, ended_lines, AsItCame}
-use Rattle.sve_debug.proofs.Sessions.{IsPending, LoopIndex, by_quit, replies_none, replies_more, goes, all_put, joined}
+use Rattle.sve_debug.specs.Sessions.{is_end, pending, byte_answer, ends, ended_lines, AsItCame, IsWithin, most_input}
+use Rattle.sve_debug.proofs.Sessions.{IsPending, LoopIndex, by_quit, replies_none, replies_more, goes, all_put, both_texts_gained, if_some}
 
 abbrev GoesOn : List ℕ → Type 0
 GoesOn line = quits line ≡ false
@@ -41,8 +41,8 @@ ended_push (l ∷ lines) line rest =
     ∙ ap (λ t. l ++ 10 ∷ t) (ended_push lines line rest)
     ∙ sym (append_assoc l (10 ∷ ended_lines lines) (line ++ 10 ∷ rest))
 
--- Some lines were taken of these bytes, with a part of one more, and answered.
-pub record SoFar (held : DebuggerState) (start : State) (d : Session) (bytes line : List ℕ) (input old new : Option (List ℕ)) : Type 0 where
+-- Some lines were taken of these bytes, with a part of one more, so many bytes together, and the lines were answered.
+pub record SoFar (held : DebuggerState) (start : State) (d : Session) (bytes line : List ℕ) (n : ℕ) (input old new : Option (List ℕ)) : Type 0 where
   pub lines : List (List ℕ)
   pub each : All IsPending lines
   pub go_on : All GoesOn lines
@@ -50,9 +50,10 @@ pub record SoFar (held : DebuggerState) (start : State) (d : Session) (bytes lin
   pub left : List ℕ
   pub input_is : input ≡ Some left
   pub taken : bytes ≡ ended_lines lines ++ (line ++ left)
+  pub count : length bytes ≡ n + length left
   pub put : IfSome old (λ told. new ≡ Some (told ++ replies d lines))
 
-pub so_far_first : (held : DebuggerState) (start : State) (d : Session) (line bytes : List ℕ) (input old : Option (List ℕ)) → line ≡ [] → Stands held start d → input ≡ Some bytes → SoFar held start d bytes line input old old
+pub so_far_first : (held : DebuggerState) (start : State) (d : Session) (line bytes : List ℕ) (input old : Option (List ℕ)) → line ≡ [] → Stands held start d → input ≡ Some bytes → SoFar held start d bytes line 0 input old old
 so_far_first held start d line bytes input old empty h is = record {
   lines = [];
   each = λ k x lt. absurd (omega (arith, lt));
@@ -61,6 +62,7 @@ so_far_first held start d line bytes input old empty h is = record {
   left = bytes;
   input_is = is;
   taken = ap (λ l. l ++ bytes) (sym empty);
+  count = omega arith;
   put = none_yet old;
 }
   where
@@ -74,12 +76,12 @@ first_left (b ∷ left) byte is =
     let same : b ≡ byte = cc in
     ap (λ x. x ∷ left) same
 
-put_by : (old new : Option (List ℕ)) (text more all : List ℕ) → text ++ more ≡ all → IfSome old (λ told. new ≡ Some (told ++ (text ++ more))) → IfSome old (λ told. new ≡ Some (told ++ all))
-put_by old new text more all is put = subst (λ t. IfSome old (λ told. new ≡ Some (told ++ t))) is put
+text_put_in_two : (old new : Option (List ℕ)) (text more all : List ℕ) → text ++ more ≡ all → IfSome old (λ told. new ≡ Some (told ++ (text ++ more))) → IfSome old (λ told. new ≡ Some (told ++ all))
+text_put_in_two old new text more all is put = subst (λ t. IfSome old (λ told. new ≡ Some (told ++ t))) is put
 
 -- after one byte more
-pub so_far_next : (held held' : DebuggerState) (start : State) (d : Session) (bytes line line' : List ℕ) (byte : ℕ) (on : Bool) (input input' old mid new : Option (List ℕ)) → IsPending line → IfSome input (λ bytes. Some byte ≡ slice_get bytes 0) → IfSome input (λ bytes. input' ≡ Some (drop 1 bytes)) → line' ≡ pending line byte → on ≡ true → on ≡ not (ends line byte) → LoopIndex held held' start line byte mid new (Ok on) → SoFar held start d bytes line input old mid → SoFar held' start d bytes line' input' old new
-so_far_next held held' start d bytes line line' byte on input input' old mid new pends next left following is e t u = by_end (is_byte 10 byte) refl
+pub so_far_next : (held held' : DebuggerState) (start : State) (d : Session) (bytes line line' : List ℕ) (n byte : ℕ) (on : Bool) (input input' old mid new : Option (List ℕ)) → IsPending line → IfSome input (λ bytes. Some byte ≡ slice_get bytes 0) → IfSome input (λ bytes. input' ≡ Some (drop 1 bytes)) → line' ≡ pending line byte → on ≡ true → on ≡ not (ends line byte) → LoopIndex held held' start line byte mid new (Ok on) → SoFar held start d bytes line n input old mid → SoFar held' start d bytes line' (n + 1) input' old new
+so_far_next held held' start d bytes line line' n byte on input input' old mid new pends next left following is e t u = by_end (is_byte 10 byte) refl
   where
     rest : List ℕ
     rest = drop 1 u.left
@@ -90,6 +92,12 @@ so_far_next held held' start d bytes line line' byte on input input' old mid new
     input_left : input' ≡ Some rest
     input_left = subst (λ i. IfSome i (λ bytes. input' ≡ Some (drop 1 bytes))) u.input_is left
 
+    fewer : length bytes ≡ n + 1 + length rest
+    fewer =
+        let count = u.count in
+        let one = ap length here in
+        omega (arith, count, one)
+
     before : Session
     before = after_lines u.lines d
 
@@ -97,9 +105,9 @@ so_far_next held held' start d bytes line line' byte on input input' old mid new
     took = u.taken ∙ ap (λ l. ended_lines u.lines ++ (line ++ l)) here
 
     said : IfSome old (λ told. new ≡ Some (told ++ (replies d u.lines ++ byte_answer line byte before)))
-    said = joined old mid new (replies d u.lines) (byte_answer line byte before) u.put (all_put mid new (byte_answer line byte before) on (t.told before u.stands))
+    said = both_texts_gained old mid new (replies d u.lines) (byte_answer line byte before) u.put (all_put mid new (byte_answer line byte before) on (t.told before u.stands))
 
-    by_end : (b : Bool) → is_byte 10 byte ≡ b → SoFar held' start d bytes line' input' old new
+    by_end : (b : Bool) → is_byte 10 byte ≡ b → SoFar held' start d bytes line' (n + 1) input' old new
     by_end true end =
         let stays : quits line ≡ false = sym (cond-true (is_end byte) _ _ end) ∙ goes on (ends line byte) is e in
         let empty : line' ≡ [] = following ∙ cond-true (is_end byte) _ _ end in
@@ -117,7 +125,8 @@ so_far_next held held' start d bytes line line' byte on input input' old mid new
               ∙ ap (λ b. ended_lines u.lines ++ (line ++ b ∷ rest)) feed
               ∙ sym (ended_push u.lines line rest)
               ∙ ap (λ l. ended_lines (u.lines ++ line ∷ []) ++ (l ++ rest)) (sym empty);
-          put = put_by old new (replies d u.lines) (byte_answer line byte before) (replies d (u.lines ++ line ∷ [])) (ap (λ x. replies d u.lines ++ x) text ∙ sym (replies_push u.lines line d u.go_on stays)) said;
+          count = fewer;
+          put = text_put_in_two old new (replies d u.lines) (byte_answer line byte before) (replies d (u.lines ++ line ∷ [])) (ap (λ x. replies d u.lines ++ x) text ∙ sym (replies_push u.lines line d u.go_on stays)) said;
         }
     by_end false end =
         let more : line' ≡ line ++ byte ∷ [] = following ∙ cond-false (is_end byte) _ _ end in
@@ -133,15 +142,31 @@ so_far_next held held' start d bytes line line' byte on input input' old mid new
               took
               ∙ ap (λ l. ended_lines u.lines ++ l) (sym (append_assoc line (byte ∷ []) rest))
               ∙ ap (λ l. ended_lines u.lines ++ (l ++ rest)) (sym more);
-          put = put_by old new (replies d u.lines) (byte_answer line byte before) (replies d u.lines) (ap (λ x. replies d u.lines ++ x) text ∙ append-nil (replies d u.lines)) said;
+          count = fewer;
+          put = text_put_in_two old new (replies d u.lines) (byte_answer line byte before) (replies d u.lines) (ap (λ x. replies d u.lines ++ x) text ∙ append-nil (replies d u.lines)) said;
         }
 
 -- the input failed, and nothing of it was taken
-pub so_far_failed : (held : DebuggerState) (start : State) (d : Session) (bytes line : List ℕ) (input input' old new : Option (List ℕ)) → IsPending line → IfSome input (λ bytes. input' ≡ Some bytes) → SoFar held start d bytes line input old new → AsItCame d bytes input' old new
-so_far_failed held start d bytes line input input' old new pends same u =
+pub so_far_failed : (held : DebuggerState) (start : State) (d : Session) (bytes line : List ℕ) (n : ℕ) (input input' old new : Option (List ℕ)) → IsPending line → IfSome input (λ bytes. input' ≡ Some bytes) → SoFar held start d bytes line n input old new → AsItCame d bytes input' old new
+so_far_failed held start d bytes line n input input' old new pends same u =
     let left : input' ≡ Some u.left = subst (λ i. IfSome i (λ bytes. input' ≡ Some bytes)) u.input_is same in
     subst (λ i. AsItCame d bytes i old new) (sym left) (told old u.put)
   where
     told : (o : Option (List ℕ)) → IfSome o (λ before. new ≡ Some (before ++ replies d u.lines)) → AsItCame d bytes (Some u.left) o new
     told None put = tt
-    told (Some before) put = (before ++ replies d u.lines, put, record { lines = u.lines; each = u.each; part = line; no_end = pends; taken = u.taken; answers = refl })
+    told (Some before) put = (before ++ replies d u.lines, put, record { lines = u.lines; each = u.each; go_on = u.go_on; part = line; no_end = pends; taken = u.taken; answers = refl })
+
+-- the next byte may be asked for
+pub in_time : {I : Type 0} (may_take : I → Type 0) (i : I) (held : DebuggerState) (start : State) (d : Session) (line : List ℕ) (n : ℕ) (whole input old new : Option (List ℕ)) → IsPending line → n + 1 ≤ most_input → ((bytes : List ℕ) → whole ≡ Some bytes → SoFar held start d bytes line n input old new) → (IfSome whole (λ bytes. IsWithin bytes input × AsItCame d bytes input old new) → may_take i) → may_take i
+in_time may_take i held start d line n whole input old new pends inside so_far may =
+    may (if_some whole (λ (bytes : List ℕ). IsWithin bytes input × AsItCame d bytes input old new) (λ bytes is. (within bytes (so_far bytes is), so_far_failed held start d bytes line n input input old new pends (told_same input) (so_far bytes is))))
+  where
+    told_same : (o : Option (List ℕ)) → IfSome o (λ bytes. o ≡ Some bytes)
+    told_same None = tt
+    told_same (Some bytes) = refl
+
+    within : (bytes : List ℕ) → SoFar held start d bytes line n input old new → IsWithin bytes input
+    within bytes u =
+        let count = u.count in
+        let few : length bytes < length u.left + most_input = omega (arith, count, inside) in
+        subst (λ o. IsWithin bytes o) (sym u.input_is) few

@@ -12,7 +12,7 @@ use Rattle.debug_history.proofs.Counts.{counts_noted, counts_up_to, noted_all, n
 use Rattle.sve_debug.specs.DebuggerState.{DebuggerState, Shows, Stands, IsKept, IsTwin, held_by, came_out}
 use Rattle.sve_debug.specs.Reaches.{Reaches, ReachesCounted}
 use Rattle.sve_debug.specs.Replies.{Session, started, stepped, steps_to, session_at, is_break, with_counts, counted_over, counted_since, counted_steps, counts_to, back_at, gone_back, after_back, is_too_far}
-use Rattle.sve_debug.proofs.Runs.{at_end, at_break, at_step, no_steps, shows_now}
+use Rattle.sve_debug.proofs.Runs.{steps_when_over, at_break, at_step, no_steps, shows_now}
 
 -- ---- what steps leave alone
 
@@ -22,7 +22,7 @@ commute stops zero counts d = no_steps stops (with_counts counts d) ∙ ap (with
 commute stops (suc n) counts d = go (commute stops n counts (stepped d)) (is_some d.over) refl (is_break stops (stepped d).state.pc) refl
   where
     go : steps_to stops n (with_counts counts (stepped d)) ≡ with_counts counts (steps_to stops n (stepped d)) → (b : Bool) → is_some d.over ≡ b → (c : Bool) → is_break stops (stepped d).state.pc ≡ c → steps_to stops (suc n) (with_counts counts d) ≡ with_counts counts (steps_to stops (suc n) d)
-    go rest true e c f = at_end stops (suc n) (with_counts counts d) e ∙ ap (with_counts counts) (sym (at_end stops (suc n) d e))
+    go rest true e c f = steps_when_over stops (suc n) (with_counts counts d) e ∙ ap (with_counts counts) (sym (steps_when_over stops (suc n) d e))
     go rest false e true f = at_break stops n (with_counts counts d) e f ∙ ap (with_counts counts) (sym (at_break stops n d e f))
     go rest false e false f = at_step stops n (with_counts counts d) e f ∙ rest ∙ ap (with_counts counts) (sym (at_step stops n d e f))
 
@@ -31,7 +31,7 @@ start_stays stops zero d = ap (λ (e : Session). e.start) (no_steps stops d)
 start_stays stops (suc n) d = go (start_stays stops n (stepped d)) (is_some d.over) refl (is_break stops (stepped d).state.pc) refl
   where
     go : (steps_to stops n (stepped d)).start ≡ d.start → (b : Bool) → is_some d.over ≡ b → (c : Bool) → is_break stops (stepped d).state.pc ≡ c → (steps_to stops (suc n) d).start ≡ d.start
-    go rest true e c f = ap (λ (e : Session). e.start) (at_end stops (suc n) d e)
+    go rest true e c f = ap (λ (e : Session). e.start) (steps_when_over stops (suc n) d e)
     go rest false e true f = ap (λ (e : Session). e.start) (at_break stops n d e f)
     go rest false e false f = ap (λ (e : Session). e.start) (at_step stops n d e f) ∙ rest
 
@@ -92,7 +92,7 @@ counted_end held start d stops n left none r =
 
 pub counted_over_end : (held : DebuggerState) (start : State) (d : Session) (stops : List ℕ) (n : ℕ) → is_some d.over ≡ true → Stands held start d → Stands held start (counted_steps stops n d)
 counted_over_end held start d stops n over h =
-    let same = at_end stops n d over in
+    let same = steps_when_over stops n d over in
     let none = counted_none d.steps (d.steps - d.steps) d.counts (omega arith) in
     subst (Stands held start) (sym (ap (counted_since d) same ∙ ap (λ c. with_counts c d) none)) h
 
@@ -181,8 +181,8 @@ twin_now w x same quiet =
     }
 
 -- before the first step
-pub begun : (v : View) (breaks last : List ℕ) → v.steps ≡ 0 → v.over ≡ None → IsTrue v.quiet → breaks ≡ [] → last ≡ [] → Shows (held_by v breaks last) v.state (started v.state)
-begun v breaks last steps over quiet no_breaks no_places = record {
+pub shows_started : (v : View) (breaks last : List ℕ) → v.steps ≡ 0 → v.over ≡ None → IsTrue v.quiet → breaks ≡ [] → last ≡ [] → Shows (held_by v breaks last) v.state (started v.state)
+shows_started v breaks last steps over quiet no_breaks no_places = record {
   state = refl;
   steps = steps;
   over = sym (ap (option_map (came_out v.state 0)) over);
@@ -277,7 +277,7 @@ behind_steps front counts breaks zero d = no_steps [] (behind front counts break
 behind_steps front counts breaks (suc n) d = go (behind_steps front counts breaks n (stepped d)) (is_some d.over) refl
   where
     go : steps_to [] n (behind front counts breaks (stepped d)) ≡ behind front counts breaks (steps_to [] n (stepped d)) → (b : Bool) → is_some d.over ≡ b → steps_to [] (suc n) (behind front counts breaks d) ≡ behind front counts breaks (steps_to [] (suc n) d)
-    go rest true e = at_end [] (suc n) (behind front counts breaks d) e ∙ ap (behind front counts breaks) (sym (at_end [] (suc n) d e))
+    go rest true e = steps_when_over [] (suc n) (behind front counts breaks d) e ∙ ap (behind front counts breaks) (sym (steps_when_over [] (suc n) d e))
     go rest false e =
         at_step [] n (behind front counts breaks d) e refl
         ∙ ap (steps_to [] n) (behind_step front counts breaks d)
@@ -293,7 +293,7 @@ in_turn zero n d = ap (λ k. steps_to [] k d) (let e : 0 + n ≡ n = omega arith
 in_turn (suc m) n d = go (in_turn m n (stepped d)) (is_some d.over) refl
   where
     go : steps_to [] (m + n) (stepped d) ≡ steps_to [] n (steps_to [] m (stepped d)) → (b : Bool) → is_some d.over ≡ b → steps_to [] (suc m + n) d ≡ steps_to [] n (steps_to [] (suc m) d)
-    go rest true e = at_end [] (suc m + n) d e ∙ sym (at_end [] n d e) ∙ ap (steps_to [] n) (sym (at_end [] (suc m) d e))
+    go rest true e = steps_when_over [] (suc m + n) d e ∙ sym (steps_when_over [] n d e) ∙ ap (steps_to [] n) (sym (steps_when_over [] (suc m) d e))
     go rest false e =
         ap (λ k. steps_to [] k d) (let more : suc m + n ≡ suc (m + n) = omega arith in more)
         ∙ at_step [] (m + n) d e refl
@@ -309,7 +309,7 @@ places_are (suc n) d h = go (places_are n (stepped d)) (is_some d.over) refl
     more = length-append d.places (d.state.pc ∷ []) ∙ ap (λ k. k + 1) h
 
     go : (length (stepped d).places ≡ (stepped d).steps → length (steps_to [] n (stepped d)).places ≡ (steps_to [] n (stepped d)).steps) → (b : Bool) → is_some d.over ≡ b → length (steps_to [] (suc n) d).places ≡ (steps_to [] (suc n) d).steps
-    go rest true e = ap (λ (s : Session). length s.places) (at_end [] (suc n) d e) ∙ h ∙ ap (λ (s : Session). s.steps) (sym (at_end [] (suc n) d e))
+    go rest true e = ap (λ (s : Session). length s.places) (steps_when_over [] (suc n) d e) ∙ h ∙ ap (λ (s : Session). s.steps) (sym (steps_when_over [] (suc n) d e))
     go rest false e =
         ap (λ (s : Session). length s.places) (at_step [] n d e refl)
         ∙ rest more

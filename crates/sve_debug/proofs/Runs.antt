@@ -20,10 +20,10 @@ use Rattle.sve_debug.specs.Replies.{Session, started, stepped, steps_to, session
 -- ---- steps of a session
 
 -- no step after the end or a stop
-pub at_end : (stops : List ℕ) (n : ℕ) (d : Session) → is_some d.over ≡ true → steps_to stops n d ≡ d
+pub steps_when_over : (stops : List ℕ) (n : ℕ) (d : Session) → is_some d.over ≡ true → steps_to stops n d ≡ d
 unfolding steps_to
-at_end stops zero d h = refl
-at_end stops (suc n) d h = cond-true (is_some d.over) _ _ h
+steps_when_over stops zero d h = refl
+steps_when_over stops (suc n) d h = cond-true (is_some d.over) _ _ h
 
 pub at_break : (stops : List ℕ) (n : ℕ) (d : Session) → is_some d.over ≡ false → is_break stops (stepped d).state.pc ≡ true → steps_to stops (suc n) d ≡ stepped d
 unfolding steps_to
@@ -40,17 +40,17 @@ no_steps stops d = refl
 -- one step more
 more_by : (n : ℕ) (d : Session) (b : Bool) → is_some d.over ≡ b → ((e : Session) → is_some (steps_to [] n e).over ≡ false → steps_to [] (suc n) e ≡ stepped (steps_to [] n e)) → is_some (steps_to [] (suc n) d).over ≡ false → steps_to [] (suc (suc n)) d ≡ stepped (steps_to [] (suc n) d)
 more_by n d true is rec h =
-    let same : is_some d.over ≡ false = ap (λ e. is_some e.over) (sym (at_end [] (suc n) d is)) ∙ h in
+    let same : is_some d.over ≡ false = ap (λ e. is_some e.over) (sym (steps_when_over [] (suc n) d is)) ∙ h in
     absurd cc
 more_by n d false is rec h =
     let first : steps_to [] (suc n) d ≡ steps_to [] n (stepped d) = at_step [] n d is refl in
     at_step [] (suc n) d is refl ∙ rec (stepped d) (ap (λ e. is_some e.over) (sym first) ∙ h) ∙ ap stepped (sym first)
 
-one_more : (n : ℕ) (d : Session) → is_some (steps_to [] n d).over ≡ false → steps_to [] (suc n) d ≡ stepped (steps_to [] n d)
-one_more zero d h =
+steps_of_suc : (n : ℕ) (d : Session) → is_some (steps_to [] n d).over ≡ false → steps_to [] (suc n) d ≡ stepped (steps_to [] n d)
+steps_of_suc zero d h =
     let none = no_steps [] d in
     at_step [] 0 d (ap (λ e. is_some e.over) (sym none) ∙ h) refl ∙ no_steps [] (stepped d) ∙ ap stepped (sym none)
-one_more (suc n) d h = more_by n d (is_some d.over) refl (one_more n) h
+steps_of_suc (suc n) d h = more_by n d (is_some d.over) refl (steps_of_suc n) h
 
 -- ---- the last places
 
@@ -95,7 +95,7 @@ stood v w answer breaks last start d none is steps over quiet h =
     let since = h.since in
     let before = session_at start d.steps in
     let one : session_at start (d.steps + 1) ≡ stepped before =
-    ap (session_at start) (add-one d.steps) ∙ one_more d.steps (started start) (ap is_some since.over_is ∙ none_yet) in
+    ap (session_at start) (add-one d.steps) ∙ steps_of_suc d.steps (started start) (ap is_some since.over_is ∙ none_yet) in
     record {
       state = state;
       steps = steps ∙ ap (λ n. n + 1) h.steps;
@@ -193,7 +193,7 @@ reaches_on held start d stops n left rest before r next =
 
 pub stands_over : (v : View) (breaks last : List ℕ) (start : State) (d : Session) (stops : List ℕ) (n : ℕ) → is_some v.over ≡ true → Shows (held_by v breaks last) start d → Shows (held_by v breaks last) start (steps_to stops n d)
 stands_over v breaks last start d stops n over h =
-    subst (Shows (held_by v breaks last) start) (sym (at_end stops n d (is_over v breaks last start d over h))) h
+    subst (Shows (held_by v breaks last) start) (sym (steps_when_over stops n d (is_over v breaks last start d over h))) h
 
 -- another step, and the machine goes on
 pub reaches_next : (v w : View) (breaks last last' : List ℕ) (start : State) (d : Session) (stops : List ℕ) (n k : ℕ) → k + 1 ≤ n → v.over ≡ None → is_break stops w.state.pc ≡ false → Steps v w breaks last last' start → Reaches (held_by v breaks last) start d stops n (n - k) → Reaches (held_by w breaks last') start d stops n (n - (k + 1))
@@ -223,9 +223,9 @@ reaches_break v w breaks last last' start d stops n k inside none here next r =
           ∙ sym (no_steps stops (stepped r.session));
     }
 
-at_last : (stops : List ℕ) (n : ℕ) (d : Session) (b : Bool) → is_some d.over ≡ false → is_some (stepped d).over ≡ true → is_break stops (stepped d).state.pc ≡ b → steps_to stops (suc n) d ≡ stepped d
-at_last stops n d true h over b = at_break stops n d h b
-at_last stops n d false h over b = at_step stops n d h b ∙ at_end stops n (stepped d) over
+steps_at_last : (stops : List ℕ) (n : ℕ) (d : Session) (b : Bool) → is_some d.over ≡ false → is_some (stepped d).over ≡ true → is_break stops (stepped d).state.pc ≡ b → steps_to stops (suc n) d ≡ stepped d
+steps_at_last stops n d true h over b = at_break stops n d h b
+steps_at_last stops n d false h over b = at_step stops n d h b ∙ steps_when_over stops n (stepped d) over
 
 -- the step that comes to the end or a stop
 pub reaches_last : (v w : View) (breaks last last' : List ℕ) (start : State) (d : Session) (stops : List ℕ) (n k : ℕ) → k + 1 ≤ n → v.over ≡ None → is_some w.over ≡ true → Steps v w breaks last last' start → Reaches (held_by v breaks last) start d stops n (n - k) → Reaches (held_by w breaks last') start d stops n 0
@@ -238,6 +238,6 @@ reaches_last v w breaks last last' start d stops n k inside none over next r =
       same =
           r.same
           ∙ ap (λ m. steps_to stops m r.session) count
-          ∙ at_last stops (n - (k + 1)) r.session _ (not_over v breaks last start r.session none r.stands) (is_over w breaks last' start (stepped r.session) over after) refl
+          ∙ steps_at_last stops (n - (k + 1)) r.session _ (not_over v breaks last start r.session none r.stands) (is_over w breaks last' start (stepped r.session) over after) refl
           ∙ sym (no_steps stops (stepped r.session));
     }

@@ -117,13 +117,13 @@ part_put : {T : Type 0} (mid new : Option (List ℕ)) (x : List ℕ) (result : R
 part_put None new x result h = tt
 part_put (Some bytes) new x result h = h.1
 
-nothing : (mid : Option (List ℕ)) → IfSome mid (λ bytes. GainsPart bytes mid [])
-nothing None = tt
-nothing (Some bytes) = (0, omega arith, ap Some (sym (append-nil bytes)))
+gains_no_part : (mid : Option (List ℕ)) → IfSome mid (λ bytes. GainsPart bytes mid [])
+gains_no_part None = tt
+gains_no_part (Some bytes) = (0, omega arith, ap Some (sym (append-nil bytes)))
 
-pub joined : (old mid new : Option (List ℕ)) (text x : List ℕ) → IfSome old (λ bytes. mid ≡ Some (bytes ++ text)) → IfSome mid (λ bytes. new ≡ Some (bytes ++ x)) → IfSome old (λ bytes. new ≡ Some (bytes ++ (text ++ x)))
-joined None mid new text x put all = tt
-joined (Some bytes) mid new text x put all =
+pub both_texts_gained : (old mid new : Option (List ℕ)) (text x : List ℕ) → IfSome old (λ bytes. mid ≡ Some (bytes ++ text)) → IfSome mid (λ bytes. new ≡ Some (bytes ++ x)) → IfSome old (λ bytes. new ≡ Some (bytes ++ (text ++ x)))
+both_texts_gained None mid new text x put all = tt
+both_texts_gained (Some bytes) mid new text x put all =
     subst (λ m. IfSome m (λ b. new ≡ Some (b ++ x))) put all ∙ ap Some (append_assoc bytes text x)
 
 -- ---- a session under way
@@ -163,10 +163,10 @@ one_left (b ∷ left) most k byte inside is =
     let same : b ≡ byte = cc in
     ap (λ n. take n (b ∷ left)) count ∙ ap (λ x. x ∷ take (most - (k + 1)) left) same
 
-none_left : (left : List ℕ) (n : ℕ) → None ≡ slice_get left 0 → take n left ≡ []
-none_left [] zero is = refl
-none_left [] (suc n) is = refl
-none_left (b ∷ left) n is = absurd cc
+take_of_nothing_left : (left : List ℕ) (n : ℕ) → None ≡ slice_get left 0 → take n left ≡ []
+take_of_nothing_left [] zero is = refl
+take_of_nothing_left [] (suc n) is = refl
+take_of_nothing_left (b ∷ left) n is = absurd cc
 
 pub goes : (on b : Bool) → on ≡ true → on ≡ not b → b ≡ false
 goes on true is e = absurd cc
@@ -199,7 +199,7 @@ under_next held held' start d whole line line' most k byte on input input' old m
           ∙ ap (λ r. u.text ++ r) (on_by (is_byte 10 byte) line after byte u.session refl pends (goes on (ends line byte) is e))
           ∙ sym (append_assoc u.text said (replies (after_byte line byte u.session) (lines_of (pending line byte ++ after))))
           ∙ ap (λ l. (u.text ++ said) ++ replies (after_byte line byte u.session) (lines_of (l ++ after))) (sym following);
-      put = joined old mid new u.text said u.put (all_put mid new said on (t.told u.session u.stands));
+      put = both_texts_gained old mid new u.text said u.put (all_put mid new said on (t.told u.session u.stands));
     }
 
 -- a line ends the session
@@ -236,7 +236,7 @@ under_cut held held' start d whole line most k byte input old mid new first resu
 -- the input failed
 pub under_unread : {T : Type 0} (held : DebuggerState) (start : State) (d : Session) (whole line : List ℕ) (n : ℕ) (input old mid : Option (List ℕ)) (result : Result T SessionFault) → IsErr result → Under held start d whole line n input old mid → Tells old mid (replies d (lines_of whole)) result
 under_unread held start d whole line n input old mid result err u =
-    tells_part old mid mid u.text [] (replies u.session (lines_of (line ++ take n u.left))) (replies d (lines_of whole)) result err u.same u.put (nothing mid)
+    tells_part old mid mid u.text [] (replies u.session (lines_of (line ++ take n u.left))) (replies d (lines_of whole)) result err u.same u.put (gains_no_part mid)
 
 -- the last line
 last_by : {T : Type 0} (old mid new : Option (List ℕ)) (text x whole : List ℕ) (result : Result T SessionFault) → whole ≡ text ++ x → IfSome old (λ bytes. mid ≡ Some (bytes ++ text)) → Tells mid new x result → Tells old new whole result
@@ -257,7 +257,7 @@ under_last held start d whole line n input old mid new result pends u end told =
 pub under_end : {T : Type 0} (held : DebuggerState) (start : State) (d : Session) (whole line : List ℕ) (n : ℕ) (input old mid new : Option (List ℕ)) (result : Result T SessionFault) → IsPending line → IfSome input (λ bytes. None ≡ slice_get bytes 0) → ((e : Session) → Stands held start e → Tells mid new (line_text line e) result) → Under held start d whole line n input old mid → Tells old new (replies d (lines_of whole)) result
 under_end held start d whole line n input old mid new result pends next told u =
     let here : None ≡ slice_get u.left 0 = subst (λ i. IfSome i (λ bytes. None ≡ slice_get bytes 0)) u.input_is next in
-    under_last held start d whole line n input old mid new result pends u (none_left u.left n here) told
+    under_last held start d whole line n input old mid new result pends u (take_of_nothing_left u.left n here) told
 
 -- after the last byte that is taken
 pub under_limit : {T : Type 0} (held : DebuggerState) (start : State) (d : Session) (whole line : List ℕ) (most k : ℕ) (input old mid new : Option (List ℕ)) (result : Result T SessionFault) → most ≤ k → IsPending line → ((e : Session) → Stands held start e → Tells mid new (line_text line e) result) → Under held start d whole line (most - k) input old mid → Tells old new (replies d (lines_of whole)) result

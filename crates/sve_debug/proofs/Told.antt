@@ -1,6 +1,6 @@
 -- What is told of what a debugger holds is what its session answers.
 use Rattle.std.proofs.Common.{◌≡◌, ℕ, Bool, true, false, List, [], ◌∷◌, ◌++◌, subst, length, Option, Some, None, Result, Ok, Err, refl, sym, ap, ap₂, ◌∙◌, ◌==◌, if◌then◌else◌, codes}
-use Rattle.std.specs.Prelude.{IsErr, not, IfSome, OnOk, OnErr, option_map}
+use Rattle.std.specs.Prelude.{IsErr, not, IfSome, OnOk, option_map}
 use Rattle.io_edges.specs.declared.sink.Failed.{Failed}
 use Rattle.io_edges.specs.Sink.{PutsText, GainsPart}
 use Rattle.sve_debug.specs.declared.session.SessionFault.{SessionFault}
@@ -55,16 +55,16 @@ went_too_far false gone x y is e = absurd cc
 
 -- ---- what a session tells of it
 
-both : (P Q : List ℕ → Type 0) (o : Option (List ℕ)) → IfSome o P → IfSome o Q → IfSome o (λ bytes. P bytes × Q bytes)
-both P Q None p q = tt
-both P Q (Some bytes) p q = (p, q)
+if_some_both : (P Q : List ℕ → Type 0) (o : Option (List ℕ)) → IfSome o P → IfSome o Q → IfSome o (λ bytes. P bytes × Q bytes)
+if_some_both P Q None p q = tt
+if_some_both P Q (Some bytes) p q = (p, q)
 
 pub tells_on : (old new : Option (List ℕ)) (a b : ℕ) (text : List ℕ) (result : Result Bool Failed) (on : Bool) → result ≡ Ok on → PutsText old new a b text result → Tells {T = Bool} old new text (Ok on)
 tells_on old new a b text result on is p =
-    both (λ bytes. new ≡ Some (bytes ++ text)) (λ bytes. GainsPart bytes new text) old (subst (λ r. OnOk r (IfSome old (λ bytes. new ≡ Some (bytes ++ text)))) is p.all) p.part
+    if_some_both (λ bytes. new ≡ Some (bytes ++ text)) (λ bytes. GainsPart bytes new text) old (subst (λ r. OnOk r (IfSome old (λ bytes. new ≡ Some (bytes ++ text)))) is p.all) p.part
 
 pub tells_failed : (old new : Option (List ℕ)) (a b : ℕ) (text : List ℕ) (result : Result Bool Failed) (fault : SessionFault) → PutsText old new a b text result → Tells {T = Bool} old new text (Err fault)
-tells_failed old new a b text result fault p = both (λ bytes. Unit {0}) (λ bytes. GainsPart bytes new text) old (nothing old) p.part
+tells_failed old new a b text result fault p = if_some_both (λ bytes. Unit {0}) (λ bytes. GainsPart bytes new text) old (nothing old) p.part
   where
     nothing : (o : Option (List ℕ)) → IfSome o (λ bytes. Unit {0})
     nothing None = tt
@@ -75,7 +75,3 @@ ok_no_err x y e = absurd cc
 
 pub output_no_input : {T : Type 0} → ◌≡◌ {A = Result T SessionFault} (Err Output) (Err Input) → ⊥
 output_no_input e = absurd cc
-
-pub errs : {T E P : Type 0} (r : Result T E) → P → OnErr r P
-errs (Ok x) p = tt
-errs (Err y) p = p

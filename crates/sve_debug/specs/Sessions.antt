@@ -1,8 +1,10 @@
 -- Sessions over an input.
-use Rattle.std.specs.Prelude.{◌≡◌, ℕ, Bool, false, List, [], ◌∷◌, ◌++◌, take, Option, Some, IfSome, OnOk, Result, All, nat_eq, if◌then◌else◌}
+use Rattle.std.specs.Prelude.{◌≡◌, ℕ, Bool, false, List, [], ◌∷◌, ◌++◌, ◌+◌, ◌<◌, length, take, Option, Some, IfSome, OnOk, Result, All, nat_eq, if◌then◌else◌}
 use Rattle.io_edges.specs.Sink.{GainsPart}
 use Rattle.sve_debug.specs.declared.session.SessionFault.{SessionFault}
 use Rattle.text_parts.specs.Parts.{lines_of}
+use Rattle.machine_model.specs.Machine.{State}
+use Rattle.sve_debug.specs.DebuggerState.{DebuggerState, Stands}
 use Rattle.sve_debug.specs.Replies.{Session, after_line, line_text, quits, replies}
 
 -- so many bytes of an input are taken at most
@@ -44,10 +46,12 @@ ended_lines (line ∷ lines) = line ++ 10 ∷ ended_lines lines
 abbrev pub HasNoEnd : List ℕ → Type 0
 HasNoEnd line = All (λ (b : ℕ). is_end b ≡ false) line
 
--- Of these bytes some lines were taken and a part of one more, and those are left; the output has gained the replies to the lines.
+-- Of these bytes some lines were taken, none of which ends the session, and a part of one more, and those are left; the output has
+-- gained the replies to the lines.
 pub record IsAnswered (d : Session) (bytes left old new : List ℕ) : Type 0 where
   pub lines : List (List ℕ)
   pub each : All HasNoEnd lines
+  pub go_on : All (λ line. quits line ≡ false) lines
   pub part : List ℕ
   pub no_end : HasNoEnd part
   pub taken : bytes ≡ ended_lines lines ++ (part ++ left)
@@ -57,3 +61,17 @@ pub record IsAnswered (d : Session) (bytes left old new : List ℕ) : Type 0 whe
 abbrev pub AsItCame : Session → (bytes : List ℕ) → (left old new : Option (List ℕ)) → Type 0
 AsItCame d bytes left old new =
     IfSome left (λ rest. IfSome old (λ before. (text : List ℕ) × (new ≡ Some text) × IsAnswered d bytes rest before text))
+
+-- ---- answers before the next byte is asked for
+
+-- fewer of these bytes were taken than are taken at most
+abbrev pub IsWithin : (bytes : List ℕ) → (left : Option (List ℕ)) → Type 0
+IsWithin bytes left = IfSome left (λ rest. length bytes < length rest + most_input)
+
+-- A debugger stands for a session, and an input may be asked for its next bytes where fewer than the most were taken, and each line
+-- that they ended is answered on the output. Of an input that does not tell its bytes it may always be asked.
+pub record AsksInTime {I S : Type 0} (held : DebuggerState) (left : I → Option (List ℕ)) (taken : S → Option (List ℕ)) (may_take : I → Type 0) (input : I) (out : S) : Type 0 where
+  pub start : State
+  pub begun : Session
+  pub stands : Stands held start begun
+  pub may : (i : I) (s : S) → IfSome (left input) (λ bytes. IsWithin bytes (left i) × AsItCame begun bytes (left i) (taken out) (taken s)) → may_take i

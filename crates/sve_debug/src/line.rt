@@ -120,7 +120,7 @@ fn with_range(name: &[u8], address: &[u8], len: &[u8]) -> Option<Command>
 }
 
 // What a line asks for, where it is a command.
-#[tactic(auto, unfolding(crate::specs::Lines::command_of), using(crate::proofs::Words::four_words, crate::proofs::Words::some_part))]
+#[tactic(auto, unfolding(crate::specs::Lines::command_of), using(crate::proofs::Words::four_words, text_parts::proofs::Parts::some_part))]
 pub fn command_of(line: &[u8]) -> Option<Command>
     ensures value { result ≡ command_of line.now }
     ensures within { IfSome result IsWithin }

@@ -6,7 +6,7 @@ ghost use Rattle.machine_model.specs.Machine.{State};
 ghost use Rattle.sve_debug.specs.DebuggerState.{Stands};
 ghost use Rattle.sve_debug.specs.Replies.{Session, after_line, line_text, quits};
 ghost use Rattle.sve_debug.specs.declared.session.SessionFault.TheVariants as faults;
-ghost use Rattle.sve_debug.specs.Sessions.{Tells, session_text, after_byte, byte_answer, pending, ends, AsItCame};
+ghost use Rattle.sve_debug.specs.Sessions.{Tells, session_text, after_byte, byte_answer, pending, ends, AsItCame, AsksInTime};
 
 use crate::debugger::Debugger;
 use debug_history::keepable::Keepable;
@@ -39,6 +39,7 @@ const LIMIT: u64 = 1_048_576;
 
 // The next byte of an input, where it has not ended.
 fn next<I: Source>(input: &mut I) -> Result<Option<u8>, SessionFault>
+    requires { I.may_take input.old }
     ensures byte { IfSome (I.left input.old) (λ bytes. IfOk result (λ byte. byte ≡ slice_get bytes 0)) }
     ensures left { IfSome (I.left input.old) (λ bytes. OnOk result (I.left input.new ≡ Some (drop 1 bytes))) }
     ensures unread { IfSome (I.left input.old) (λ bytes. OnErr result (I.left input.new ≡ Some bytes)) }
@@ -130,6 +131,7 @@ fn answer_lines<D: Keepable, I: Source, S: Sink>(
 ) -> Result<(), SessionFault>
     requires steps { debugger.old.machine.steps ≡ 0 }
     requires empty { line.old.items ≡ [] }
+    requires in_time { AsksInTime debugger.old I.left S.taken I.may_take input.old out.old }
     ensures told { (start : State) (d : Session) → Stands debugger.old start d →
         IfSome (I.left input.old) (λ bytes. Tells (S.taken out.old) (S.taken out.new) (session_text d bytes) result) }
     ensures as_it_comes { (start : State) (d : Session) → Stands debugger.old start d → IsErrOf result SessionFault.Input →
@@ -157,7 +159,8 @@ pub fn session<D: Keepable, I: Source, S: Sink>(
     input: &mut I,
     out: &mut S,
 ) -> Result<(), SessionFault>
-    requires { debugger.old.machine.steps ≡ 0 }
+    requires steps { debugger.old.machine.steps ≡ 0 }
+    requires in_time { AsksInTime debugger.old I.left S.taken I.may_take input.old out.old }
     ensures told { (start : State) (d : Session) → Stands debugger.old start d →
         IfSome (I.left input.old) (λ bytes. Tells (S.taken out.old) (S.taken out.new) (session_text d bytes) result) }
     ensures as_it_comes { (start : State) (d : Session) → Stands debugger.old start d → IsErrOf result SessionFault.Input →

@@ -23,8 +23,8 @@ use Rattle.sve_machine.proofs.VectorStateLaws.{z_set, z_put}
 pub z_is : (z : List ZReg) (p : List PReg) (ffr : PReg) (vl : ℕ) (stops : StopList) (n : ℕ) → bytes_at z n ≡ z_of (vector_state_of z p ffr vl stops) n
 z_is z p ffr vl stops n = sym (get_or-map z_bytes z n (record { bytes = [] }))
 
-pub p_is : (z : List ZReg) (p : List PReg) (ffr : PReg) (vl : ℕ) (stops : StopList) (n : ℕ) → (get_or p n (record { bits = [] })).bits ≡ p_of (vector_state_of z p ffr vl stops) n
-p_is z p ffr vl stops n = sym (get_or-map p_bits p n (record { bits = [] }))
+pub predicate_of_bank : (z : List ZReg) (p : List PReg) (ffr : PReg) (vl : ℕ) (stops : StopList) (n : ℕ) → (get_or p n (record { bits = [] })).bits ≡ p_of (vector_state_of z p ffr vl stops) n
+predicate_of_bank z p ffr vl stops n = sym (get_or-map p_bits p n (record { bits = [] }))
 
 -- the predicate registers, of which one was lent, are what they were
 pub mask_back : (p : List PReg) (n : ℕ) → slice_set p n (get_or p n (record { bits = [] })) ≡ p

@@ -26,8 +26,8 @@ pub word_does : (word : ℕ) (i : Listed) (s : State) → reads_word word ≡ So
 word_does word i s h = ap (λ r. elim r as (λ o. Step) [ None ↦ Stopped Undefined s.pc word s.memory | Some i ↦ does i s ]) h
 
 -- what is made ready of the word at a place does what the word there does
-pub filled : (memory : Memory) (pc word : ℕ) (i : Listed) (k : Decoded) → fetched memory pc ≡ Some word → reads_word word ≡ Some i → ((s : State) → s.pc ≡ pc → does i s ≡ decoded_does k s) → (s : State) → s.pc ≡ pc → do_word (fetched memory pc) s ≡ decoded_does k s
-filled memory pc word i k f r h s at = ap (λ w. do_word w s) f ∙ word_does word i s r ∙ h s at
+pub decoded_slot_does : (memory : Memory) (pc word : ℕ) (i : Listed) (k : Decoded) → fetched memory pc ≡ Some word → reads_word word ≡ Some i → ((s : State) → s.pc ≡ pc → does i s ≡ decoded_does k s) → (s : State) → s.pc ≡ pc → do_word (fetched memory pc) s ≡ decoded_does k s
+decoded_slot_does memory pc word i k f r h s at = ap (λ w. do_word w s) f ∙ word_does word i s r ∙ h s at
 
 left_same : (s t : State) (o : Step) (r : StepAnswer) → IsAnswer o r s t → t.memory ≡ memory_after o s
 left_same s t o answers.Went e = ap (λ x. memory_after x s) (sym e)
@@ -38,11 +38,11 @@ left_same s t o (answers.Stopped stop) e = ap (λ x. memory_after x s) (sym e.0)
 pub same_code : (s t : State) (r : StepAnswer) → IsAnswer (step s) r s t → (a : ℕ) → a < 2 ^ 64 → fetched t.memory a ≡ fetched s.memory a
 same_code s t r e a lt = ap (λ m. fetched m a) (left_same s t (step s) r e) ∙ step_code s a lt
 
-still : (m n : Memory) (e : CacheEntry) → ((a : ℕ) → a < 2 ^ 64 → fetched n a ≡ fetched m a) → IsDecodedFrom m e → IsDecodedFrom n e
-still m n e same k = (k.0, λ s at. ap (λ w. do_word w s) (same e.place k.0) ∙ k.1 s at)
+decoded_from_same_words : (m n : Memory) (e : CacheEntry) → ((a : ℕ) → a < 2 ^ 64 → fetched n a ≡ fetched m a) → IsDecodedFrom m e → IsDecodedFrom n e
+decoded_from_same_words m n e same k = (k.0, λ s at. ap (λ w. do_word w s) (same e.place k.0) ∙ k.1 s at)
 
 pub all_still : (m n : Memory) (es : List CacheEntry) → ((a : ℕ) → a < 2 ^ 64 → fetched n a ≡ fetched m a) → All (IsDecodedFrom m) es → All (IsDecodedFrom n) es
-all_still m n es same h k d l = still m n (get_or es k d) same (h k d l)
+all_still m n es same h k d l = decoded_from_same_words m n (get_or es k d) same (h k d l)
 
 abbrev nothing : CacheEntry
 nothing = record { place = 1; decoded = Nowhere }

@@ -1,5 +1,5 @@
 -- Each row of vector arithmetic by its operation.
-use Rattle.std.proofs.Common.{◌≡◌, ℕ, ◌+◌, ◌*◌, ◌/◌, ◌%◌, ◌^◌, ◌<◌, ◌≤◌, List, [], ◌∷◌, refl, sym, ap, ap₂, ◌∙◌, subst, arith}
+use Rattle.std.proofs.Common.{◌≡◌, ℕ, ◌+◌, ◌*◌, ◌/◌, ◌%◌, ◌^◌, ◌<◌, List, [], ◌∷◌, refl, sym, ap, ap₂, ◌∙◌, subst, arith}
 use Rattle.guest_types.specs.Memory.{Memory}
 use Rattle.guest_types.specs.Length.{IsLength, width_bytes, width_bits, lanes}
 use Rattle.guest_types.specs.Elements.{register, with_element}
@@ -18,6 +18,7 @@ use Rattle.guest_types.specs.declared.operation.LaneUnary.{LaneUnary}
 use Rattle.guest_types.specs.declared.operation.ShiftOp.{ShiftOp}
 use Rattle.guest_types.specs.LaneMemory.{width_of_size}
 use Rattle.guest_types.specs.Lanes.{source_bits, sign_extended, dup_at, index_at, reduce_of, binary_at, merge_at, merge_one_at, shift_at, select_at}
+use Rattle.guest_types.proofs.Numbers.{split_at_3_and_5}
 use Rattle.sve_code.specs.Numbers.{size_from_h_number, size_from_s_number, shift_size}
 use Rattle.sve_code.specs.Table.{sel, dup, index_row}
 use Rattle.sve_code.specs.View.{add_sub_name, logic_name, shift_imm_name, merging_name, unary_name, extend_byte_name, extend_half_name, extend_word_name, reduce_name}
@@ -41,6 +42,7 @@ use Rattle.word_rows.specs.Row.{Instruction}
 use Rattle.sve_code.specs.Table.{Name}
 use Rattle.machine_model.specs.Machine.{Went, next}
 use Rattle.machine_model.specs.VectorEffects.{reduced, do_vector}
+use Rattle.machine_model.proofs.StateLaws.{one_element-fits}
 use Rattle.a64_machine.specs.Cores.{VectorState, state_of}
 use Rattle.a64_machine.specs.declared.core_state.Core.{Core}
 use Rattle.sve_machine.specs.VectorStates.{z_of, p_of, put_z, put_lanes}
@@ -117,10 +119,6 @@ extend_word_here extend_ops.Unsigned zd zn pg r core memory = refl
 pub extend_word_row : (op : ExtendOp) (zd zn pg : ℕ) (r r2 : VectorState) (o : LaneUnary) → o ≡ word_extension op → r2 ≡ put_lanes r zd D (merge_one_at o D (p_of r pg) (z_of r zd) (z_of r zn)) → Leaves (extend_word_name op) (zd ∷ zn ∷ pg ∷ []) r r2
 extend_word_row op zd zn pg r r2 o eo e = left_as (extend_word_name op) (zd ∷ zn ∷ pg ∷ []) r _ r2 (e ∙ ap (λ a. put_lanes r zd D (merge_one_at a D (p_of r pg) (z_of r zd) (z_of r zn))) eo) (extend_word_here op zd zn pg r)
 
--- the number in tszh:tszl:imm3, put together again
-joined : (v : ℕ) → 32 * (v / 32) + 8 * (v / 8 % 4) + v % 8 ≡ v
-joined v = omega arith
-
 shift_here : (op : ShiftImmediateOp) (zd zn imm3 tszl tszh : ℕ) (r : VectorState) → let v = 32 * tszh + 8 * tszl + imm3 in Leaves (shift_imm_name op) (zd ∷ zn ∷ imm3 ∷ tszl ∷ tszh ∷ []) r (put_lanes r zd (width_of_size (shift_size v)) (shift_at (shift_op op) (width_of_size (shift_size v)) (z_of r zn) (shift_count op v)))
 shift_here shift_immediate_ops.Lsl zd zn imm3 tszl tszh r core memory = refl
 shift_here other zd zn imm3 tszl tszh r core memory = refl
@@ -128,7 +126,7 @@ shift_here other zd zn imm3 tszl tszh r core memory = refl
 pub shift_row : (op : ShiftImmediateOp) (zd zn v : ℕ) (r r2 : VectorState) (o : ShiftOp) (w : Width) (count : ℕ) → o ≡ shift_op op → w ≡ width_of_size (shift_size v) → count ≡ shift_count op v → r2 ≡ put_lanes r zd w (shift_at o w (z_of r zn) count) → Leaves (shift_imm_name op) (zd ∷ zn ∷ (v % 8) ∷ (v / 8 % 4) ∷ (v / 32) ∷ []) r r2
 shift_row op zd zn v r r2 o w count eo ew ec e =
     let here = shift_here op zd zn (v % 8) (v / 8 % 4) (v / 32) r in
-    let whole = joined v in
+    let whole = split_at_3_and_5 v in
     left_as (shift_imm_name op) (zd ∷ zn ∷ (v % 8) ∷ (v / 8 % 4) ∷ (v / 32) ∷ []) r _ r2
     (e ∙ ap (λ c. put_lanes r zd w (shift_at o w (z_of r zn) c)) ec
     ∙ ap₂ (λ a b. put_lanes r zd b (shift_at a b (z_of r zn) (shift_count op v))) eo ew
@@ -201,13 +199,8 @@ reduction_row op zd zn pg size r r2 o w wide p z out v eo ew ewide ep ez ev eout
     let at : wide ≡ reduction_width op s = ewide ∙ ap (reduction_width op) ew in
     left_as (reduce_name op) (zd ∷ zn ∷ pg ∷ size ∷ []) r _ r2 (e ∙ ap (put_z r zd) (eout ∙ ap₂ reduced at value)) (reduction_here op zd zn pg size r)
 
--- the shape of that register
-one_fits : (vl : ℕ) (w : Width) → IsLength vl → width_bytes w * 1 ≤ vl / 8
-one_fits vl widths.B h = omega arith
-one_fits vl other h = omega arith
-
 pub one_shape : (vl : ℕ) (w : Width) (v : ℕ) (out : List ℕ) → IsLength vl → out ≡ reduced w v → IsVector vl out
-one_shape vl w v out h e = subst (IsVector vl) (sym e) (vector_made vl (width_bytes w) (dup_at v) 1 h (one_fits vl w h))
+one_shape vl w v out h e = subst (IsVector vl) (sym e) (vector_made vl (width_bytes w) (dup_at v) 1 h (one_element-fits vl w h))
 
 pub one_put : (w : Width) (v : ℕ) (was out : List ℕ) → was ≡ register (width_bytes w) (dup_at v) 0 → out ≡ with_element (width_bytes w) was 0 v → out ≡ reduced w v
 one_put w v was out e put = put-more (width_bytes w) (dup_at v) 0 v was out e put refl

@@ -1,6 +1,6 @@
 -- Each row of predicates, FFR and counts.
-use Rattle.std.proofs.Common.{◌≡◌, ℕ, ◌+◌, ◌%◌, ◌^◌, ◌<◌, Bool, true, false, List, [], ◌∷◌, refl, sym, ap, ap₂, ◌∙◌, subst, arith}
-use Rattle.std.specs.Prelude.{slice_set, slice_index, ◌&&◌}
+use Rattle.std.proofs.Common.{◌≡◌, ℕ, ◌+◌, ◌%◌, ◌^◌, ◌<◌, Bool, List, [], ◌∷◌, refl, sym, ap, ap₂, ◌∙◌, subst, arith}
+use Rattle.std.specs.Prelude.{slice_set, slice_index}
 use Rattle.std.proofs.Math.Nat.{one-mul}
 use Rattle.guest_types.specs.Memory.{Memory}
 use Rattle.guest_types.specs.Length.{IsLength, width_bytes, lanes}
@@ -13,6 +13,7 @@ use Rattle.guest_types.specs.LaneMemory.{width_of_size}
 use Rattle.guest_types.specs.Elements.{Flags, predicate, bit, active, both, pred_test}
 use Rattle.guest_types.specs.Lanes.{all_at, while_at, logic_at, logic_of, brk_at, brk_of, compare_at, count_of}
 use Rattle.guest_types.proofs.AtWidths.{lanes-bound, active-predicate, predicate-ext}
+use Rattle.guest_types.proofs.Predicates.{and_twice}
 use Rattle.sve_code.specs.Table.{Name, ptrue, pfalse, whilelo, ptest, rdffr, rdffr_z, setffr, wrffr, incp, cntp}
 use Rattle.sve_code.specs.View.{pred_logic_name, break_form_name, count_name, compare_name}
 use Rattle.sve_code.specs.declared.PredicateLogicalOp.{PredicateLogicalOp}
@@ -68,18 +69,13 @@ brk_are r after g n p l out hp hl e =
     truths_are r B (brk_at after (p_of r g) (p_of r n)) out hp.sized
     (e ∙ brk_whole r.vl after p l hp.sized hp.shape ∙ ap₂ (λ a b. predicate 1 (brk_at after a b) (lanes r.vl B)) hp.value hl.value)
 
-twice : (a b : Bool) → (a && (b && b)) ≡ (a && b)
-twice true true = refl
-twice true false = refl
-twice false b = refl
-
 -- the logical and of a register with itself is that register
 pub ffr_are : (r : VectorState) (g : ℕ) (p f out : List ℕ) → IsP r g p → f ≡ r.ffr → out ≡ logic_of pred_ops.And p f f → IsTruths r B (both (bit (p_of r g)) (bit r.ffr)) out
 ffr_are r g p f out hp ef e =
     truths_are r B (both (bit (p_of r g)) (bit r.ffr)) out hp.sized
     (e ∙ logic_whole r.vl pred_ops.And p f f hp.sized hp.shape
     ∙ ap₂ (λ a b. predicate 1 (logic_at pred_ops.And a b b) (lanes r.vl B)) hp.value ef
-    ∙ predicate-ext B (logic_at pred_ops.And (p_of r g) r.ffr r.ffr) (both (bit (p_of r g)) (bit r.ffr)) (lanes r.vl B) (λ j lt. twice (bit (p_of r g) j) (bit r.ffr j)))
+    ∙ predicate-ext B (logic_at pred_ops.And (p_of r g) r.ffr r.ffr) (both (bit (p_of r g)) (bit r.ffr)) (lanes r.vl B) (λ j lt. and_twice (bit (p_of r g) j) (bit r.ffr j)))
 
 pub compare_are : (r : VectorState) (op : LaneCompare) (w : Width) (g n m : ℕ) (p l k out : List ℕ) → IsP r g p → IsZ r n l → IsZ r m k → out ≡ predicate (width_bytes w) (compare_at op w p l k) (lanes r.vl w) → IsTruths r w (compare_at op w (p_of r g) (z_of r n) (z_of r m)) out
 compare_are r op w g n m p l k out hp hl hk e =

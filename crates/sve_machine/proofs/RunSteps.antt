@@ -25,8 +25,8 @@ use Rattle.sve_machine.specs.View.{Leaves, Last, outcome_at}
 pub spent : (steps taken after : ℕ) (s t : State) → after_steps steps s ≡ Some t → after ≡ taken + steps → run steps taken s ≡ Spent t.pc t.memory after
 spent steps taken after s t h e = (leads_after steps s t h).by steps 0 taken (omega arith) ∙ ap (Spent t.pc t.memory) (sym e)
 
-pub ended : (steps taken after done : ℕ) (s t : State) → Last answers.Ended steps done s t → after ≡ taken + done → run steps taken s ≡ End t.memory (x_at t 0) after
-ended steps taken after done s t h e =
+pub run_of_ended_step : (steps taken after done : ℕ) (s t : State) → Last answers.Ended steps done s t → after ≡ taken + done → run steps taken s ≡ End t.memory (x_at t 0) after
+run_of_ended_step steps taken after done s t h e =
     let counted : taken + h.went + 1 ≡ after = omega (arith, h.counted, e) in
     comes_to h.went steps taken s h.last (Ended (x_at h.last 0)) h.state h.within h.answered.0
     ∙ ap (λ (u : State). End u.memory (x_at u 0) (taken + h.went + 1)) (sym h.answered.1)
@@ -51,7 +51,7 @@ came answer steps done before after h e over = record {
 
 pub run_outcome : (answer : StepAnswer) (x0 steps taken after done : ℕ) (s t : State) → Leaves answer steps done s t → x0 ≡ x_at t 0 → after ≡ taken + done → run steps taken s ≡ outcome_of (outcome_at answer x0) t.memory t.pc after
 run_outcome answers.Went x0 steps taken after done s t h x e = spent steps taken after s t h.1 (omega (arith, h.0, e))
-run_outcome answers.Ended x0 steps taken after done s t h x e = ended steps taken after done s t h e ∙ ap (λ n. End t.memory n after) (sym x)
+run_outcome answers.Ended x0 steps taken after done s t h x e = run_of_ended_step steps taken after done s t h e ∙ ap (λ n. End t.memory n after) (sym x)
 run_outcome (answers.Stopped stop) x0 steps taken after done s t h x e = stopped stop steps taken after done s t h e
 
 pub run_leaves : (answer : StepAnswer) (x0 steps done : ℕ) (before after : View) → Leaves answer steps done before.state after.state → x0 ≡ x_at after.state 0 → after.steps ≡ before.steps + done → after.over ≡ ending_by answer → RunLeaves (outcome_at answer x0) steps before after
@@ -61,10 +61,10 @@ run_leaves (answers.Stopped stop) x0 steps done before after h x e over = came (
 
 -- ---- without a stop list
 
-none : (l : StopList) → is_never l ≡ true → l ≡ never
-none (Listed []) h = refl
-none (Listed (x ∷ xs)) h = cc
-none (Each period seen) h = cc
+never_of_is_never : (l : StopList) → is_never l ≡ true → l ≡ never
+never_of_is_never (Listed []) h = refl
+never_of_is_never (Listed (x ∷ xs)) h = cc
+never_of_is_never (Each period seen) h = cc
 
 left_quiet : (answer : StepAnswer) (steps done : ℕ) (s t : State) → Leaves answer steps done s t → s.stops ≡ never → t.stops ≡ never
 left_quiet answers.Went steps done s t h q = steps_quiet steps s t q h.1
@@ -72,10 +72,10 @@ left_quiet answers.Ended steps done s t h q = ap (λ (u : State). u.stops) h.ans
 left_quiet (answers.Stopped stop) steps done s t h q = ap (λ (u : State). u.stops) h.answered.1 ∙ steps_quiet h.went s h.last q h.state
 
 pub quiet_left : (answer : StepAnswer) (steps done : ℕ) (s t : State) → Leaves answer steps done s t → is_never s.stops ≡ true → is_never t.stops ≡ true
-quiet_left answer steps done s t h q = ap is_never (left_quiet answer steps done s t h (none s.stops q))
+quiet_left answer steps done s t h q = ap is_never (left_quiet answer steps done s t h (never_of_is_never s.stops q))
 
 pub one_quiet : (answer : StepAnswer) (s t : State) → IsAnswer (step s) answer s t → is_never s.stops ≡ true → is_never t.stops ≡ true
-one_quiet answers.Went s t h q = ap is_never (step_quiet s t (none s.stops q) h)
+one_quiet answers.Went s t h q = ap is_never (step_quiet s t (never_of_is_never s.stops q) h)
 one_quiet answers.Ended s t h q = ap (λ (u : State). is_never u.stops) h.1 ∙ q
 one_quiet (answers.Stopped stop) s t h q = ap (λ (u : State). is_never u.stops) h.1 ∙ q
 
@@ -98,8 +98,8 @@ last_is a steps done start last after went answer lt h e is answered = record {
   answered = subst (λ x. IsAnswer (step last) x last after) is (subst (λ w. IsAnswer (step last) (said w answer) last after) e answered);
 }
 
-pub went_on : (over : Option Ending) (went : Bool) (answer : StepAnswer) (s t : State) → went ≡ true → over ≡ None → IsAnswer (step s) (said went answer) s t → IsAnswer (step s) (answer_of over) s t
-went_on over went answer s t e none h =
+pub answer_went_on : (over : Option Ending) (went : Bool) (answer : StepAnswer) (s t : State) → went ≡ true → over ≡ None → IsAnswer (step s) (said went answer) s t → IsAnswer (step s) (answer_of over) s t
+answer_went_on over went answer s t e none h =
     subst (λ o. IsAnswer (step s) (answer_of o) s t) (sym none) (said_on (step s) went answer s t e h)
 
 answered : (answer : StepAnswer) → answer_of (ending_by answer) ≡ answer

@@ -1,6 +1,6 @@
 //! Steps of the machine, one after another.
 
-ghost use Rattle.std.specs.Prelude.{◌≡◌, ◌≤◌, All};
+ghost use Rattle.std.specs.Prelude.{◌≡◌, ◌-◌, ◌≤◌, All};
 ghost use Rattle.machine_model.specs.OneStep.{step};
 ghost use Rattle.machine_model.specs.Answers.{IsAnswer};
 ghost use Rattle.a64_machine.specs.Cores.{state_of, said};
@@ -93,7 +93,7 @@ struct Within;
 /// A step that no loop takes.
 pub struct ByItself;
 
-/// At most so many steps: the last answer, and how many were done.
+/// At most so many steps: the last answer, and how many were left.
 #[inline(never)]
 pub fn go(
     core: &mut Core,
@@ -103,7 +103,7 @@ pub fn go(
     steps: u64,
 ) -> (Step, u64)
     requires decoded { All (IsDecodedFrom pages.old.memory) decoded.old }
-    ensures leaves { Leaves result.0 steps result.1 (state_of core.old pages.old.memory vectors.old)
+    ensures leaves { Leaves result.0 steps (steps - result.1) (state_of core.old pages.old.memory vectors.old)
         (state_of core.new pages.new.memory vectors.new) }
     ensures few { result.1 ≤ steps }
     ensures decoded { All (IsDecodedFrom pages.new.memory) decoded.new }
@@ -111,15 +111,17 @@ pub fn go(
 {
     let mut answer = Step::Went;
     let mut place = 0;
-    for done in 0..steps {
+    let mut left = steps;
+    while left > 0 {
+        left -= 1;
         if advance::<Within>(core, pages, vectors, decoded, &mut place, &mut answer) {
             continue;
         }
         match answer {
             Step::Went => {}
-            Step::Ended => return (Step::Ended, done + 1),
-            Step::Stopped(stop) => return (Step::Stopped(stop), done + 1),
+            Step::Ended => return (Step::Ended, left),
+            Step::Stopped(stop) => return (Step::Stopped(stop), left),
         }
     }
-    (Step::Went, steps)
+    (Step::Went, left)
 }

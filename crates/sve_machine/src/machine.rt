@@ -70,7 +70,7 @@ impl Machine {
     }
 
     /// The same with a stop list: its first-fault and non-fault loads stop early where the list says so.
-    #[tactic(auto, unfolding(machine_model::specs::Run::start_of), using(crate::proofs::StartRegisters::copied))]
+    #[tactic(auto, unfolding(machine_model::specs::Run::start_of), using(crate::proofs::StartRegisters::arguments_fill_registers))]
     pub fn suppressing(pages: Pages, entry: u64, args: &[u64], vl: Vl, stops: Suppress) -> Machine
         requires { length args.now ≤ 8 }
         ensures state { result.state ≡ start_of pages.memory entry args.now vl stops }
@@ -110,14 +110,14 @@ impl Machine {
         ensures quiet { IsTrue self.old.quiet → IsTrue self.new.quiet }
         ensures past { self.new.past ≡ self.old.past }
     {
-        let (answer, done) = go(
+        let (answer, left) = go(
             &mut self.core,
             &mut self.pages,
             &mut self.vectors,
             &mut self.decoded,
             steps,
         );
-        self.steps += done;
+        self.steps += steps - left;
         self.over = ending_by(answer);
         answer
     }

@@ -2,7 +2,7 @@
 use Rattle.std.proofs.Common.{◌≡◌, ◌≢◌, List, ℕ, Option, Some, None, Ok, Err, inl, inr, refl, sym, ap, subst}
 use Rattle.std.specs.Prelude.{IfSome, IsErrAnd, OnOk}
 use Rattle.io_edges.specs.Files.{Rose, content}
-use Rattle.command_line.specs.Line.{Line, CompileLine, CheckLine, EvalLine, ListLine, RunLine, DebugLine, SweepLine, AsmLine, PipeLine}
+use Rattle.command_line.specs.Line.{Line, CompileLine, CheckLine, EvalLine, ListLine, RunLine, DebugLine, SweepLine, AsmLine, ObjectLine, PipeLine}
 use Rattle.refusals.specs.declared.refusal.Refusal.{Refusal}
 use Rattle.refusals.specs.declared.refusal.Refusal.TheVariants.{Usage, Memory, File, Output}
 use Rattle.command_answers.specs.Answer.{HeldFiles, Expected, Answer, answer_of, expected_text, status_of, IsAnswer, IsKept, IsQuiet, Unwritten}
@@ -10,6 +10,7 @@ use Rattle.command_answers.specs.Outputs.{Prints}
 use Rattle.sve_top.specs.Commands.{WhereTold, StreamRose, Swept, IsOf, IsHeld, IsSilent, IsUnread, OnlyReads, Compiled, OthersKept, AsItComes}
 use Rattle.command_answers.proofs.Prints.{prints_nothing}
 use Rattle.command_answers.proofs.Reading.{is_err, of_one}
+use Rattle.command_answers.proofs.Held.{whatever_held}
 use Rattle.sve_top.proofs.Lines.{of_every_line, nothing_swept, no_session}
 
 -- the files, the output and the input at one moment
@@ -67,6 +68,7 @@ compiles_nothing line (Some o) None (Ok how) reads = tt
 compiles_nothing (CompileLine from to) (Some o) (Some n) (Ok how) reads = absurd reads
 compiles_nothing (SweepLine number to) (Some o) (Some n) (Ok how) reads = absurd reads
 compiles_nothing (AsmLine from to) (Some o) (Some n) (Ok how) reads = absurd reads
+compiles_nothing (ObjectLine from to) (Some o) (Some n) (Ok how) reads = absurd reads
 compiles_nothing other (Some o) (Some n) (Ok how) reads = tt
 
 same_content : (old new : HeldFiles) (name : List ℕ) → ◌≡◌ {A = Option HeldFiles} (Some new) (Some old) → content new name ≡ content old name
@@ -81,6 +83,7 @@ all_kept line (Some o) None reads e = tt
 all_kept (Some (CompileLine from to)) (Some o) (Some n) reads e = absurd reads
 all_kept (Some (SweepLine number to)) (Some o) (Some n) reads e = absurd reads
 all_kept (Some (AsmLine from to)) (Some o) (Some n) reads e = absurd reads
+all_kept (Some (ObjectLine from to)) (Some o) (Some n) reads e = absurd reads
 all_kept other (Some o) (Some n) reads e = λ name. same_content o n name e
 
 sweeps_nothing : (line : Option Line) (held : Option HeldFiles) (old new : Option (List ℕ)) (status : ℕ) → OnlyReads line → Swept line held old new status
@@ -128,10 +131,6 @@ pub not_wanted : (held : Option HeldFiles) (left : Option (List ℕ)) (number : 
 not_wanted None left number to P = λ input taken. tt
 not_wanted (Some h) left number to P = λ input taken work w. absurd w
 
-pub in_any : (held : Option HeldFiles) (P : HeldFiles → Type 0) → ((h : HeldFiles) → P h) → IfSome held P
-in_any None P all = tt
-in_any (Some h) P all = all h
-
 -- ---- words that come to no command, and want of memory before they were read
 
 same_others : (line : Option Line) (held : Option HeldFiles) → IfSome held (λ old. IfSome held (λ new. OthersKept old new line))
@@ -139,6 +138,7 @@ same_others line None = tt
 same_others (Some (CompileLine from to)) (Some h) = λ name ne. refl
 same_others (Some (SweepLine number to)) (Some h) = λ name ne. refl
 same_others (Some (AsmLine from to)) (Some h) = λ name ne. refl
+same_others (Some (ObjectLine from to)) (Some h) = λ name ne. refl
 same_others other (Some h) = λ name. refl
 
 memory_listed : (line : Option Line) → IsOf line (Err Memory)
@@ -151,11 +151,12 @@ memory_listed (Some (RunLine vl suppress task)) = tt
 memory_listed (Some (DebugLine vl task)) = tt
 memory_listed (Some (SweepLine number to)) = tt
 memory_listed (Some (AsmLine from to)) = tt
+memory_listed (Some (ObjectLine from to)) = tt
 memory_listed (Some (PipeLine vl task)) = tt
 
 no_file : (line : Option Line) (held : Option HeldFiles) (refusal : Refusal) → (◌≡◌ {A = Answer} (Err refusal) (Err File) → ⊥) → IfSome line (λ l. IfSome held (λ h. IsHeld h l → ◌≢◌ {A = Answer} (Err refusal) (Err File)))
 no_file None held refusal not = tt
-no_file (Some line) held refusal not = in_any held (λ h. IsHeld h line → ◌≢◌ {A = Answer} (Err refusal) (Err File)) (λ h reads. not)
+no_file (Some line) held refusal not = whatever_held held (λ h. IsHeld h line → ◌≢◌ {A = Answer} (Err refusal) (Err File)) (λ h reads. not)
 
 pub short : (line : Option Line) (before : Seen) (is_steady same_output same_input : Type 0) (result : Answer) → IsErrAnd result (λ r. r ≡ Memory) → same_output → same_input → Leaves line before before is_steady same_output same_input result
 short line before is_steady same_output same_input result is output input =
@@ -186,7 +187,7 @@ short line before is_steady same_output same_input result is output input =
 
 pub not_asked : (before : Seen) (is_steady same_output same_input : Type 0) → same_output → same_input → Leaves None before before is_steady same_output same_input (Err Usage)
 not_asked before is_steady same_output same_input output input = record {
-  answer = λ bytes taken. of_one before.held (λ h. Err Usage) _ (in_any before.held _ (λ h. inl (inl refl)));
+  answer = λ bytes taken. of_one before.held (λ h. Err Usage) _ (whatever_held before.held _ (λ h. inl (inl refl)));
   listed = inl refl;
   file = tt;
   others = same_others None before.held;

@@ -4,7 +4,7 @@ use Rattle.std.proofs.Common.{◌≡◌, ◌≢◌, ◌⊎◌, ◌≤◌, List, 
 use Rattle.std.specs.Prelude.{IfSome, OnOk}
 use Rattle.io_edges.specs.declared.sink.Failed.{Failed}
 use Rattle.io_edges.specs.Sink.{PutsText}
-use Rattle.command_line.specs.Line.{Line, CompileLine, CheckLine, EvalLine, ListLine, RunLine, DebugLine, SweepLine, AsmLine, PipeLine}
+use Rattle.command_line.specs.Line.{Line, CompileLine, CheckLine, EvalLine, ListLine, RunLine, DebugLine, SweepLine, AsmLine, ObjectLine, PipeLine}
 use Rattle.refusals.specs.declared.refusal.Refusal.{Refusal}
 use Rattle.refusals.specs.declared.refusal.Refusal.TheVariants.{Usage, TooManyLive, Kernel, TooLong, Elf, Map, Asm, Pipe, Memory, File, Output}
 use Rattle.refusals.specs.declared.refusal.Done.{Done}
@@ -35,31 +35,32 @@ is_output s (Ok done.Ended) is e = absurd (omega (arith, is, e))
 is_output s other is e = absurd (omega (arith, is, e))
 
 -- no command is refused as one that is none
-none_of : (line : Line) → IsOf (Some line) (Err Usage) → ⊥
-none_of (CompileLine from to) of = of
-none_of (CheckLine from) of = of
-none_of (EvalLine task) of = of
-none_of (ListLine from) of = of
-none_of (RunLine vl suppress task) of = of
-none_of (DebugLine vl task) of = of
-none_of (SweepLine number to) of = of
-none_of (AsmLine from to) of = of
-none_of (PipeLine vl task) of = of
+line_is_no_usage : (line : Line) → IsOf (Some line) (Err Usage) → ⊥
+line_is_no_usage (CompileLine from to) of = of
+line_is_no_usage (CheckLine from) of = of
+line_is_no_usage (EvalLine task) of = of
+line_is_no_usage (ListLine from) of = of
+line_is_no_usage (RunLine vl suppress task) of = of
+line_is_no_usage (DebugLine vl task) of = of
+line_is_no_usage (SweepLine number to) of = of
+line_is_no_usage (AsmLine from to) of = of
+line_is_no_usage (ObjectLine from to) of = of
+line_is_no_usage (PipeLine vl task) of = of
 
 pub no_line : (line : Option Line) (s : ℕ) (result : Answer) → s ≡ status_of result → IsOf line result → s ≡ 2 → line ≡ None
 no_line None s result is of e = refl
-no_line (Some line) s result is of e = absurd (none_of line (subst (IsOf (Some line)) (is_usage s result is e) of))
+no_line (Some line) s result is of e = absurd (line_is_no_usage line (subst (IsOf (Some line)) (is_usage s result is e) of))
 
 pub at_zero : (P : Type 0) (s : ℕ) (result : Answer) → s ≡ status_of result → OnOk result P → s ≡ 0 → P
 at_zero P s (Ok how) is p e = p
 at_zero P s (Err Usage) is p e = absurd (omega (arith, is, e))
 at_zero P s (Err other) is p e = absurd (omega (arith, is, e))
 
-refused : (s : ℕ) → (s ≡ 2) ⊎ (s ≡ 3) ⊎ (s ≡ 4) → (2 ≤ s) × (s ≤ 4)
-refused s h = ⊎_elim (λ e. (omega (arith, e), omega (arith, e))) (⊎_elim (λ e. (omega (arith, e), omega (arith, e))) (λ e. (omega (arith, e), omega (arith, e)))) h
+status_between_2_and_4 : (s : ℕ) → (s ≡ 2) ⊎ (s ≡ 3) ⊎ (s ≡ 4) → (2 ≤ s) × (s ≤ 4)
+status_between_2_and_4 s h = ⊎_elim (λ e. (omega (arith, e), omega (arith, e))) (⊎_elim (λ e. (omega (arith, e), omega (arith, e))) (λ e. (omega (arith, e), omega (arith, e)))) h
 
 pub is_kept : (s : ℕ) (result : Answer) → s ≡ status_of result → (s ≡ 2) ⊎ (s ≡ 3) ⊎ (s ≡ 4) → IsKept result
-is_kept s result is h = by result is (refused s h)
+is_kept s result is h = by result is (status_between_2_and_4 s h)
   where
     by : (r : Answer) → s ≡ status_of r → (2 ≤ s) × (s ≤ 4) → IsKept r
     by (Ok done.Ended) is p = omega (arith, is, p.0)
@@ -70,7 +71,7 @@ is_kept s result is h = by result is (refused s h)
     by (Err other) is p = tt
 
 quietly : (s : ℕ) → (s ≡ 2) ⊎ (s ≡ 3) ⊎ (s ≡ 4) ⊎ (s ≡ 8) → ((2 ≤ s) × (s ≤ 4)) ⊎ (s ≡ 8)
-quietly s h = ⊎_elim (λ e. inl (refused s (inl e))) (⊎_elim (λ e. inl (refused s (inr (inl e)))) (⊎_elim (λ e. inl (refused s (inr (inr e)))) (λ e. inr e))) h
+quietly s h = ⊎_elim (λ e. inl (status_between_2_and_4 s (inl e))) (⊎_elim (λ e. inl (status_between_2_and_4 s (inr (inl e)))) (⊎_elim (λ e. inl (status_between_2_and_4 s (inr (inr e)))) (λ e. inr e))) h
 
 pub is_quiet : (s : ℕ) (result : Answer) → s ≡ status_of result → (s ≡ 2) ⊎ (s ≡ 3) ⊎ (s ≡ 4) ⊎ (s ≡ 8) → IsQuiet result
 is_quiet s result is h = by result is (quietly s h)
@@ -101,16 +102,16 @@ not_refused s other is h = ⊎_elim (λ e. omega (arith, is, e)) (λ e. omega (a
 pub no_own_line : (old new : Option (List ℕ)) (x y s : ℕ) (how : Done) → s ≡ status_of_done how → (s ≡ 3) ⊎ (s ≡ 4) → (refusal : Refusal) × (status_of_refusal refusal ≡ s) × Gains old new x y (line_of_refusal refusal)
 no_own_line old new x y s how is h = absurd (not_refused s how is h)
 
-alike : (s : ℕ) (refusal : Refusal) → s ≡ status_of_refusal refusal → s ≢ 3 → s ≢ 4 → error_line_by [] (status_of_refusal refusal) ≡ line_of_refusal refusal
-alike s (TooManyLive class need) is three four = absurd (three is)
-alike s (Kernel fault) is three four = absurd (three is)
-alike s TooLong is three four = absurd (four is)
-alike s (Elf fault) is three four = absurd (four is)
-alike s (Map fault) is three four = absurd (four is)
-alike s (Asm fault) is three four = absurd (four is)
-alike s (Pipe fault) is three four = absurd (four is)
-alike s other is three four = refl
+error_line_of_refusal : (s : ℕ) (refusal : Refusal) → s ≡ status_of_refusal refusal → s ≢ 3 → s ≢ 4 → error_line_by [] (status_of_refusal refusal) ≡ line_of_refusal refusal
+error_line_of_refusal s (TooManyLive class need) is three four = absurd (three is)
+error_line_of_refusal s (Kernel fault) is three four = absurd (three is)
+error_line_of_refusal s TooLong is three four = absurd (four is)
+error_line_of_refusal s (Elf fault) is three four = absurd (four is)
+error_line_of_refusal s (Map fault) is three four = absurd (four is)
+error_line_of_refusal s (Asm fault) is three four = absurd (four is)
+error_line_of_refusal s (Pipe fault) is three four = absurd (four is)
+error_line_of_refusal s other is three four = refl
 
 pub line_alike : (old new : Option (List ℕ)) (x y s : ℕ) (refusal : Refusal) (result : Result (Unit {0}) Failed) → s ≡ status_of_refusal refusal → PutsText old new x y (line_of_refusal refusal) result → s ≢ 3 → s ≢ 4 → Gains old new x y (error_line_by [] s)
 line_alike old new x y s refusal result is p three four =
-    subst (Gains old new x y) (sym (ap (error_line_by []) is ∙ alike s refusal is three four)) (gains_line old new x y (line_of_refusal refusal) result p)
+    subst (Gains old new x y) (sym (ap (error_line_by []) is ∙ error_line_of_refusal s refusal is three four)) (gains_line old new x y (line_of_refusal refusal) result p)

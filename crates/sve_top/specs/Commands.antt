@@ -1,16 +1,17 @@
 -- What is wanted of each command, what its call answers, and what it leaves.
 use Rattle.std.specs.Prelude.{◌≡◌, ◌⊎◌, ℕ, List, Option, Some, None, IfSome, IsSome, Err}
 use Rattle.io_edges.specs.Files.{Rose, content}
-use Rattle.command_line.specs.Line.{Line, CompileLine, CheckLine, EvalLine, ListLine, RunLine, DebugLine, SweepLine, AsmLine, PipeLine}
+use Rattle.command_line.specs.Line.{Line, CompileLine, CheckLine, EvalLine, ListLine, RunLine, DebugLine, SweepLine, AsmLine, ObjectLine, PipeLine}
 use Rattle.refusals.specs.declared.refusal.Refusal.TheVariants.{Usage, Memory}
 use Rattle.command_answers.specs.Answer.{HeldFiles, Expected, Answer, status_of}
 use Rattle.command_answers.specs.Reads.{IsTaskHeld, ChangesOnly}
 use Rattle.command_answers.specs.Works.{WhereExpected}
-use Rattle.program_commands.specs.Ready.{DebugsAsItCame}
+use Rattle.program_commands.specs.Ready.{DebugsAsItCame, DebugsInTime}
 use Rattle.program_commands.specs.Commands.{expected_of_list, stops_of, expected_of_run, expected_of_debug, expected_of_asm, IsAssembled, IsOfList, IsOfRun, IsOfDebug, IsOfAsm}
 use Rattle.pipe_command.specs.Pipes.{expected_of_pipe, IsOfPipe, IsPipeHeld}
 use Rattle.kernel_commands.specs.Commands.{ExpectsCheck, ExpectsEval, IsOfCheck, IsOfEval}
 use Rattle.compile_command.specs.Compiles.{ExpectsCompile, IsCompiled, IsOfCompile}
+use Rattle.object_command.specs.Objects.{IsObjectOf}
 use Rattle.sweep_command.specs.Swept.{IsSwept, SweptBy, IsOfSweep}
 
 -- ---- what is wanted
@@ -27,6 +28,7 @@ Expects held input (Some (RunLine vl suppress task)) work = work ≡ expected_of
 Expects held input (Some (DebugLine vl task)) work = work ≡ expected_of_debug held input vl task
 Expects held input (Some (SweepLine number to)) work = ⊥
 Expects held input (Some (AsmLine from to)) work = work ≡ expected_of_asm held from
+Expects held input (Some (ObjectLine from to)) work = ExpectsCompile held from work
 Expects held input (Some (PipeLine vl task)) work = work ≡ expected_of_pipe held vl task
 
 -- what is wanted is settled by the files and the input
@@ -56,6 +58,7 @@ IsOf (Some (RunLine vl suppress task)) answer = IsOfRun answer
 IsOf (Some (DebugLine vl task)) answer = IsOfDebug answer
 IsOf (Some (SweepLine number to)) answer = IsOfSweep answer
 IsOf (Some (AsmLine from to)) answer = IsOfAsm answer
+IsOf (Some (ObjectLine from to)) answer = IsOfCompile answer
 IsOf (Some (PipeLine vl task)) answer = IsOfPipe answer
 
 -- the status is that of one of the command's answers
@@ -76,11 +79,17 @@ abbrev pub IsUnread : Option Line → Type 0
 IsUnread (Some (DebugLine vl task)) = ⊥
 IsUnread line = Unit {0}
 
+-- When the input may be asked for: for `debug` where its program was loaded and each line that was ended is answered, and else never.
+abbrev pub InTime : Option Line → Option HeldFiles → (input left old new : Option (List ℕ)) → Type 0
+InTime (Some (DebugLine vl task)) held input left old new = DebugsInTime held vl task input left old new
+InTime line held input left old new = ⊥
+
 -- commands that write no file
 abbrev pub OnlyReads : Option Line → Type 0
 OnlyReads (Some (CompileLine from to)) = ⊥
 OnlyReads (Some (SweepLine number to)) = ⊥
 OnlyReads (Some (AsmLine from to)) = ⊥
+OnlyReads (Some (ObjectLine from to)) = ⊥
 OnlyReads line = Unit {0}
 
 -- words that put nothing on the output
@@ -88,22 +97,25 @@ abbrev pub IsSilent : Option Line → Type 0
 IsSilent None = Unit {0}
 IsSilent (Some (CompileLine from to)) = Unit {0}
 IsSilent (Some (AsmLine from to)) = Unit {0}
+IsSilent (Some (ObjectLine from to)) = Unit {0}
 IsSilent line = ⊥
 
 -- ---- what is left of the files and the output
 
--- at status 0 the one file is faithful to the kernel that the other held, and for `sweep` to that of the number; for `asm` it is that of the words
+-- at status 0 the one file is faithful to the kernel that the other held, and for `sweep` to that of the number; for `asm` it is that of the words, and for `object` the object of the kernel
 abbrev pub Compiled : HeldFiles → HeldFiles → Line → Type 0
 Compiled old new (CompileLine from to) = IsCompiled old new from to
 Compiled old new (SweepLine number to) = IsSwept number new to
 Compiled old new (AsmLine from to) = IsAssembled old new from to
+Compiled old new (ObjectLine from to) = IsObjectOf old new from to
 Compiled old new line = Unit {0}
 
--- every name but that of the file which `compile`, `sweep` or `asm` writes has what it had
+-- every name but that of the file which `compile`, `sweep`, `asm` or `object` writes has what it had
 abbrev pub OthersKept : HeldFiles → HeldFiles → Option Line → Type 0
 OthersKept old new (Some (CompileLine from to)) = ChangesOnly old new to
 OthersKept old new (Some (SweepLine number to)) = ChangesOnly old new to
 OthersKept old new (Some (AsmLine from to)) = ChangesOnly old new to
+OthersKept old new (Some (ObjectLine from to)) = ChangesOnly old new to
 OthersKept old new line = (name : List ℕ) → content new name ≡ content old name
 
 -- what a sweep leaves at each status
@@ -127,4 +139,5 @@ IsHeld held (RunLine vl suppress task) = IsTaskHeld held task
 IsHeld held (DebugLine vl task) = IsTaskHeld held task
 IsHeld held (SweepLine number to) = Unit {0}
 IsHeld held (AsmLine from to) = IsSome (content held from)
+IsHeld held (ObjectLine from to) = IsSome (content held from)
 IsHeld held (PipeLine vl task) = IsPipeHeld held task

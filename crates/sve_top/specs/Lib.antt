@@ -2,3 +2,4 @@ pub mod Asked
 pub mod Commands
 pub mod Does
 pub mod Complete
+pub mod Requested

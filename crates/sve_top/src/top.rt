@@ -7,8 +7,9 @@ ghost use Rattle.command_line.specs.View.{command_view};
 ghost use Rattle.sve_top.specs.Asked.{asked};
 ghost use Rattle.command_answers.specs.Answer.{HeldFiles, Expected, answer_of, expected_text, status_of, IsAnswer, IsKept, IsQuiet, Unwritten};
 ghost use Rattle.refusals.specs.Statuses.{status_of_refusal};
-ghost use Rattle.sve_top.specs.Commands.{Expects, WhereTold, IsSettled, IsInput, IsOf, IsListed, IsSilent, IsUnread, IsHeld, OnlyReads, StreamRose, NoneRose, Compiled, OthersKept, Swept, AsItComes};
+ghost use Rattle.sve_top.specs.Commands.{Expects, WhereTold, IsSettled, IsInput, IsOf, IsListed, IsSilent, IsUnread, IsHeld, OnlyReads, StreamRose, NoneRose, Compiled, OthersKept, Swept, AsItComes, InTime};
 ghost use Rattle.command_answers.specs.Works.{SomeExpected};
+ghost use Rattle.sve_top.specs.Requested.{AsksOf, AsksTo};
 ghost use Rattle.sve_top.specs.Does.{Does, outside};
 ghost use Rattle.sve_top.specs.Complete.{Completes};
 ghost use Rattle.command_answers.specs.Outputs.{Prints, Gains, error_line_by};
@@ -22,6 +23,7 @@ use io_edges::sink::Sink;
 use io_edges::source::Source;
 use kernel_commands::check::check;
 use kernel_commands::eval::eval;
+use object_command::object::object;
 use pipe_command::pipe::pipe;
 use program_commands::asm::asm;
 use program_commands::debug::debug;
@@ -35,8 +37,11 @@ use sweep_command::sweep::sweep;
 /// Does the command that the words spell, and answers its status. The words are those after the program's name.
 ///
 /// 0 done; 2 the words are no command; 3 the kernel is refused; 4 a file is refused; 5 the program stopped; 6 its steps are
-/// spent; 7 memory is short; 8 a file failed; 9 the output failed, or for `debug` the input. Every command but `compile` and `asm`
+/// spent; 7 memory is short; 8 a file failed; 9 the output failed, or for `debug` the input. Every command but `compile`, `asm` and `object`
 /// puts its text on `out`. At every status but 0, 5 and 6 one line on `err` tells the cause; a failure of `err` changes no status.
+///
+/// The input is asked for its next bytes only where the caller's `may_take` is met: for `debug` after the program was loaded and
+/// while each line that was ended is answered on `out`, and for no other command.
 ///
 /// Where the files tell what they hold, `does` says what status, text and line come of the words and the files (and for `debug` of
 /// the bytes of the input), and `complete` that nothing else comes where nothing fails, but for want of memory; `sweep` has `swept` in
@@ -50,6 +55,8 @@ pub fn top<F: Files, I: Source, S: Sink, E: Sink>(
     out: &mut S,
     err: &mut E,
 ) -> u8
+    requires { (i : I) (s : S) → InTime (asked words.now) (F.held files.old)
+        (I.left input.old) (I.left i) (S.taken out.old) (S.taken s) → I.may_take i }
     ensures does { (bytes : List ℕ) → IsInput (asked words.now) (I.left input.old) bytes
         → IsSettled (asked words.now)
         → IfSome (F.held files.old) (λ held. SomeExpected (Expects held bytes (asked words.now))
@@ -80,6 +87,8 @@ pub fn top<F: Files, I: Source, S: Sink, E: Sink>(
     ensures steady { IsTrue (F.steady files.old)
         → IfSome (asked words.now) (λ line. IfSome (F.held files.old)
         (λ held. IsHeld held line → result ≢ 8)) }
+    ensures requested { IfSome (F.held files.old) (λ held. AsksTo (asked words.now) held
+        (F.requests files.old) (F.requests files.new) result) }
     ensures as_it_comes { AsItComes (asked words.now) (F.held files.old) (I.left input.old) (I.left input.new)
         (S.taken out.old) (S.taken out.new) (S.faults out.old) (S.faults out.new) (result ≡ 9) }
     ensures quiet { (result ≡ 2) ⊎ (result ≡ 3) ⊎ (result ≡ 4) ⊎ (result ≡ 8) → out.new ≡ out.old }
@@ -109,6 +118,8 @@ fn do_words<F: Files, I: Source, S: Sink>(
     input: &mut I,
     out: &mut S,
 ) -> Result<Done, Refusal>
+    requires { (i : I) (s : S) → InTime (asked words.now) (F.held files.old)
+        (I.left input.old) (I.left i) (S.taken out.old) (S.taken s) → I.may_take i }
     ensures answer { WhereTold (F.held files.old) (I.left input.old) (asked words.now)
         (λ work. IsAnswer (F.faults files.old) (F.faults files.new)
         (StreamRose (asked words.now) (S.faults out.old) (S.faults out.new)
@@ -128,6 +139,8 @@ fn do_words<F: Files, I: Source, S: Sink>(
     ensures steady { IsTrue (F.steady files.old)
         → IfSome (asked words.now) (λ line. IfSome (F.held files.old)
         (λ held. IsHeld held line → result ≢ Err Refusal.File)) }
+    ensures requested { IfSome (F.held files.old) (λ held. AsksOf (asked words.now) held
+        (F.requests files.old) (F.requests files.new) result) }
     ensures as_it_comes { AsItComes (asked words.now) (F.held files.old) (I.left input.old) (I.left input.new)
         (S.taken out.old) (S.taken out.new) (S.faults out.old) (S.faults out.new) (result ≡ Err Refusal.Output) }
     ensures printed { WhereTold (F.held files.old) (I.left input.old) (asked words.now)
@@ -152,6 +165,8 @@ fn do_command<F: Files, I: Source, S: Sink>(
     input: &mut I,
     out: &mut S,
 ) -> Result<Done, Refusal>
+    requires { (i : I) (s : S) → InTime (Some (command_view command.now)) (F.held files.old)
+        (I.left input.old) (I.left i) (S.taken out.old) (S.taken s) → I.may_take i }
     ensures answer { WhereTold (F.held files.old) (I.left input.old) (Some (command_view command.now))
         (λ work. IsAnswer (F.faults files.old) (F.faults files.new)
         (StreamRose (Some (command_view command.now)) (S.faults out.old) (S.faults out.new)
@@ -170,6 +185,8 @@ fn do_command<F: Files, I: Source, S: Sink>(
         (S.faults out.old) (S.faults out.new) (I.faults input.old) (I.faults input.new) }
     ensures steady { IsTrue (F.steady files.old)
         → IfSome (F.held files.old) (λ held. IsHeld held (command_view command.now) → result ≢ Err Refusal.File) }
+    ensures requested { IfSome (F.held files.old) (λ held. AsksOf (Some (command_view command.now)) held
+        (F.requests files.old) (F.requests files.new) result) }
     ensures as_it_comes { AsItComes (Some (command_view command.now)) (F.held files.old)
         (I.left input.old) (I.left input.new)
         (S.taken out.old) (S.taken out.new) (S.faults out.old) (S.faults out.new) (result ≡ Err Refusal.Output) }
@@ -190,6 +207,7 @@ fn do_command<F: Files, I: Source, S: Sink>(
         Command::Debug { vl, task } => debug(alloc, *vl, task, files, input, out),
         Command::Sweep { number, to } => sweep(alloc, *number, to.as_str(), files, out),
         Command::Asm { from, to } => asm(alloc, from.as_str(), to.as_str(), files),
+        Command::Object { from, to } => object(alloc, from.as_str(), to.as_str(), files),
         Command::Pipe { vl, task } => pipe(alloc, *vl, task, files, out),
     }
 }

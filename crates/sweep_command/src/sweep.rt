@@ -1,6 +1,7 @@
 //! The command `sweep NUMBER OUT`.
 
-ghost use Rattle.std.specs.Prelude.{◌≡◌, ◌≢◌, Some, Err, IfSome, IsTrue, OnOk};
+ghost use Rattle.command_answers.specs.Requests.{Asks, IsNotOfFiles, Write};
+ghost use Rattle.std.specs.Prelude.{[], ◌∷◌, ◌≡◌, ◌≢◌, Some, Err, IfSome, IsTrue, OnOk};
 ghost use Rattle.io_edges.specs.Files.{Rose};
 ghost use Rattle.command_answers.specs.Answer.{IsKept, IsQuiet, status_of};
 ghost use Rattle.command_answers.specs.Reads.{ChangesOnly};
@@ -33,6 +34,7 @@ pub fn sweep<F: Files, S: Sink>(
     ensures output { result ≡ Err Refusal.Output → Rose (S.faults out.old) (S.faults out.new) }
     ensures steady { IsTrue (F.steady files.old) → result ≢ Err Refusal.File }
     ensures of_sweep { IsOfSweep result }
+    ensures asked { Asks IsNotOfFiles (F.requests files.old) (F.requests files.new) (Write to.now ∷ []) result }
 {
     let file = sweep_file(alloc, number)?;
     files.write(alloc, to, &file)?;

@@ -4,7 +4,7 @@ use Rattle.std.specs.Prelude.{decimal}
 use Rattle.std.proofs.lemmas.Nat.{mod_below}
 use Rattle.std.proofs.lemmas.Fmt.{length-decimal-le}
 use Rattle.kernel_tokens.proofs.Spelled.{tokens_spelled}
-use Rattle.kernel_syntax.proofs.Outcomes.{short_text, few_words}
+use Rattle.kernel_syntax.proofs.Outcomes.{short_text, words_within_4096}
 use Rattle.kernel_front.specs.Verdict.{Sound, IsVerdict}
 use Rattle.sweep_kernel.specs.Numbers.{random, initial_of, offset_of, level_of}
 use Rattle.sweep_kernel.specs.KernelText.{first_part, second_part, third_part, last_part, text_with}
@@ -17,8 +17,8 @@ use Rattle.sweep_kernel.proofs.RulesMet.{checked_with, enough_with}
 digits_few : (n : ℕ) → n < 2 ^ 64 → length (decimal n) ≤ 20
 digits_few n h = length-decimal-le 20 n (omega arith) (omega arith) h
 
-following : (part digits rest : List ℕ) (p d r : ℕ) → length part ≤ p → length digits ≤ d → length rest ≤ r → length (part ++ (digits ++ rest)) ≤ p + d + r
-following part digits rest p d r hp hd hr = omega (arith, length-append part (digits ++ rest), length-append digits rest)
+length_of_three_parts : (part digits rest : List ℕ) (p d r : ℕ) → length part ≤ p → length digits ≤ d → length rest ≤ r → length (part ++ (digits ++ rest)) ≤ p + d + r
+length_of_three_parts part digits rest p d r hp hd hr = omega (arith, length-append part (digits ++ rest), length-append digits rest)
 
 abbrev third_rest : ℕ → List ℕ
 third_rest level = third_part ++ (decimal level ++ last_part)
@@ -30,9 +30,9 @@ second_rest offset level = second_part ++ (decimal offset ++ third_rest level)
 short_with : (initial offset level : ℕ) → initial < 2 ^ 64 → offset < 2 ^ 64 → level < 2 ^ 64 → length (text_with initial offset level) ≤ 65536
 unfolding text_with
 short_with initial offset level hi ho hl =
-    let third = following third_part (decimal level) last_part 17 20 86 (omega arith) (digits_few level hl) (omega arith) in
-    let second = following second_part (decimal offset) (third_rest level) 50 20 123 (omega arith) (digits_few offset ho) third in
-    let first = following first_part (decimal initial) (second_rest offset level) 96 20 193 (omega arith) (digits_few initial hi) second in
+    let third = length_of_three_parts third_part (decimal level) last_part 17 20 86 (omega arith) (digits_few level hl) (omega arith) in
+    let second = length_of_three_parts second_part (decimal offset) (third_rest level) 50 20 123 (omega arith) (digits_few offset ho) third in
+    let first = length_of_three_parts first_part (decimal initial) (second_rest offset level) 96 20 193 (omega arith) (digits_few initial hi) second in
     omega (arith, first)
 
 sound_with : (initial offset level : ℕ) → initial < 2 ^ 31 → offset ≤ 1024 → level < 2 ^ 31 → IsVerdict (text_with initial offset level) (Sound (kernel_with initial offset level))
@@ -46,7 +46,7 @@ sound_with initial offset level hi ho hl =
       record {
         words = words_with initial offset level;
         tokens = tokens;
-        few = few_words (words_with initial offset level) fine;
+        few = words_within_4096 (words_with initial offset level) fine;
         spelled = tokens_spelled (text_with initial offset level) (words_with initial offset level) tokens;
         tree = tree_with initial offset level;
       },

@@ -8,8 +8,9 @@ use Rattle.std.proofs.lemmas.Fmt.{decimal_is_IsNumeral}
 use Rattle.std.proofs.Math.Seq.{take-append_seam}
 use Rattle.kernel_tree.specs.TextToken.{TextToken, IsNumber}
 use Rattle.kernel_tree.specs.Tokens.{begins_hex, Token, piece, literal, decimal_from, before, scan}
-use Rattle.kernel_tree.proofs.Lexed.{moved, scan-skip, scan-token, prefix_len-all, digit_most, no_x, all_digits, value_is, digit_piece, no_hex}
+use Rattle.kernel_tree.proofs.Lexed.{moved, scan-skip, scan-token, prefix_len-all, digit_most, no_x, digit_piece, no_hex}
 use Rattle.number_text.specs.Numbers.{is_digit, value_of}
+use Rattle.number_text.proofs.DecimalDigits.{all_digits, digits_value-is}
 
 -- a byte that ends a decimal number
 pub record Stops (c : ℕ) : Type 0 where
@@ -43,5 +44,5 @@ digits_scan n (d ∷ ds) c s at h l a v small =
 pub number_scan : (n c : ℕ) (s : List ℕ) (ws : List TextToken) → n < 2 ^ 64 → Stops c → ((at : ℕ) → scan 0 at (c ∷ s) ≡ Ok ws) → (at : ℕ) → scan 0 at (decimal n ++ c ∷ s) ≡ Ok (IsNumber n ∷ ws)
 number_scan n c s ws small h again at =
     let d = decimal_is_IsNumeral n small in
-    digits_scan n (decimal n) c s at h d.0.0 d.0.1 (value_is 0 (decimal n) d.0.1 ∙ d.1) (lt-ltb n (2 ^ 127) (omega arith))
+    digits_scan n (decimal n) c s at h d.0.0 d.0.1 (digits_value-is 0 (decimal n) d.0.1 ∙ d.1) (lt-ltb n (2 ^ 127) (omega arith))
     ∙ ap (before (IsNumber n)) (again (moved (length (decimal n)) at))

@@ -15,7 +15,7 @@ use Rattle.sweep_kernel.specs.Pages.{pages_of}
 use Rattle.sweep_kernel.specs.Ends.{EndsOver}
 use Rattle.sweep_kernel.proofs.Arrays.{HasArrays, has_arrays}
 use Rattle.sweep_kernel.proofs.IterationEnds.{names_with, loop_with}
-use Rattle.sweep_kernel.proofs.Iteration.{scope_with, goes_on}
+use Rattle.sweep_kernel.proofs.Iteration.{scope_with, iterate_goes_on}
 
 -- a loop that comes through with other accumulators
 record Through (factor count : ℤ) (reached : LoopState Names) : Type 0 where
@@ -36,7 +36,7 @@ through : (initial offset level iteration_count x : ℕ) (memory : Memory) (fact
 through initial offset level zero x memory factor count sum greatest h o l =
     record { memory = memory; sum = sum; greatest = greatest; is = iterations_none initial offset level x memory (names_with factor count sum greatest) }
 through initial offset level (suc iteration_count) x memory factor count sum greatest h o l =
-    let g = goes_on initial offset level x memory factor count sum greatest h o (omega (arith, l)) in
+    let g = iterate_goes_on initial offset level x memory factor count sum greatest h o (omega (arith, l)) in
     let c = through initial offset level iteration_count (x + 1) g.memory factor count g.sum g.greatest g.arrays o (omega (arith, l)) in
     record {
       memory = c.memory;

@@ -125,8 +125,8 @@ picked factor count memory false false one other g h = h
 
 -- ---- an iteration
 
-pub goes_on : (initial offset level x : ℕ) (memory : Memory) (factor count sum greatest : ℤ) → HasArrays memory → offset < 9 → x < 102000 → GoesOn factor count (iterate (scope_with initial offset level) (loop_with offset level) x memory (names_with factor count sum greatest))
-goes_on initial offset level x memory factor count sum greatest h o l =
+pub iterate_goes_on : (initial offset level x : ℕ) (memory : Memory) (factor count sum greatest : ℤ) → HasArrays memory → offset < 9 → x < 102000 → GoesOn factor count (iterate (scope_with initial offset level) (loop_with offset level) x memory (names_with factor count sum greatest))
+iterate_goes_on initial offset level x memory factor count sum greatest h o l =
     let p = wrap ty.I16 (pos (number_at memory ((0x1000000 + 2 * (x + 0)) % 2 ^ 64) 2)) in
     let q = wrap ty.U8 (pos (number_at memory ((0x2000000 + 1 * (x + offset)) % 2 ^ 64) 1)) in
     let r = wrap ty.U8 (pos (number_at memory ((0x2000000 + 1 * (x + 0)) % 2 ^ 64) 1)) in

@@ -47,8 +47,8 @@ record Filled (memory : Memory) (bound size : ℕ) : Type 0 where
   high : All IsAbove memory
   count : length memory ≡ size
 
-one_more : (memory : Memory) (page bound size : ℕ) (bytes : List ℕ) → Filled memory page size → IsWhole bytes → 4096 ≤ page → page < 2 ^ 36 → suc page ≡ bound → Filled (memory ++ page_with page bytes ∷ []) bound (size + 1)
-one_more memory page bound size bytes h whole low small e = record {
+filled_with_page : (memory : Memory) (page bound size : ℕ) (bytes : List ℕ) → Filled memory page size → IsWhole bytes → 4096 ≤ page → page < 2 ^ 36 → suc page ≡ bound → Filled (memory ++ page_with page bytes ∷ []) bound (size + 1)
+filled_with_page memory page bound size bytes h whole low small e = record {
   is = IsMemory-push memory (page_with page bytes) h.is (record { below = small; whole = whole.size; small = whole.small }) h.below;
   below = All-append (IsBelow bound) memory (page_with page bytes ∷ [])
       (All-weaker (IsBelow page) (IsBelow bound) (λ q l. omega (arith, l)) memory h.below)
@@ -57,14 +57,14 @@ one_more memory page bound size bytes h whole low small e = record {
   count = omega (arith, h.count, length-append memory (page_with page bytes ∷ []));
 }
 
-filled : (memory : Memory) (first size : ℕ) (bytes : ℕ → List ℕ) (n : ℕ) → Filled memory first size → ((p : ℕ) → IsWhole (bytes p)) → 4096 ≤ first → first + n ≤ 2 ^ 36 → Filled (memory ++ pages_from first bytes n) (first + n) (size + n)
+filled_with_pages : (memory : Memory) (first size : ℕ) (bytes : ℕ → List ℕ) (n : ℕ) → Filled memory first size → ((p : ℕ) → IsWhole (bytes p)) → 4096 ≤ first → first + n ≤ 2 ^ 36 → Filled (memory ++ pages_from first bytes n) (first + n) (size + n)
 unfolding pages_from
-filled memory first size bytes zero h whole low small =
+filled_with_pages memory first size bytes zero h whole low small =
     let a : first + 0 ≡ first = omega arith in
     let b : size + 0 ≡ size = omega arith in
     rw (append-nil memory, a, b) h
-filled memory first size bytes (suc n) h whole low small =
-    let more = one_more (memory ++ pages_from first bytes n) (first + n) (first + suc n) (size + n) (bytes n) (filled memory first size bytes n h whole low (omega arith)) (whole n) (omega arith) (omega arith) (omega arith) in
+filled_with_pages memory first size bytes (suc n) h whole low small =
+    let more = filled_with_page (memory ++ pages_from first bytes n) (first + n) (first + suc n) (size + n) (bytes n) (filled_with_pages memory first size bytes n h whole low (omega arith)) (whole n) (omega arith) (omega arith) (omega arith) in
     let e : size + n + 1 ≡ size + suc n = omega arith in
     subst (λ (k : ℕ). Filled (memory ++ (pages_from first bytes n ++ page_with (first + n) (bytes n) ∷ [])) (first + suc n) k) e
     (subst (λ (m : Memory). Filled m (first + suc n) (size + n + 1)) (append_assoc memory (pages_from first bytes n) (page_with (first + n) (bytes n) ∷ [])) more)
@@ -87,9 +87,9 @@ all_filled seed =
     let a = pages_from 0x1000 (drawn_page seed 6) 50 in
     let b = pages_from 0x2000 (drawn_page seed 204806) 25 in
     let c = pages_from 0x3000 zero_page 100 in
-    let first = filled [] 0x1000 0 (drawn_page seed 6) 50 nothing (drawn_whole seed 6) (omega arith) (omega arith) in
-    let second = filled a 0x2000 50 (drawn_page seed 204806) 25 (raised a 4146 0x2000 50 (omega arith) first) (drawn_whole seed 204806) (omega arith) (omega arith) in
-    let third = filled (a ++ b) 0x3000 75 zero_page 100 (raised (a ++ b) 8217 0x3000 75 (omega arith) second) zero_whole (omega arith) (omega arith) in
+    let first = filled_with_pages [] 0x1000 0 (drawn_page seed 6) 50 nothing (drawn_whole seed 6) (omega arith) (omega arith) in
+    let second = filled_with_pages a 0x2000 50 (drawn_page seed 204806) 25 (raised a 4146 0x2000 50 (omega arith) first) (drawn_whole seed 204806) (omega arith) (omega arith) in
+    let third = filled_with_pages (a ++ b) 0x3000 75 zero_page 100 (raised (a ++ b) 8217 0x3000 75 (omega arith) second) zero_whole (omega arith) (omega arith) in
     subst (λ (m : Memory). Filled m 12388 175) (append_assoc a b c) third
 
 pub are_memory : (seed : ℕ) → IsMemory (pages_of seed)

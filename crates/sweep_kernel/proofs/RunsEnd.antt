@@ -1,5 +1,5 @@
 -- The runs of a sweep's file end.
-use Rattle.std.proofs.Common.{◌≡◌, ◌≢◌, ℕ, zero, suc, ◌+◌, ◌*◌, ◌/◌, ◌-◌, ◌%◌, ◌<◌, ◌≤◌, ◌^◌, List, [], ◌∷◌, length, Some, None, Result, Ok, refl, sym, ap, subst, ◌∙◌, arith, append-nil}
+use Rattle.std.proofs.Common.{◌≡◌, ◌≢◌, ℕ, zero, suc, ◌+◌, ◌*◌, ◌/◌, ◌-◌, ◌%◌, ◌<◌, ◌≤◌, ◌^◌, List, [], ◌∷◌, length, Some, None, Ok, refl, sym, ap, subst, ◌∙◌, arith, append-nil}
 use Rattle.std.specs.List.{All}
 use Rattle.std.proofs.lemmas.Nat.{mod_below}
 use Rattle.std.proofs.lemmas.List.Elements.{All-nil, All-cons, All-weaker}
@@ -7,7 +7,7 @@ use Rattle.guest_types.specs.EarlyLoads.{never}
 use Rattle.guest_types.specs.Length.{IsLength}
 use Rattle.guest_types.specs.Memory.{Page, Memory, DoNotMeet, page_at, merged}
 use Rattle.guest_types.proofs.Merges.{page_at-absent}
-use Rattle.machine_model.specs.declared.elf_fault.ElfFault.{ElfFault}
+use Rattle.guest_types.proofs.Errors.{ok_unique}
 use Rattle.machine_model.specs.Load.{Image, Segment, load, pages_from, pages_of as segment_pages}
 use Rattle.machine_model.specs.Run.{End, machine_run}
 use Rattle.machine_model.specs.Written.{file_of, whole, image_of_words}
@@ -83,25 +83,22 @@ size-is initial offset level = refl
 within_steps : (size iteration_count : ℕ) → size ≡ 41 → iteration_count < 101000 → 1000 + 100 * size + (32 + 8 * size) * (iteration_count + 2) ≤ 100000000
 within_steps size iteration_count e l = subst (λ z. 1000 + 100 * z + (32 + 8 * z) * (iteration_count + 2) ≤ 100000000) (sym e) (omega (arith, l))
 
-enough : (initial offset level iteration_count : ℕ) → iteration_count < 101000 → slow_bound (kernel_with initial offset level) iteration_count ≤ most_steps
-enough initial offset level iteration_count l = within_steps (size_of (kernel_with initial offset level)) iteration_count (size-is initial offset level) l
+slow_bound_is_enough : (initial offset level iteration_count : ℕ) → iteration_count < 101000 → slow_bound (kernel_with initial offset level) iteration_count ≤ most_steps
+slow_bound_is_enough initial offset level iteration_count l = within_steps (size_of (kernel_with initial offset level)) iteration_count (size-is initial offset level) l
 
 -- ---- runs
 
-pub same_image : (i j : Image) (r : Result Image ElfFault) → r ≡ Ok i → r ≡ Ok j → i ≡ j
-same_image i j r e f = cc
-
-ends_at : (k : Program) (file args : List ℕ) (pages : Memory) (vl steps iteration_count : ℕ) (image : Image) (memory : Memory) (result : ℕ) → SlowFaithful k file → load file ≡ Ok image → IsStart image args pages vl → scalar_run k args (merged image.pages pages) ≡ scalar.End memory result iteration_count → slow_bound k iteration_count ≤ steps → (taken : ℕ) × (machine_run file args pages vl steps ≡ Some (End memory result taken))
-ends_at k file args pages vl steps iteration_count image memory result f loaded begins ends le =
-    let i : image ≡ f.image = same_image image f.image (load file) loaded f.loaded in
+sweep_file_ends_at : (k : Program) (file args : List ℕ) (pages : Memory) (vl steps iteration_count : ℕ) (image : Image) (memory : Memory) (result : ℕ) → SlowFaithful k file → load file ≡ Ok image → IsStart image args pages vl → scalar_run k args (merged image.pages pages) ≡ scalar.End memory result iteration_count → slow_bound k iteration_count ≤ steps → (taken : ℕ) × (machine_run file args pages vl steps ≡ Some (End memory result taken))
+sweep_file_ends_at k file args pages vl steps iteration_count image memory result f loaded begins ends le =
+    let i : image ≡ f.image = ok_unique image f.image (load file) loaded f.loaded in
     let here : scalar_run k args (merged f.image.pages pages) ≡ scalar.End memory result iteration_count = subst (λ (j : Image). scalar_run k args (merged j.pages pages) ≡ scalar.End memory result iteration_count) i ends in
     let bound : slow_bound k (begun (scalar_run k args (merged f.image.pages pages))) ≤ steps = subst (λ (r : scalar.Run). slow_bound k (begun r) ≤ steps) (sym here) le in
     let r = f.runs args pages vl never steps (subst (λ (j : Image). IsStart j args pages vl) i begins) refl bound in
     let g : Follows k args vl (scalar.End memory result iteration_count) r.0 = subst (λ (r' : scalar.Run). Follows k args vl r' r.0) here r.2 in
     (g.0, sym (without_stops file args pages vl steps) ∙ r.1 ∙ ap Some g.1)
 
-run_ends : (words : List ℕ) (seed vl : ℕ) → length words ≤ 65536 → SlowFaithful (kernel_of seed) (file_of words) → IsLength vl → RunEnds words seed vl
-run_ends words seed vl few f length =
+sweep_run_ends : (words : List ℕ) (seed vl : ℕ) → length words ≤ 65536 → SlowFaithful (kernel_of seed) (file_of words) → IsLength vl → RunEnds words seed vl
+sweep_run_ends words seed vl few f length =
     let apart = apart_pages words seed few in
     let e = all_end (image_of_words words).pages seed apart in
     let begins : IsStart (image_of_words words) (arguments_of seed) (pages_of seed) vl = record {
@@ -111,8 +108,8 @@ run_ends words seed vl few f length =
       apart = apart;
       length = length;
     } in
-    let r = ends_at (kernel_of seed) (file_of words) (arguments_of seed) (pages_of seed) vl most_steps (count_of seed) (image_of_words words) e.memory e.result f (load-file_of words few) begins e.ends (enough (initial_of seed) (offset_of seed) (level_of seed) (count_of seed) (count_small seed)) in
+    let r = sweep_file_ends_at (kernel_of seed) (file_of words) (arguments_of seed) (pages_of seed) vl most_steps (count_of seed) (image_of_words words) e.memory e.result f (load-file_of words few) begins e.ends (slow_bound_is_enough (initial_of seed) (offset_of seed) (level_of seed) (count_of seed) (count_small seed)) in
     record { memory = e.memory; result = e.result; steps = r.0; machine = r.1; kernel = e.ends }
 
 pub faithful_ends : (words : List ℕ) (seed : ℕ) → length words ≤ 65536 → SlowFaithful (kernel_of seed) (file_of words) → AllRunsEnd words seed
-faithful_ends words seed few f = record { apart = apart_pages words seed few; ends = λ vl length. run_ends words seed vl few f length }
+faithful_ends words seed few f = record { apart = apart_pages words seed few; ends = λ vl length. sweep_run_ends words seed vl few f length }

@@ -2,6 +2,7 @@
 use Rattle.std.specs.Prelude.{ℕ, zero, suc, ◌+◌, ◌*◌, ◌%◌, List, [], ◌∷◌, ◌++◌, replicate}
 use Rattle.guest_types.specs.declared.memory.Perm.TheVariants.{ReadWrite}
 use Rattle.guest_types.specs.Memory.{Page, Memory, byte_or_zero}
+use Rattle.guest_types.specs.declared.memory.TheConstants.{PAGE_BYTES}
 use Rattle.sweep_kernel.specs.Numbers.{random}
 
 -- the low bytes of so many numbers, from the j-th on
@@ -11,10 +12,10 @@ low_bytes seed j (suc n) = low_bytes seed j n ++ random seed (j + n) % 256 ∷ [
 
 -- the bytes of page p of an array that begins with the j-th number
 unfoldable pub drawn_page : (seed j : ℕ) → ℕ → List ℕ
-drawn_page seed j p = low_bytes seed (j + 4096 * p) 4096
+drawn_page seed j p = low_bytes seed (j + PAGE_BYTES * p) PAGE_BYTES
 
 unfoldable pub zero_page : ℕ → List ℕ
-zero_page p = replicate 4096 0
+zero_page p = replicate PAGE_BYTES 0
 
 -- a page that may be written
 abbrev pub page_with : (number : ℕ) → List ℕ → Page

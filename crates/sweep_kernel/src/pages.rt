@@ -1,23 +1,24 @@
 //! The pages of the runs, and the sum of the bytes that a run leaves.
 
 ghost use Rattle.std.specs.Prelude.{◌≡◌, ℕ, ◌+◌, ◌*◌, ◌<◌, ◌≤◌, ◌^◌, ◌++◌, ◌∷◌, [], length, replicate, OnOk, IfOk, All};
+ghost use Rattle.guest_types.specs.declared.memory.TheConstants.{PAGE_BYTES};
 ghost use Rattle.sweep_kernel.specs.Pages.{page_with, low_bytes, drawn_page, zero_page, pages_from, pages_of, sum_of};
 
 use crate::draw::Draw;
 use guest_types::image::PageMap;
-use guest_types::memory::{PageBytes, PageNo, PageSpec, Perm};
+use guest_types::memory::{PAGE_BYTES, PageBytes, PageNo, PageSpec, Perm};
 use paged_memory::pages::Pages;
 use std::alloc::{AllocError, Global};
 
 // The low bytes of the next 4,096 numbers.
 fn drawn_bytes(alloc: Global, draw: &mut Draw) -> Result<Vec<u8>, AllocError>
     requires { draw.old.place < 2 ^ 31 }
-    ensures bytes { IfOk result (λ bytes. bytes.items ≡ low_bytes draw.old.seed draw.old.place 4096) }
+    ensures bytes { IfOk result (λ bytes. bytes.items ≡ low_bytes draw.old.seed draw.old.place PAGE_BYTES) }
     ensures seed { OnOk result (draw.new.seed ≡ draw.old.seed) }
-    ensures place { OnOk result (draw.new.place ≡ draw.old.place + 4096) }
+    ensures place { OnOk result (draw.new.place ≡ draw.old.place + PAGE_BYTES) }
 {
     let mut bytes = Vec::new(alloc);
-    for i in 0..4096u64 {
+    for i in 0..PAGE_BYTES {
         bytes.push((draw.number() % 256) as u8)?;
         *draw = draw.after();
     }
@@ -36,7 +37,7 @@ fn first_byte(seed: u64) -> Draw
 // Appends a page that may be written.
 fn push_page(pages: &mut Vec<PageSpec>, number: u64, bytes: Vec<u8>) -> Result<(), AllocError>
     requires number { number < 2 ^ 36 }
-    requires whole { length bytes.items ≡ 4096 }
+    requires whole { length bytes.items ≡ PAGE_BYTES }
     ensures { OnOk result (pages.new.items ≡ pages.old.items ++ page_with number bytes.items ∷ []) }
 {
     let Some(page) = PageNo::new(number) else {
@@ -59,11 +60,11 @@ fn push_drawn(
     draw: &mut Draw,
 ) -> Result<(), AllocError>
     requires numbers { first + count < 2 ^ 36 }
-    requires places { draw.old.place + 4096 * count < 2 ^ 31 }
+    requires places { draw.old.place + PAGE_BYTES * count < 2 ^ 31 }
     ensures pages { OnOk result (pages.new.items
         ≡ pages.old.items ++ pages_from first (drawn_page draw.old.seed draw.old.place) count) }
     ensures seed { OnOk result (draw.new.seed ≡ draw.old.seed) }
-    ensures place { OnOk result (draw.new.place ≡ draw.old.place + 4096 * count) }
+    ensures place { OnOk result (draw.new.place ≡ draw.old.place + PAGE_BYTES * count) }
 {
     for p in 0..count {
         let bytes = drawn_bytes(alloc, draw)?;
@@ -73,9 +74,9 @@ fn push_drawn(
 }
 
 fn zero_bytes(alloc: Global) -> Result<Vec<u8>, AllocError>
-    ensures { IfOk result (λ bytes. bytes.items ≡ replicate 4096 0) }
+    ensures { IfOk result (λ bytes. bytes.items ≡ replicate PAGE_BYTES 0) }
 {
-    let bytes = vec![in alloc; 0u8; 4096]?;
+    let bytes = vec![in alloc; 0u8; PAGE_BYTES as usize]?;
     Ok(bytes)
 }
 

@@ -1,20 +1,25 @@
 -- What a sweep writes and prints.
-use Rattle.std.specs.Prelude.{◌≡◌, ℕ, ◌≤◌, List, [], length, flat_map, Option, Some}
+use Rattle.std.specs.Prelude.{◌≡◌, ℕ, ◌+◌, ◌*◌, ◌≤◌, List, [], length, flat_map, Option, Some, All}
 use Rattle.std.specs.List.{range_with_len}
 use Rattle.machine_model.specs.Machine.{State}
 use Rattle.machine_model.specs.Run.{Outcome, End, run, machine_run}
 use Rattle.machine_model.specs.Written.{file_of}
+use Rattle.kernel_tree.specs.Items.{size_of}
 use Rattle.promises.specs.Faithful.{FreeFaithful, FreeEnds, CloseFaithful}
+use Rattle.promises.specs.Reserved.{LeavesReserved}
 use Rattle.sweep_kernel.specs.Numbers.{arguments_of}
 use Rattle.sweep_kernel.specs.Tree.{kernel_of}
 use Rattle.sweep_kernel.specs.Pages.{pages_of, sum_of}
 use Rattle.sweep_kernel.specs.LengthLine.{length_line, length_at}
 use Rattle.sweep_kernel.specs.Runs.{most_steps}
 
--- a written file of few words that is faithful to the kernel of a number
+-- a written file that is faithful to the kernel of a number; it has few words, no more than a compiled one has, each of which leaves
+-- X18, X29, X30 and SP alone
 pub record IsSweepFile (number : ℕ) (file : List ℕ) : Type 0 where
   pub words : List ℕ
   pub few : length words ≤ 65536
+  pub short : length words ≤ 1000 + 60 * size_of (kernel_of number)
+  pub reserved : All LeavesReserved words
   pub file_is : file ≡ file_of words
   pub faithful : FreeFaithful (kernel_of number) file
   pub close : CloseFaithful (kernel_of number) file

@@ -2,6 +2,7 @@
 
 ghost use Rattle.std.specs.Prelude.{◌≡◌, ℕ, ◌+◌, ◌≤◌, ◌++◌, None, Some, Ok, IfOk, OnOk, length};
 ghost use Rattle.guest_types.specs.Memory.{DoNotMeet};
+ghost use Rattle.guest_types.specs.declared.memory.TheConstants.{MOST_PAGES};
 ghost use Rattle.machine_model.specs.Load.{load};
 ghost use Rattle.machine_model.specs.Answers.{outcome_of};
 ghost use Rattle.machine_model.specs.Run.{start};
@@ -63,7 +64,7 @@ fn machine_of(
     vl: Vl,
 ) -> Result<Machine, AllocError>
     requires apart { DoNotMeet image.now.pages.items map.now.pages.items }
-    requires few { length image.now.pages.items + length map.now.pages.items ≤ 16384 }
+    requires few { length image.now.pages.items + length map.now.pages.items ≤ MOST_PAGES }
     ensures state { IfOk result (λ machine. machine.state
         ≡ start (plain image.now) (arguments_of number) map.now.pages.items vl) }
     ensures steps { IfOk result (λ machine. machine.steps ≡ 0) }

@@ -35,19 +35,19 @@ least : bounds_of scope (Some ty.I32) (Operation binary.Min (Operation binary.Mu
 least = refl
 
 -- abs(a[x] as i16 - a[x] as i16)
-apart : bounds_of scope (Some ty.I16) (Unary unary.Abs (Operation binary.Sub (Conversion byte ty.I16) (Conversion byte ty.I16))) ≡ between (pos 0) (pos 255)
-apart = refl
+bounds_of_absolute : bounds_of scope (Some ty.I16) (Unary unary.Abs (Operation binary.Sub (Conversion byte ty.I16) (Conversion byte ty.I16))) ≡ between (pos 0) (pos 255)
+bounds_of_absolute = refl
 
 -- (a[x] as u16 << 8) >> 4, and one bit more
-moved : bounds_of scope (Some ty.U16) (Shift false (Shift true (Conversion byte ty.U16) (pos 8)) (pos 4)) ≡ between (pos 0) (pos 4080)
-moved = refl
+bounds_of_shifts : bounds_of scope (Some ty.U16) (Shift false (Shift true (Conversion byte ty.U16) (pos 8)) (pos 4)) ≡ between (pos 0) (pos 4080)
+bounds_of_shifts = refl
 
 too_far : shift_stays scope (Some ty.U16) true (Conversion byte ty.U16) (pos 9) ≡ false
 too_far = refl
 
 -- select(.., a[x] as i32, -1)
-either : bounds_of scope (Some ty.I32) (Choice (Comparison compare.Eq byte byte) (Conversion byte ty.I32) (Literal (negsuc 0))) ≡ between (negsuc 0) (pos 255)
-either = refl
+bounds_of_choice : bounds_of scope (Some ty.I32) (Choice (Comparison compare.Eq byte byte) (Conversion byte ty.I32) (Literal (negsuc 0))) ≡ between (negsuc 0) (pos 255)
+bounds_of_choice = refl
 
 -- x + 1 may leave its type, and so may -x; a[x] * a[x] stays in 16 bits without a sign, and not with one
 above : binary_stays scope (Some ty.I32) binary.Add (Variable (codes "x")) (Literal (pos 1)) ≡ false
@@ -63,8 +63,8 @@ square_signed : binary_stays scope (Some ty.I16) binary.Mul (Conversion byte ty.
 square_signed = refl
 
 -- (a[x] as i32 & 15) * 3, and the common bits of x and a[x] as i32
-masked : bounds_of scope (Some ty.I32) (Operation binary.Mul (Operation binary.And (Conversion byte ty.I32) (Literal (pos 15))) (Literal (pos 3))) ≡ between (pos 0) (pos 45)
-masked = refl
+bounds_of_masked : bounds_of scope (Some ty.I32) (Operation binary.Mul (Operation binary.And (Conversion byte ty.I32) (Literal (pos 15))) (Literal (pos 3))) ≡ between (pos 0) (pos 45)
+bounds_of_masked = refl
 
 bits : bounds_of scope (Some ty.I32) (Operation binary.And (Variable (codes "x")) (Conversion byte ty.I32)) ≡ between (pos 0) (pos 255)
 bits = refl

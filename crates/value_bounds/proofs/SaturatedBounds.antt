@@ -22,9 +22,9 @@ abbrev pub cut : ℤ → ℤ
 cut z = saturate_signed w128 z
 
 -- values of types are small
-small : (t : Ty) (z : ℤ) → IsOf t z → (negsuc (2 ^ 63) ≤ℤ z) × (z ≤ℤ pos (2 ^ 64))
-small ty.I8 z h = let a = h.0 in let b = h.1 in (omega (arith, ints), omega (arith, ints))
-small other z h = let a = h.0 in let b = h.1 in (omega (arith, ints), omega (arith, ints))
+type_within_64_bits : (t : Ty) (z : ℤ) → IsOf t z → (negsuc (2 ^ 63) ≤ℤ z) × (z ≤ℤ pos (2 ^ 64))
+type_within_64_bits ty.I8 z h = let a = h.0 in let b = h.1 in (omega (arith, ints), omega (arith, ints))
+type_within_64_bits other z h = let a = h.0 in let b = h.1 in (omega (arith, ints), omega (arith, ints))
 
 uncut : (z : ℤ) → (negsuc (2 ^ 63) ≤ℤ z) × (z ≤ℤ pos (2 ^ 64)) → cut z ≡ z
 uncut (pos n) h = let b = h.1 in ap pos (omega (arith, ints))
@@ -35,10 +35,10 @@ within_cut (pos n) h = let b = h.1 in ap pos (omega (arith, ints))
 within_cut (negsuc n) h = let a = h.0 in ap negsuc (omega (arith, ints))
 
 cut-small : (t : Ty) (z : ℤ) → IsOf t z → cut z ≡ z
-cut-small t z h = uncut z (small t z h)
+cut-small t z h = uncut z (type_within_64_bits t z h)
 
 small-cut : (t : Ty) (z : ℤ) → IsOf t (cut z) → cut z ≡ z
-small-cut t z h = within_cut z (small t (cut z) h)
+small-cut t z h = within_cut z (type_within_64_bits t (cut z) h)
 
 same_test : (a b : Bool) → (a ≡ true → b ≡ true) → (b ≡ true → a ≡ true) → a ≡ b
 same_test true true f g = refl

@@ -4,7 +4,7 @@ use Rattle.std.proofs.lemmas.Int.{ints, to_z-of_z}
 use mir.Syntax.{w32, w128}
 use mir.Val.{SFits, of_z, to_z}
 use Rattle.kernel_tree.specs.declared.ops.Ty.{Ty}
-use Rattle.kernel_meaning.specs.Eval.{byte_count}
+use Rattle.kernel_tree.specs.Wrap.{byte_count}
 
 wide : (z : ℤ) → SFits w32 z → SFits w128 z
 wide z h = let e = h.sfits in record { sfits = omega (arith, e) }
@@ -46,11 +46,11 @@ module _ (z : ℤ) (h : SFits w32 z) where
   eight_fits = times_fits (pos 8) (eight_times z h)
 
   module _ (t a b : Ty) (is : (t ≡ a) ⊎ (t ≡ b)) where
-    counted : (n : ℕ) → byte_count a ≡ n → byte_count b ≡ n → byte_count t ≡ n
-    counted n e f = ⊎_elim (λ s. ap byte_count s ∙ e) (λ s. ap byte_count s ∙ f) is
+    byte_count_of_either : (n : ℕ) → byte_count a ≡ n → byte_count b ≡ n → byte_count t ≡ n
+    byte_count_of_either n e f = ⊎_elim (λ s. ap byte_count s ∙ e) (λ s. ap byte_count s ∙ f) is
 
     pub bytes_one : byte_count a ≡ 1 → byte_count b ≡ 1 → to_z w128 (of_z w128 (to_z w32 (of_z w32 z))) ≡ pos (byte_count t) *ℤ z
-    bytes_one e f = read ∙ once z ∙ ap (λ n. pos n *ℤ z) (sym (counted 1 e f))
+    bytes_one e f = read ∙ once z ∙ ap (λ n. pos n *ℤ z) (sym (byte_count_of_either 1 e f))
 
     pub bytes_times : (n : ℕ) → byte_count a ≡ n → byte_count b ≡ n → SFits w128 (pos n *ℤ to_z w128 (of_z w128 (to_z w32 (of_z w32 z)))) → to_z w128 (of_z w128 (pos n *ℤ to_z w128 (of_z w128 (to_z w32 (of_z w32 z))))) ≡ pos (byte_count t) *ℤ z
-    bytes_times n e f g = to_z-of_z w128 (pos n *ℤ to_z w128 (of_z w128 (to_z w32 (of_z w32 z)))) g ∙ ap (λ y. pos n *ℤ y) read ∙ ap (λ n. pos n *ℤ z) (sym (counted n e f))
+    bytes_times n e f g = to_z-of_z w128 (pos n *ℤ to_z w128 (of_z w128 (to_z w32 (of_z w32 z)))) g ∙ ap (λ y. pos n *ℤ y) read ∙ ap (λ n. pos n *ℤ z) (sym (byte_count_of_either n e f))

@@ -4,13 +4,13 @@ use Rattle.std.specs.Prelude.{ℤ}
 use Rattle.machine_model.specs.Machine.{State, x_at, x_or_sp, with_x, next}
 use Rattle.machine_model.specs.Arithmetic.{difference, flags_of}
 use Rattle.a64_code.specs.Table.{subs_imm}
+use Rattle.machine_model.proofs.StateLaws.{x_or_sp-low}
 use Rattle.kernel_meaning.specs.Operators.{word}
 use Rattle.label_fix.specs.DraftRun.{DraftEntry, Put, Laid, word_of}
 use Rattle.label_fix.proofs.StretchSteps.{Goes, put_goes}
 use Rattle.scalar_words.specs.Layout.{Layout}
 use Rattle.value_code.specs.ItemWords.{compare_word}
 use Rattle.scalar_words.proofs.LayoutStates.{Kept}
-use Rattle.value_code.proofs.Loads.{not_sp}
 use Rattle.scalar_words.proofs.Truths.{tested, tested_goes, tested_other, tested_sized, tested_kept, tested_flags}
 
 -- ---- by a register or a number
@@ -44,7 +44,7 @@ compare_goes D (Some v) rest s a c x y few hi ex ey =
     record {
       end = next (record (with_x s 31 (difference (x_or_sp s a) k)) { flags = flags_of (x_or_sp s a) k });
       goes = put_goes {i = word_of subs_imm (31 ∷ a ∷ v % 4096 ∷ 0 ∷ [])} refl;
-      flags = ap₂ flags_of (not_sp s a hi ∙ ex) low;
+      flags = ap₂ flags_of (x_or_sp-low s a hi ∙ ex) low;
       sized = length-set s.x 31 _;
       others = λ r ne. get_or-set_other s.x 31 r _ 0 ne;
       kept = λ L b e. record { memory = refl; sized = length-set s.x 31 _; frame = refl; others = λ r le h. get_or-set_other s.x 31 r _ 0 (λ eq. absurd (omega arith)) };

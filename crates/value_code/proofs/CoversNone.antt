@@ -11,7 +11,7 @@ use Rattle.value_code.specs.Extents.{Whole, converted_extent}
 use Rattle.value_code.specs.Leaving.{unary_asks, binary_asks, shift_asks}
 use Rattle.value_code.specs.Covers.{index_covers, covers, covers_truth}
 
-index_by : (i : Option (List ℕ)) (want : Option Ty) (o : Option ℤ) (computed : Bool) → computed ≡ true → index_covers [] i None want o computed ≡ true
+pub index_by : (i : Option (List ℕ)) (want : Option Ty) (o : Option ℤ) (computed : Bool) → computed ≡ true → index_covers [] i None want o computed ≡ true
 index_by None want (Some c) computed h = refl
 index_by (Some x) want (Some c) computed h = refl
 index_by i want None computed h = h

@@ -120,15 +120,15 @@ module _ (ls : List Loose) (s : Scope) where
 
   -- two conditions
   module _ (e : Expr) (a b : Box Expr Global) (x : Expr) (first : Bool) (is : (e ≡ kind.And a b) ⊎ (e ≡ kind.Or a b)) (ex : x ≡ a.value) (f : first ≡ covers_truth ls s (term_of x)) where
-    joined : covers_truth ls s (term_of e) ≡ (covers_truth ls s (term_of a.value) && covers_truth ls s (term_of b.value))
-    joined = ⊎_elim (λ is. ap (λ (e : Expr). covers_truth ls s (term_of e)) is) (λ is. ap (λ (e : Expr). covers_truth ls s (term_of e)) is) is
+    covers_both_sides : covers_truth ls s (term_of e) ≡ (covers_truth ls s (term_of a.value) && covers_truth ls s (term_of b.value))
+    covers_both_sides = ⊎_elim (λ is. ap (λ (e : Expr). covers_truth ls s (term_of e)) is) (λ is. ap (λ (e : Expr). covers_truth ls s (term_of e)) is) is
 
     pub truths_then : (y : Expr) (r : Bool) → y ≡ b.value → first ≡ true → r ≡ covers_truth ls s (term_of y) → r ≡ covers_truth ls s (term_of e)
     truths_then y r ey so g =
-        and_then first r (covers_truth ls s (term_of a.value)) (covers_truth ls s (term_of b.value)) so (f ∙ ap (λ (e : Expr). covers_truth ls s (term_of e)) ex) (g ∙ ap (λ (e : Expr). covers_truth ls s (term_of e)) ey) ∙ sym joined
+        and_then first r (covers_truth ls s (term_of a.value)) (covers_truth ls s (term_of b.value)) so (f ∙ ap (λ (e : Expr). covers_truth ls s (term_of e)) ex) (g ∙ ap (λ (e : Expr). covers_truth ls s (term_of e)) ey) ∙ sym covers_both_sides
 
     pub truths_else : first ≡ false → first ≡ covers_truth ls s (term_of e)
-    truths_else not_so = and_else first (covers_truth ls s (term_of a.value)) (covers_truth ls s (term_of b.value)) not_so (f ∙ ap (λ (e : Expr). covers_truth ls s (term_of e)) ex) ∙ sym joined
+    truths_else not_so = and_else first (covers_truth ls s (term_of a.value)) (covers_truth ls s (term_of b.value)) not_so (f ∙ ap (λ (e : Expr). covers_truth ls s (term_of e)) ex) ∙ sym covers_both_sides
 
 -- of any other condition nothing is asked
 pub others_truth : (ls : List Loose) (s : Scope) (e : Expr)

@@ -55,12 +55,12 @@ first_is : (o : Option Ty) (t : Ty) → (T : Ty) × (first o (Some t) ≡ Some T
 first_is None t = (t, refl)
 first_is (Some u) t = (u, refl)
 
-small : (c : ℤ) → unsigned_abs c ≤ 1024 → IsSmall c
-small (pos n) h = omega (arith, h)
-small (negsuc n) h = omega (arith, h)
+small_of_unsigned_abs : (c : ℤ) → unsigned_abs c ≤ 1024 → IsSmall c
+small_of_unsigned_abs (pos n) h = omega (arith, h)
+small_of_unsigned_abs (negsuc n) h = omega (arith, h)
 
 pub no_offset : (item : ℕ) (c : ℤ) → offset_faults item c ≡ [] → IsSmall c
-no_offset item c e = small c (leb-true (unsigned_abs c) most_offset (is_empty (nat_le (unsigned_abs c) most_offset) _ _ e))
+no_offset item c e = small_of_unsigned_abs c (leb-true (unsigned_abs c) most_offset (is_empty (nat_le (unsigned_abs c) most_offset) _ _ e))
 
 -- ---- the listing
 

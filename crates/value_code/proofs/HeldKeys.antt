@@ -35,18 +35,18 @@ one_added old new c n z e is same =
 -- ---- where no register holds it
 
 module _ (p : ℕ) (z : Key) (xs ys : List Constant) (same : xs ≡ ys) (o : Option ℕ) (is : o ≡ constant_in (constants_of xs) z) where
-  found : o ≡ constant_in (constants_of ys) z
-  found = is ∙ ap (λ (cs : List Constant). constant_in (constants_of cs) z) same
+  constant_key_found : o ≡ constant_in (constants_of ys) z
+  constant_key_found = is ∙ ap (λ (cs : List Constant). constant_in (constants_of cs) z) same
 
   pub held_there : (r : ℕ) → o ≡ Some r → constants_of ys ≡ hold_key p z (constants_of ys)
-  held_there r e = ap (λ (o : Option ℕ). new_key o p z (constants_of ys)) (sym e ∙ found)
+  held_there r e = ap (λ (o : Option ℕ). new_key o p z (constants_of ys)) (sym e ∙ constant_key_found)
 
   module _ (b : Bool) (us : List Constant) (lent : us ≡ ys) (room : b ≡ has_room p (constants_of us)) (e : o ≡ None) where
     roomy : b ≡ has_room p (constants_of ys)
     roomy = room ∙ ap (λ (cs : List Constant). has_room p (constants_of cs)) lent
 
     pub held_by : (c : Bool) → b ≡ c → add_key c z (constants_of ys) ≡ hold_key p z (constants_of ys)
-    held_by c f = ap (λ (c : Bool). add_key c z (constants_of ys)) (sym f ∙ roomy) ∙ ap (λ (o : Option ℕ). new_key o p z (constants_of ys)) (sym e ∙ found)
+    held_by c f = ap (λ (c : Bool). add_key c z (constants_of ys)) (sym f ∙ roomy) ∙ ap (λ (o : Option ℕ). new_key o p z (constants_of ys)) (sym e ∙ constant_key_found)
 
 pub room_left : (p : ℕ) (us ys : List Constant) (b : Bool) → us ≡ ys → b ≡ has_room p (constants_of us) → b ≡ true → length (constants_of ys) < 5
 room_left p us ys b lent room is =

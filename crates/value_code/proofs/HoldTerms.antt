@@ -1,15 +1,16 @@
 -- What is held for an expression: each has the next register, none is lost, and no more words load it than are saved.
 use Rattle.std.proofs.Common.{◌≡◌, ℕ, ◌+◌, ◌*◌, ◌-◌, ◌<◌, ◌≤◌, ◌&&◌, ◌||◌, Bool, true, false, cond, List, [], ◌∷◌, ◌++◌, length, Option, Some, None, refl, sym, ap, ap₂, subst, arith}
-use Rattle.std.specs.Prelude.{ℤ, pos, negsuc, ◌*ℤ◌, nat_lt, nat_le, nat_eq, not, option_map, option_and_then, if◌then◌else◌}
+use Rattle.std.specs.Prelude.{ℤ, pos, ◌*ℤ◌, nat_lt, nat_le, nat_eq, not, option_map, option_and_then, if◌then◌else◌}
 use Rattle.std.specs.List.{find}
 use Rattle.std.proofs.lemmas.Bool.{ltb-true, leb-true, eqb-true, eq-eqb, and_from, and_parts}
 use Rattle.kernel_tree.specs.declared.ops.Ty.{Ty}
 use Rattle.kernel_tree.specs.Plain.{Term, Literal, Variable, Element, Unary, Operation, Shift, Conversion, Choice, Comparison, Both, Either, Not}
 use Rattle.kernel_tree.specs.Items.{term_size, index_size, stream_offset}
 use Rattle.kernel_tree.specs.Typing.{Scope, lookup, element_type}
+use Rattle.kernel_tree.specs.Wrap.{byte_count}
 use Rattle.kernel_meaning.specs.Operators.{word}
-use Rattle.kernel_meaning.specs.Eval.{byte_count}
 use Rattle.loop_form.specs.Needs.{same_number}
+use Rattle.loop_form.proofs.Places.{same_number-refl, same_number-told}
 use Rattle.scalar_words.specs.Layout.{Key, OfNumber, OfAddress, Constant, Homes, register_at, same_key, is_constant, constant_register, constant_in, IsGiven}
 use Rattle.value_code.specs.ItemWords.{addend}
 use Rattle.value_code.specs.Code.{near, key_at, moved_key}
@@ -18,25 +19,15 @@ use Rattle.value_code.proofs.CodedSizes.{literal_few, element_moves, term_moves,
 
 -- ---- numbers that are found
 
-pub same_itself : (z : ℤ) → same_number z z ≡ true
-same_itself (pos n) = eq-eqb n n refl
-same_itself (negsuc n) = eq-eqb n n refl
-
-pub same_is : (y z : ℤ) → same_number y z ≡ true → y ≡ z
-same_is (pos m) (pos n) e = ap pos (eqb-true m n e)
-same_is (pos m) (negsuc n) e = absurd cc
-same_is (negsuc m) (pos n) e = absurd cc
-same_is (negsuc m) (negsuc n) e = ap negsuc (eqb-true m n e)
-
 pub key_itself : (z : Key) → same_key z z ≡ true
-key_itself (OfNumber z) = same_itself z
-key_itself (OfAddress q c) = and_from (nat_eq q q) (same_number c c) (eq-eqb q q refl) (same_itself c)
+key_itself (OfNumber z) = same_number-refl z
+key_itself (OfAddress q c) = and_from (nat_eq q q) (same_number c c) (eq-eqb q q refl) (same_number-refl c)
 
 pub key_is : (y z : Key) → same_key y z ≡ true → y ≡ z
-key_is (OfNumber y) (OfNumber z) e = ap OfNumber (same_is y z e)
+key_is (OfNumber y) (OfNumber z) e = ap OfNumber (same_number-told y z e)
 key_is (OfNumber y) (OfAddress r d) e = absurd cc
 key_is (OfAddress q c) (OfNumber z) e = absurd cc
-key_is (OfAddress q c) (OfAddress r d) e = ap₂ OfAddress (eqb-true q r (and_parts (nat_eq q r) (same_number c d) e).0) (same_is c d (and_parts (nat_eq q r) (same_number c d) e).1)
+key_is (OfAddress q c) (OfAddress r d) e = ap₂ OfAddress (eqb-true q r (and_parts (nat_eq q r) (same_number c d) e).0) (same_number-told c d (and_parts (nat_eq q r) (same_number c d) e).1)
 
 abbrev pub IsKept : Option ℕ → Type 0
 IsKept None = ⊥
@@ -92,9 +83,9 @@ holds_same p cs = record { next = λ h. h; more = λ z k. k }
 pub holds_on : {p : ℕ} {cs ds es : List Constant} → Holds p cs ds → Holds p ds es → Holds p cs es
 holds_on h k = record { next = λ n. k.next (h.next n); more = λ z i. k.more z (h.more z i) }
 
-added : (p : ℕ) (z : Key) (cs : List Constant) (b : Bool) → IsReached p z → has_room p cs ≡ b → Holds p cs (add_key b z cs)
-added p z cs false is e = holds_same p cs
-added p z cs true is e =
+holds_added_key : (p : ℕ) (z : Key) (cs : List Constant) (b : Bool) → IsReached p z → has_room p cs ≡ b → Holds p cs (add_key b z cs)
+holds_added_key p z cs false is e = holds_same p cs
+holds_added_key p z cs true is e =
     let c : Constant = record { key = z; register = 8 - length cs } in
     let few = ltb-true (length cs) 5 (and_parts (nat_lt (length cs) 5) (nat_le (p + length cs) 8) e).0 in
     let room = leb-true (p + length cs) 8 (and_parts (nat_lt (length cs) 5) (nat_le (p + length cs) 8) e).1 in
@@ -102,7 +93,7 @@ added p z cs true is e =
 
 key_held : (o : Option ℕ) (p : ℕ) (z : Key) (cs : List Constant) → IsReached p z → Holds p cs (new_key o p z cs)
 key_held (Some r) p z cs is = holds_same p cs
-key_held None p z cs is = added p z cs (has_room p cs) is refl
+key_held None p z cs is = holds_added_key p z cs (has_room p cs) is refl
 
 addend_some : (v : ℕ) (b : Bool) → is_some (if b then Some v else None) ≡ true → (if b then Some v else None) ≡ Some v
 addend_some v true e = refl

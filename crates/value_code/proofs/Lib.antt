@@ -21,7 +21,7 @@ pub mod CoversNone
 pub mod FitsOf
 pub mod ValueCounts
 pub mod ValuesPlaced
-mod TermWalks
+pub mod TermWalks
 mod ByteCounts
 mod HeldKeys
 mod CoversTerms

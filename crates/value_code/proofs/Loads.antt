@@ -1,12 +1,12 @@
 -- The code of a load.
 use Rattle.std.proofs.Common.{◌≡◌, ℕ, ◌*◌, ◌%◌, ◌^◌, ◌<◌, ◌≤◌, Bool, true, false, refl, ap, ◌∙◌, arith, ltb, zero, suc, List, [], ◌∷◌, length, Option, Some, None, Result, Ok, Err, sym, ap₂}
 use Rattle.std.specs.Prelude.{ℤ, pos, negsuc, ◌+ℤ◌, ◌*ℤ◌}
-use Rattle.std.proofs.lemmas.Bool.{ltb-false, ltb-true, cond-false, ne_eqb}
+use Rattle.std.proofs.lemmas.Bool.{ltb-false, ltb-true}
 use Rattle.std.proofs.Math.Nat.{mod-eq_of_lt}
 use Rattle.kernel_tree.specs.declared.ops.Ty.{Ty}
-use Rattle.kernel_tree.specs.Wrap.{wrap}
+use Rattle.kernel_tree.specs.Wrap.{wrap, byte_count}
 use Rattle.kernel_meaning.specs.Operators.{word}
-use Rattle.kernel_meaning.specs.Eval.{byte_count, address, read_value}
+use Rattle.kernel_meaning.specs.Eval.{address, read_value}
 use Rattle.kernel_meaning.proofs.Residues.{word-below, word-add, word-mul}
 use Rattle.machine_model.specs.Arithmetic.{sum, difference, shifted_word}
 use Rattle.machine_model.specs.Effects.{from_byte, from_half, from_word, load_to, write}
@@ -17,6 +17,7 @@ use Rattle.guest_types.proofs.Stores.{loaded-below}
 use Rattle.machine_model.specs.declared.outcome.StopKind.TheVariants.{Read}
 use Rattle.machine_model.specs.InstructionTable.{Listed}
 use Rattle.machine_model.specs.Machine.{State, Step, Went, Stopped, x_at, x_or_sp}
+use Rattle.machine_model.proofs.StateLaws.{x_or_sp-low}
 use Rattle.label_fix.specs.DraftRun.{DraftEntry, Put, Laid, effect, word_of}
 use Rattle.label_fix.proofs.StretchSteps.{Stops, stay, put_goes, put_stops}
 use Rattle.scalar_words.specs.Layout.{Layout, reg_of, IsMade}
@@ -100,13 +101,10 @@ load_does : (t : Ty) (d p r : ℕ) (s : State) → effect (load t d p r) s ≡ l
 load_does ty.I8 d p r s = refl
 load_does other d p r s = refl
 
-pub not_sp : (s : State) (p : ℕ) → p ≤ 25 → x_or_sp s p ≡ x_at s p
-not_sp s p le = cond-false _ _ _ (ne_eqb p 31 (λ e. absurd (omega arith)))
-
 -- a load of an element
 pub load_is : (t : Ty) (d p r : ℕ) (s : State) (base x : ℤ) → p ≤ 25 → x_at s p ≡ word base → x_at s r ≡ word x → effect (load t d p r) s ≡ load_to s d (address t base x) (byte_count t) (load_extended t)
 load_is t d p r s base x le e f =
-    load_does t d p r s ∙ ap (λ a. load_to s d a (byte_count t) (load_extended t)) (ap (λ b. sum b (scaled t (x_at s r))) (not_sp s p le) ∙ address_is t base x (x_at s p) (x_at s r) e f)
+    load_does t d p r s ∙ ap (λ a. load_to s d a (byte_count t) (load_extended t)) (ap (λ b. sum b (scaled t (x_at s r))) (x_or_sp-low s p le) ∙ address_is t base x (x_at s p) (x_at s r) e f)
 
 module _ (D : Laid) (L : Layout) (fit : Assigned L) where
   load_by : {rest : List DraftEntry} {s : State} {m : Memory} {i : Listed} (t : Ty) (a p b e : ℕ) (o : Result ℕ AccessFault) → length s.x ≡ 31 → b ≤ p → p < e → IsMade L p → IsMemory m → loaded m a (byte_count t) ≡ o → loaded s.memory a (byte_count t) ≡ o → s.memory ≡ m → effect i s ≡ load_to s (reg_of L p) a (byte_count t) (load_extended t) → Gives D L (Put i ∷ rest) s rest b e (reg_of L p) m 1 (read_value t o)

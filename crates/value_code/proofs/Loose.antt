@@ -1,6 +1,6 @@
 -- What is computed of a value of which only low bits are asked for, and that it agrees with the value in these.
-use Rattle.std.proofs.Common.{◌≡◌, ℕ, zero, suc, ◌+◌, ◌-◌, ◌*◌, ◌%◌, ◌^◌, ◌<◌, Bool, true, false, List, Option, Some, None, refl, sym, ap, ap₂, ◌∙◌, subst, arith, ltb}
-use Rattle.std.specs.Prelude.{ℤ, pos, negsuc, ◌+ℤ◌, ◌-ℤ◌, ◌*ℤ◌, neg_ℤ, option_map, bit_and, bit_or, bit_xor}
+use Rattle.std.proofs.Common.{◌≡◌, ℕ, ◌+◌, ◌-◌, ◌*◌, ◌%◌, ◌^◌, ◌<◌, Bool, true, false, List, Option, Some, None, refl, sym, ap, ap₂, ◌∙◌, subst, arith, ltb}
+use Rattle.std.specs.Prelude.{ℤ, pos, ◌+ℤ◌, ◌-ℤ◌, ◌*ℤ◌, neg_ℤ, option_map, bit_and, bit_or, bit_xor}
 use Rattle.std.proofs.lemmas.Nat.{mul-mod, and_mod, or_mod, xor_mod}
 use Rattle.std.proofs.lemmas.Bool.{ltb-true, ltb-false, and_parts}
 use Rattle.std.specs.Int.{w8, w16, w32, w64, cast_signed}
@@ -15,7 +15,7 @@ use Rattle.kernel_meaning.specs.Operators.{word, wrapped, unary_on, binary_on, s
 use Rattle.kernel_meaning.specs.TypeValues.{IsOf, binary_leaves}
 use Rattle.kernel_meaning.specs.Ranges.{AreRanged}
 use Rattle.kernel_meaning.specs.Eval.{Names, value_at, on_both, chosen, choose_value, value, holds}
-use Rattle.kernel_meaning.proofs.Residues.{word-add, word-mul, word-below, residue-8, residue-16, residue-32}
+use Rattle.kernel_meaning.proofs.Residues.{word-add, word-mul, word-below, residue-8, residue-16, residue-32, word-neg}
 use Rattle.kernel_meaning.proofs.TypeRanges.{wrap-of, of-fits}
 use Rattle.kernel_meaning.proofs.ValueRanges.{value_range}
 use Rattle.value_bounds.proofs.InBounds.{AreTyped, is_typed}
@@ -77,16 +77,16 @@ loose_cast false false t z = wrap t z
 abbrev pub Alike : ℕ → ℤ → ℤ → Type 0
 Alike k z v = word z % 2 ^ k ≡ word v % 2 ^ k
 
-pub alike : (w : Extent) (z v : ℤ) → Agrees w z v → Alike (bits w) z v
-alike Low8 z v h = h
-alike Low16 z v h = h
-alike Low32 z v h = h
-alike Whole z v h = ap (λ n. word n % 2 ^ 64) h
+pub alike_of_agrees : (w : Extent) (z v : ℤ) → Agrees w z v → Alike (bits w) z v
+alike_of_agrees Low8 z v h = h
+alike_of_agrees Low16 z v h = h
+alike_of_agrees Low32 z v h = h
+alike_of_agrees Whole z v h = ap (λ n. word n % 2 ^ 64) h
 
 -- low bits of a number below 2^64 or not
-cut : (w : Extent) (n : ℕ) → n % 2 ^ 64 % 2 ^ bits w ≡ n % 2 ^ bits w
-cut Low8 n = omega arith
-cut other n = omega arith
+residue_of_bits : (w : Extent) (n : ℕ) → n % 2 ^ 64 % 2 ^ bits w ≡ n % 2 ^ bits w
+residue_of_bits Low8 n = omega arith
+residue_of_bits other n = omega arith
 
 sum-low : (w : Extent) (a b c d : ℕ) → a % 2 ^ bits w ≡ c % 2 ^ bits w → b % 2 ^ bits w ≡ d % 2 ^ bits w → (a + b) % 2 ^ bits w ≡ (c + d) % 2 ^ bits w
 sum-low Low8 a b c d p q = omega (arith, p, q)
@@ -94,18 +94,12 @@ sum-low other a b c d p q = omega (arith, p, q)
 
 add-alike : (w : Extent) (x y u v : ℤ) → Alike (bits w) x u → Alike (bits w) y v → Alike (bits w) (x +ℤ y) (u +ℤ v)
 add-alike w x y u v p q =
-    ap (λ n. n % 2 ^ bits w) (word-add x y) ∙ cut w (word x + word y) ∙ sum-low w (word x) (word y) (word u) (word v) p q ∙ sym (cut w (word u + word v)) ∙ ap (λ n. n % 2 ^ bits w) (sym (word-add u v))
+    ap (λ n. n % 2 ^ bits w) (word-add x y) ∙ residue_of_bits w (word x + word y) ∙ sum-low w (word x) (word y) (word u) (word v) p q ∙ sym (residue_of_bits w (word u + word v)) ∙ ap (λ n. n % 2 ^ bits w) (sym (word-add u v))
 
 mul-alike : (w : Extent) (x y u v : ℤ) → Alike (bits w) x u → Alike (bits w) y v → Alike (bits w) (x *ℤ y) (u *ℤ v)
 mul-alike w x y u v p q =
-    ap (λ n. n % 2 ^ bits w) (word-mul x y) ∙ cut w (word x * word y) ∙ mul-mod (word x) (word y) (2 ^ bits w) ∙ ap₂ (λ m n. m * n % 2 ^ bits w) p q ∙ sym (mul-mod (word u) (word v) (2 ^ bits w))
-    ∙ sym (cut w (word u * word v)) ∙ ap (λ n. n % 2 ^ bits w) (sym (word-mul u v))
-
--- the word of a negated integer
-word-neg : (z : ℤ) → word (neg_ℤ z) ≡ (2 ^ 64 - word z) % 2 ^ 64
-word-neg (pos zero) = refl
-word-neg (pos (suc n)) = omega arith
-word-neg (negsuc n) = omega arith
+    ap (λ n. n % 2 ^ bits w) (word-mul x y) ∙ residue_of_bits w (word x * word y) ∙ mul-mod (word x) (word y) (2 ^ bits w) ∙ ap₂ (λ m n. m * n % 2 ^ bits w) p q ∙ sym (mul-mod (word u) (word v) (2 ^ bits w))
+    ∙ sym (residue_of_bits w (word u * word v)) ∙ ap (λ n. n % 2 ^ bits w) (sym (word-mul u v))
 
 neg-low : (w : Extent) (a c : ℕ) → a < 2 ^ 64 → c < 2 ^ 64 → a % 2 ^ bits w ≡ c % 2 ^ bits w → (2 ^ 64 - a) % 2 ^ bits w ≡ (2 ^ 64 - c) % 2 ^ bits w
 neg-low Low8 a c la lc p = omega (arith, p, la, lc)
@@ -113,22 +107,22 @@ neg-low other a c la lc p = omega (arith, p, la, lc)
 
 neg-alike : (w : Extent) (x u : ℤ) → Alike (bits w) x u → Alike (bits w) (neg_ℤ x) (neg_ℤ u)
 neg-alike w x u p =
-    ap (λ n. n % 2 ^ bits w) (word-neg x) ∙ cut w (2 ^ 64 - word x) ∙ neg-low w (word x) (word u) (word-below x) (word-below u) p ∙ sym (cut w (2 ^ 64 - word u)) ∙ ap (λ n. n % 2 ^ bits w) (sym (word-neg u))
+    ap (λ n. n % 2 ^ bits w) (word-neg x) ∙ residue_of_bits w (2 ^ 64 - word x) ∙ neg-low w (word x) (word u) (word-below x) (word-below u) p ∙ sym (residue_of_bits w (2 ^ 64 - word u)) ∙ ap (λ n. n % 2 ^ bits w) (sym (word-neg u))
 
 sub-alike : (w : Extent) (x y u v : ℤ) → Alike (bits w) x u → Alike (bits w) y v → Alike (bits w) (x -ℤ y) (u -ℤ v)
 sub-alike w x y u v p q = add-alike w x (neg_ℤ y) u (neg_ℤ v) p (neg-alike w y v q)
 
 and-alike : (w : Extent) (x y u v : ℤ) → Alike (bits w) x u → Alike (bits w) y v → Alike (bits w) (pos (bit_and (word x) (word y))) (pos (bit_and (word u) (word v)))
 and-alike w x y u v p q =
-    cut w (bit_and (word x) (word y)) ∙ and_mod (word x) (word y) (bits w) ∙ ap₂ bit_and p q ∙ sym (and_mod (word u) (word v) (bits w)) ∙ sym (cut w (bit_and (word u) (word v)))
+    residue_of_bits w (bit_and (word x) (word y)) ∙ and_mod (word x) (word y) (bits w) ∙ ap₂ bit_and p q ∙ sym (and_mod (word u) (word v) (bits w)) ∙ sym (residue_of_bits w (bit_and (word u) (word v)))
 
 or-alike : (w : Extent) (x y u v : ℤ) → Alike (bits w) x u → Alike (bits w) y v → Alike (bits w) (pos (bit_or (word x) (word y))) (pos (bit_or (word u) (word v)))
 or-alike w x y u v p q =
-    cut w (bit_or (word x) (word y)) ∙ or_mod (word x) (word y) (bits w) ∙ ap₂ bit_or p q ∙ sym (or_mod (word u) (word v) (bits w)) ∙ sym (cut w (bit_or (word u) (word v)))
+    residue_of_bits w (bit_or (word x) (word y)) ∙ or_mod (word x) (word y) (bits w) ∙ ap₂ bit_or p q ∙ sym (or_mod (word u) (word v) (bits w)) ∙ sym (residue_of_bits w (bit_or (word u) (word v)))
 
 xor-alike : (w : Extent) (x y u v : ℤ) → Alike (bits w) x u → Alike (bits w) y v → Alike (bits w) (pos (bit_xor (word x) (word y))) (pos (bit_xor (word u) (word v)))
 xor-alike w x y u v p q =
-    cut w (bit_xor (word x) (word y)) ∙ xor_mod (word x) (word y) (bits w) ∙ ap₂ bit_xor p q ∙ sym (xor_mod (word u) (word v) (bits w)) ∙ sym (cut w (bit_xor (word u) (word v)))
+    residue_of_bits w (bit_xor (word x) (word y)) ∙ xor_mod (word x) (word y) (bits w) ∙ ap₂ bit_xor p q ∙ sym (xor_mod (word u) (word v) (bits w)) ∙ sym (residue_of_bits w (bit_xor (word u) (word v)))
 
 pub binary-alike : (op : BinaryOp) (w : Extent) (x y u v : ℤ) → binary_joins op ≡ true → Alike (bits w) x u → Alike (bits w) y v → Alike (bits w) (binary_on op x y) (binary_on op u v)
 binary-alike binary.Add w x y u v j p q = add-alike w x y u v p q
@@ -219,11 +213,11 @@ low_agrees Low16 t z v h e = e
 low_agrees Low32 t z v h e = e
 low_agrees Whole t z v h e = absurd cc
 
-pub same : (w : Extent) (z v : ℤ) → z ≡ v → Agrees w z v
-same Low8 z v e = ap (λ n. word n % 2 ^ 8) e
-same Low16 z v e = ap (λ n. word n % 2 ^ 16) e
-same Low32 z v e = ap (λ n. word n % 2 ^ 32) e
-same Whole z v e = e
+pub agrees_of_equal : (w : Extent) (z v : ℤ) → z ≡ v → Agrees w z v
+agrees_of_equal Low8 z v e = ap (λ n. word n % 2 ^ 8) e
+agrees_of_equal Low16 z v e = ap (λ n. word n % 2 ^ 16) e
+agrees_of_equal Low32 z v e = ap (λ n. word n % 2 ^ 32) e
+agrees_of_equal Whole z v e = e
 
 -- an unwrapped integer beside the wrapped one
 unwrapped : (w : Extent) (t : Ty) (z v : ℤ) → within_type w t ≡ true → Alike (bits w) z v → Agrees w z (wrap t v)
@@ -232,35 +226,35 @@ unwrapped w t z v h e = low_agrees w t z (wrap t v) h (e ∙ sym (lower w t (wra
 -- ---- operators
 
 -- an operator on one operand
-one : (f : ℤ → ℤ) (j leaves : Bool) → (j ≡ true → (e : Extent) (x u : ℤ) → Alike (bits e) x u → Alike (bits e) (f x) (f u)) → (w : Extent) (want : Option Ty) (l : Bool) → within w want ≡ l → (x u : ℤ)
+agrees_of_one_operand : (f : ℤ → ℤ) (j leaves : Bool) → (j ≡ true → (e : Extent) (x u : ℤ) → Alike (bits e) x u → Alike (bits e) (f x) (f u)) → (w : Extent) (want : Option Ty) (l : Bool) → within w want ≡ l → (x u : ℤ)
     → Agrees (operand_extent l j leaves w want) x u → Agrees w (settled l j want (f x)) (wrapped want (f u))
-one f true leaves join w None true e x u p = absurd cc
-one f true leaves join w (Some t) true e x u p = unwrapped w t (f x) (f u) e (join refl w x u (alike w x u p))
-one f false leaves join w want true e x u p = same w _ _ (ap (λ z. wrapped want (f z)) p)
-one f true true join w None false e x u p = same w _ _ refl
-one f true true join w (Some t) false e x u p = same w _ _ (wrap-alike t (f x) (f u) (join refl (extent_of t) x u (alike (extent_of t) x u p)))
-one f true false join w want false e x u p = same w _ _ (ap (λ z. wrapped want (f z)) p)
-one f false leaves join w want false e x u p = same w _ _ (ap (λ z. wrapped want (f z)) p)
+agrees_of_one_operand f true leaves join w None true e x u p = absurd cc
+agrees_of_one_operand f true leaves join w (Some t) true e x u p = unwrapped w t (f x) (f u) e (join refl w x u (alike_of_agrees w x u p))
+agrees_of_one_operand f false leaves join w want true e x u p = agrees_of_equal w _ _ (ap (λ z. wrapped want (f z)) p)
+agrees_of_one_operand f true true join w None false e x u p = agrees_of_equal w _ _ refl
+agrees_of_one_operand f true true join w (Some t) false e x u p = agrees_of_equal w _ _ (wrap-alike t (f x) (f u) (join refl (extent_of t) x u (alike_of_agrees (extent_of t) x u p)))
+agrees_of_one_operand f true false join w want false e x u p = agrees_of_equal w _ _ (ap (λ z. wrapped want (f z)) p)
+agrees_of_one_operand f false leaves join w want false e x u p = agrees_of_equal w _ _ (ap (λ z. wrapped want (f z)) p)
 
 -- an operator on two
-two : (f : ℤ → ℤ → ℤ) (j leaves : Bool) → (j ≡ true → (e : Extent) (x y u v : ℤ) → Alike (bits e) x u → Alike (bits e) y v → Alike (bits e) (f x y) (f u v)) → (w : Extent) (want : Option Ty) (l : Bool) → within w want ≡ l → (x y u v : ℤ)
+agrees_of_two_operands : (f : ℤ → ℤ → ℤ) (j leaves : Bool) → (j ≡ true → (e : Extent) (x y u v : ℤ) → Alike (bits e) x u → Alike (bits e) y v → Alike (bits e) (f x y) (f u v)) → (w : Extent) (want : Option Ty) (l : Bool) → within w want ≡ l → (x y u v : ℤ)
     → Agrees (operand_extent l j leaves w want) x u → Agrees (operand_extent l j leaves w want) y v → Agrees w (settled l j want (f x y)) (wrapped want (f u v))
-two f true leaves join w None true e x y u v p q = absurd cc
-two f true leaves join w (Some t) true e x y u v p q = unwrapped w t (f x y) (f u v) e (join refl w x y u v (alike w x u p) (alike w y v q))
-two f false leaves join w want true e x y u v p q = same w _ _ (ap₂ (λ a b. wrapped want (f a b)) p q)
-two f true true join w None false e x y u v p q = same w _ _ refl
-two f true true join w (Some t) false e x y u v p q = same w _ _ (wrap-alike t (f x y) (f u v) (join refl (extent_of t) x y u v (alike (extent_of t) x u p) (alike (extent_of t) y v q)))
-two f true false join w want false e x y u v p q = same w _ _ (ap₂ (λ a b. wrapped want (f a b)) p q)
-two f false leaves join w want false e x y u v p q = same w _ _ (ap₂ (λ a b. wrapped want (f a b)) p q)
+agrees_of_two_operands f true leaves join w None true e x y u v p q = absurd cc
+agrees_of_two_operands f true leaves join w (Some t) true e x y u v p q = unwrapped w t (f x y) (f u v) e (join refl w x y u v (alike_of_agrees w x u p) (alike_of_agrees w y v q))
+agrees_of_two_operands f false leaves join w want true e x y u v p q = agrees_of_equal w _ _ (ap₂ (λ a b. wrapped want (f a b)) p q)
+agrees_of_two_operands f true true join w None false e x y u v p q = agrees_of_equal w _ _ refl
+agrees_of_two_operands f true true join w (Some t) false e x y u v p q = agrees_of_equal w _ _ (wrap-alike t (f x y) (f u v) (join refl (extent_of t) x y u v (alike_of_agrees (extent_of t) x u p) (alike_of_agrees (extent_of t) y v q)))
+agrees_of_two_operands f true false join w want false e x y u v p q = agrees_of_equal w _ _ (ap₂ (λ a b. wrapped want (f a b)) p q)
+agrees_of_two_operands f false leaves join w want false e x y u v p q = agrees_of_equal w _ _ (ap₂ (λ a b. wrapped want (f a b)) p q)
 
 pub operation_agrees : (op : BinaryOp) (leaves : Bool) (w : Extent) (want : Option Ty) (x y u v : ℤ) → Agrees (asked_extent (binary_joins op) leaves w want) x u → Agrees (asked_extent (binary_joins op) leaves w want) y v → Agrees w (loose_binary op w want x y) (binary_value op want u v)
-operation_agrees op leaves w want x y u v p q = two (binary_on op) (binary_joins op) leaves (λ j e a b c d. binary-alike op e a b c d j) w want (within w want) refl x y u v p q
+operation_agrees op leaves w want x y u v p q = agrees_of_two_operands (binary_on op) (binary_joins op) leaves (λ j e a b c d. binary-alike op e a b c d j) w want (within w want) refl x y u v p q
 
 pub binary_agrees : (op : BinaryOp) (w : Extent) (want : Option Ty) (x y u v : ℤ) → Agrees (binary_extent op w want) x u → Agrees (binary_extent op w want) y v → Agrees w (loose_binary op w want x y) (binary_value op want u v)
 binary_agrees op w want x y u v p q = operation_agrees op (binary_leaves op) w want x y u v p q
 
 pub unary_agrees : (op : UnaryOp) (leaves : Bool) (w : Extent) (want : Option Ty) (x u : ℤ) → Agrees (asked_extent (unary_joins op) leaves w want) x u → Agrees w (loose_unary op w want x) (unary_value op want u)
-unary_agrees op leaves w want x u p = one (unary_on op) (unary_joins op) leaves (λ j e a c. unary-alike op e a c j) w want (within w want) refl x u p
+unary_agrees op leaves w want x u p = agrees_of_one_operand (unary_on op) (unary_joins op) leaves (λ j e a c. unary-alike op e a c j) w want (within w want) refl x u p
 
 abbrev pub RangeAt : Option Ty → ℤ → Type 0
 RangeAt None v = Unit {0}
@@ -271,14 +265,14 @@ shift_joins true k j e x u p = mul-alike e x (pos (2 ^ k)) u (pos (2 ^ k)) p ref
 shift_joins false k j e x u p = absurd cc
 
 pub shift_agrees : (left leaves : Bool) (n : ℤ) (w : Extent) (want : Option Ty) (x u : ℤ) → Agrees (asked_extent left leaves w want) x u → Agrees w (loose_shift left n w want x) (shift_value left n want u)
-shift_agrees left leaves n w want x u p = one (shift_on left (shift_count n)) left leaves (λ j e a c h. shift_joins left (shift_count n) j e a c h) w want (within w want) refl x u p
+shift_agrees left leaves n w want x u p = agrees_of_one_operand (shift_on left (shift_count n)) left leaves (λ j e a c h. shift_joins left (shift_count n) j e a c h) w want (within w want) refl x u p
 
 -- a cast from a type whose values the other has, or has not
 cast_by : (l f : Bool) (w : Extent) (from : Option Ty) (t : Ty) (x u : ℤ) → within_type w t ≡ l → fits_at from t ≡ f → RangeAt from u → Agrees (cast_extent l f w t) x u → Agrees w (loose_cast l f t x) (wrap t u)
-cast_by true f w from t x u el ef r p = unwrapped w t x u el (alike w x u p)
+cast_by true f w from t x u el ef r p = unwrapped w t x u el (alike_of_agrees w x u p)
 cast_by false true w None t x u el ef r p = absurd cc
-cast_by false true w (Some s) t x u el ef r p = same w _ _ (p ∙ sym (wrap-of t u (of-fits s t u ef r)))
-cast_by false false w from t x u el ef r p = same w _ _ (wrap-alike t x u (alike (extent_of t) x u p))
+cast_by false true w (Some s) t x u el ef r p = agrees_of_equal w _ _ (p ∙ sym (wrap-of t u (of-fits s t u ef r)))
+cast_by false false w from t x u el ef r p = agrees_of_equal w _ _ (wrap-alike t x u (alike_of_agrees (extent_of t) x u p))
 
 pub cast_agrees : (w : Extent) (from : Option Ty) (t : Ty) (x u : ℤ) → RangeAt from u → Agrees (cast_extent (within_type w t) (fits_at from t) w t) x u → Agrees w (loose_cast (within_type w t) (fits_at from t) t x) (wrap t u)
 cast_agrees w from t x u r p = cast_by (within_type w t) (fits_at from t) w from t x u refl refl r p
@@ -310,7 +304,7 @@ chosen_agreed w a b c d (Some t) p q = both_agreed w w (choose_value t) (choose_
 
 all-same : (w : Extent) (o q : Option ℤ) → o ≡ q → Agreed w o q
 all-same w o None e = subst (λ z. Agreed w z None) (sym e) tt
-all-same w o (Some v) e = subst (λ z. Agreed w z (Some v)) (sym e) (same w v v refl)
+all-same w o (Some v) e = subst (λ z. Agreed w z (Some v)) (sym e) (agrees_of_equal w v v refl)
 
 same-all : (o q : Option ℤ) → Agreed Whole o q → o ≡ q
 same-all None None p = refl
@@ -344,7 +338,7 @@ bits_same other = refl
 
 -- what stands in the register of a name agrees with its value, where no more is asked for
 pub name_agrees : (c : ℕ) (o : Option Form) (w : Extent) (z v : ℤ) → is_enough o w ≡ true → Tells c o z v → Agrees w z v
-name_agrees c None w z v h tells = same w z v tells
+name_agrees c None w z v h tells = agrees_of_equal w z v tells
 name_agrees c (Some (LowBits t)) w z v h tells = low_agrees w t z v h (lower w t z v h (subst (λ k. Alike k z v) (bits_same t) tells))
 name_agrees c (Some (Ahead t)) w z v h tells = absurd cc
 name_agrees c (Some Behind) w z v h tells = absurd cc

@@ -23,9 +23,9 @@ literal_is (Literal c) z h = cc
 literal_is other z h = absurd cc
 
 -- a number that stands for a literal
-found : (f : ℕ → Option ℕ) (want : Option Ty) (e : Term) (o : Option ℤ) (w : ℕ) → literal_value e ≡ o → option_and_then (λ z. f (word (wrapped want z))) o ≡ Some w → (z : ℤ) × ((e ≡ Literal z) × (f (word (wrapped want z)) ≡ Some w))
-found f want e None w is h = absurd cc
-found f want e (Some z) w is h = (z, (literal_is e z is, h))
+literal_of_value : (f : ℕ → Option ℕ) (want : Option Ty) (e : Term) (o : Option ℤ) (w : ℕ) → literal_value e ≡ o → option_and_then (λ z. f (word (wrapped want z))) o ≡ Some w → (z : ℤ) × ((e ≡ Literal z) × (f (word (wrapped want z)) ≡ Some w))
+literal_of_value f want e None w is h = absurd cc
+literal_of_value f want e (Some z) w is h = (z, (literal_is e z is, h))
 
 -- ---- numbers
 
@@ -61,20 +61,20 @@ right_is s want e m names z v is f = (wrapped want z, (ap (λ e. value s want e 
 
 pub compared_right : (s : Scope) (want : Option Ty) (e : Term) (m : Memory) (names : Names) (v : ℕ) → compared_number want e ≡ Some v → IsRight s want e m names v
 compared_right s want e m names v h =
-    let q = found immediate want e (literal_value e) v refl h in
+    let q = literal_of_value immediate want e (literal_value e) v refl h in
     right_is s want e m names q.0 v q.1.0 (immediate_is (word (wrapped want q.0)) v (nat_lt (word (wrapped want q.0)) 4096) refl q.1.1).0
 
 pub compared_small : (want : Option Ty) (e : Term) (v : ℕ) → compared_number want e ≡ Some v → v < 4096
 compared_small want e v h =
-    let q = found immediate want e (literal_value e) v refl h in
+    let q = literal_of_value immediate want e (literal_value e) v refl h in
     (immediate_is (word (wrapped want q.0)) v (nat_lt (word (wrapped want q.0)) 4096) refl q.1.1).1
 
 pub added_right : (op : BinaryOp) (s : Scope) (w : Extent) (want : Option Ty) (e : Term) (m : Memory) (stand names : Names) (v : ℕ) → added_number op want e ≡ Some v → (y : ℤ) × ((loose s w want e m stand names ≡ Some y) × (v ≡ word y))
 added_right op s w want e m stand names v h =
-    let q = found (held_addend op) want e (literal_value e) v refl h in
+    let q = literal_of_value (held_addend op) want e (literal_value e) v refl h in
     (wrapped want q.0, (ap (λ e. loose s w want e m stand names) q.1.0, (held_is op (word (wrapped want q.0)) v q.1.1).0))
 
 pub added_sum : (op : BinaryOp) (want : Option Ty) (e : Term) (v : ℕ) → added_number op want e ≡ Some v → IsSum op v
 added_sum op want e v h =
-    let q = found (held_addend op) want e (literal_value e) v refl h in
+    let q = literal_of_value (held_addend op) want e (literal_value e) v refl h in
     (held_is op (word (wrapped want q.0)) v q.1.1).1

@@ -5,7 +5,7 @@ use Rattle.std.proofs.lemmas.List.{get_or_past}
 use Rattle.std.proofs.lemmas.Nat.{or_lt, xor_lt, and_le_l}
 use Rattle.std.proofs.Math.Nat.{mod-eq_of_lt, div-le_self}
 use Rattle.machine_model.specs.Machine.{State, Went, x_at, x_or_sp, with_x, with_x_or_sp, next}
-use Rattle.machine_model.proofs.StateSteps.{moved, x_kept, flags_kept}
+use Rattle.machine_model.proofs.StateSteps.{next_is_state, x_kept, flags_kept}
 use Rattle.machine_model.specs.Arithmetic.{sum, difference, shifted_word, inverted, flags_of, holds}
 use Rattle.kernel_tree.specs.declared.ops.Ty.{Ty}
 use Rattle.kernel_tree.specs.declared.ops.UnaryOp.{UnaryOp}
@@ -19,6 +19,7 @@ use Rattle.std.specs.Int.{w64, cast_signed, cast_unsigned, int_shr}
 use Rattle.std.specs.Int.Bits.{or_zero_l}
 use Rattle.std.proofs.lemmas.Bool.{lt-ltb, le-ltb, leb-true, cond-false, ne_eqb, ltb-true as nat_lt-true, ltb-false as nat_lt-false}
 use Rattle.a64_code.specs.Table.{subs, csel, orr, add_imm, sub_imm}
+use Rattle.machine_model.proofs.StateLaws.{x_or_sp-low, shifted_word-zero}
 use Rattle.value_code.specs.Code.{takes_product, takes_shift}
 use Rattle.value_code.proofs.Numbers.{IsAddend, IsSum}
 use Rattle.scalar_words.proofs.Compare.{compared}
@@ -34,8 +35,7 @@ use Rattle.value_code.proofs.Loose.{settled, loose_binary, loose_unary, loose_sh
 use Rattle.scalar_words.proofs.Words.{InRange, in_range}
 use Rattle.scalar_words.proofs.LayoutStates.{wrote, changes_on, Assigned}
 use Rattle.scalar_words.proofs.WordsRuns.{Gets, Sets, gets, set_more, wide_wrap, copied_sets, extend_sets, settle_sets, more}
-use Rattle.value_code.proofs.Loads.{not_sp}
-use Rattle.scalar_words.proofs.Binary.{plain, word-negated, word-difference, joined_sets, binary_sets}
+use Rattle.scalar_words.proofs.Binary.{word-negated, word-difference, joined_sets, binary_sets}
 use Rattle.kernel_tree.specs.declared.ops.Ty.TheVariants as ty
 use Rattle.kernel_tree.specs.declared.ops.UnaryOp.TheVariants as unary
 use Rattle.kernel_tree.specs.declared.ops.BinaryOp.TheVariants as binary
@@ -130,7 +130,7 @@ module _ (D : Laid) (L : Layout) (fit : Assigned L) where
       let t1 = next (record (with_x s 26 v) { flags = flags_of (x_at s 31) (shifted_word 0 (x_at s a) 0) }) in
       let size : length t1.x ≡ 31 = length-set s.x 26 v ∙ sized in
       let n = if holds 10 t1.flags then x_at t1 26 else x_at t1 a in
-      let low = plain (word x) (word-below x) in
+      let low = shifted_word-zero (word x) (word-below x) in
       let fl : t1.flags ≡ flags_of (word (pos 0)) (word x) = ap₂ (λ m n. flags_of m (shifted_word 0 n 0)) z ex ∙ ap (λ n. flags_of 0 n) low in
       let h : holds 10 t1.flags ≡ int_le x (pos 0) = ap (holds 10) fl ∙ compared compare.Ge true (pos 0) x (omega arith) rx in
       let e26 : x_at t1 26 ≡ difference 0 (word x) = get_or-set_same s.x 26 v 0 (omega (arith, sized)) ∙ ap₂ (λ m n. difference m (shifted_word 0 n 0)) z ex ∙ ap (λ n. difference 0 n) low in
@@ -141,7 +141,7 @@ module _ (D : Laid) (L : Layout) (fit : Assigned L) where
         goes = chain 4 (omega arith) (put_goes {i = word_of subs (26 ∷ 31 ∷ 0 ∷ a ∷ 0 ∷ [])} {t = t1} refl) w.goes;
         changes = changes_on (record { memory = refl; sized = length-set s.x 26 v; frame = refl; others = λ r hi ne. get_or-set_other s.x 26 r v 0 (λ e. absurd (omega arith)) }) w.changes;
         value = w.value;
-        shaped = λ shape. w.shaped (moved _ (flags_kept (with_x s 26 v) (flags_of (x_at s 31) (shifted_word 0 (x_at s a) 0)) (x_kept s 26 v shape (omega arith))));
+        shaped = λ shape. w.shaped (next_is_state _ (flags_kept (with_x s 26 v) (flags_of (x_at s 31) (shifted_word 0 (x_at s a) 0)) (x_kept s 26 v shape (omega arith))));
       }
 
   -- d = a and a number more
@@ -149,24 +149,24 @@ module _ (D : Laid) (L : Layout) (fit : Assigned L) where
   number_goes v a d s true e lt small la hi =
       let low : v % 4096 * 2 ^ (12 * 0) ≡ v = omega (arith, nat_lt-true v 4096 e) in
       ap (λ t. effect (if t then word_of add_imm (d ∷ a ∷ v % 4096 ∷ 0 ∷ []) else word_of sub_imm (d ∷ a ∷ (4096 - v % 4096) % 4096 ∷ 0 ∷ [])) s) e
-      ∙ into s d (sum (x_or_sp s a) (v % 4096 * 2 ^ (12 * 0))) hi ∙ ap₂ (λ m n. Went (wrote s d (sum m n))) (not_sp s a la) low
+      ∙ into s d (sum (x_or_sp s a) (v % 4096 * 2 ^ (12 * 0))) hi ∙ ap₂ (λ m n. Went (wrote s d (sum m n))) (x_or_sp-low s a la) low
   number_goes v a d s false e lt small la hi =
       let ge = nat_lt-false v 4096 e in
       let low : 2 ^ 64 - (4096 - v % 4096) % 4096 * 2 ^ (12 * 0) ≡ v = ⊎_elim (λ (l : v < 4096). absurd (omega (arith, l, ge))) (λ (g : 18446744073709547520 < v). omega (arith, g, lt)) small in
       ap (λ t. effect (if t then word_of add_imm (d ∷ a ∷ v % 4096 ∷ 0 ∷ []) else word_of sub_imm (d ∷ a ∷ (4096 - v % 4096) % 4096 ∷ 0 ∷ [])) s) e
-      ∙ into s d (difference (x_or_sp s a) ((4096 - v % 4096) % 4096 * 2 ^ (12 * 0))) hi ∙ ap₂ (λ m n. Went (wrote s d ((m + n) % 2 ^ 64))) (not_sp s a la) low
+      ∙ into s d (difference (x_or_sp s a) ((4096 - v % 4096) % 4096 * 2 ^ (12 * 0))) hi ∙ ap₂ (λ m n. Went (wrote s d ((m + n) % 2 ^ 64))) (x_or_sp-low s a la) low
 
   -- d = a and a number less
   less_goes : (v a d : ℕ) (s : State) (b : Bool) → nat_lt v 4096 ≡ b → v < 2 ^ 64 → IsAddend v → a ≤ 25 → d ≤ 25 → effect (sub_word v d a) s ≡ Went (wrote s d (difference (x_at s a) v))
   less_goes v a d s true e lt small la hi =
       let low : v % 4096 * 2 ^ (12 * 0) ≡ v = omega (arith, nat_lt-true v 4096 e) in
       ap (λ t. effect (if t then word_of sub_imm (d ∷ a ∷ v % 4096 ∷ 0 ∷ []) else word_of add_imm (d ∷ a ∷ (4096 - v % 4096) % 4096 ∷ 0 ∷ [])) s) e
-      ∙ into s d (difference (x_or_sp s a) (v % 4096 * 2 ^ (12 * 0))) hi ∙ ap₂ (λ m n. Went (wrote s d (difference m n))) (not_sp s a la) low
+      ∙ into s d (difference (x_or_sp s a) (v % 4096 * 2 ^ (12 * 0))) hi ∙ ap₂ (λ m n. Went (wrote s d (difference m n))) (x_or_sp-low s a la) low
   less_goes v a d s false e lt small la hi =
       let ge = nat_lt-false v 4096 e in
       let low : (4096 - v % 4096) % 4096 * 2 ^ (12 * 0) ≡ 2 ^ 64 - v = ⊎_elim (λ (l : v < 4096). absurd (omega (arith, l, ge))) (λ (g : 18446744073709547520 < v). omega (arith, g, lt)) small in
       ap (λ t. effect (if t then word_of sub_imm (d ∷ a ∷ v % 4096 ∷ 0 ∷ []) else word_of add_imm (d ∷ a ∷ (4096 - v % 4096) % 4096 ∷ 0 ∷ [])) s) e
-      ∙ into s d (sum (x_or_sp s a) ((4096 - v % 4096) % 4096 * 2 ^ (12 * 0))) hi ∙ ap₂ (λ m n. Went (wrote s d ((m + n) % 2 ^ 64))) (not_sp s a la) low
+      ∙ into s d (sum (x_or_sp s a) ((4096 - v % 4096) % 4096 * 2 ^ (12 * 0))) hi ∙ ap₂ (λ m n. Went (wrote s d ((m + n) % 2 ^ 64))) (x_or_sp-low s a la) low
 
   -- the same with a number that the word holds as the right side
   sum_sets : {rest : List DraftEntry} {s : State} (v : ℕ) (op : BinaryOp) (leaves : Bool) (t : Ty) (x y : ℤ) (a d : ℕ) → IsSum op v → length s.x ≡ 31 → a ≤ 25 → d ≤ 25 → (leaves ≡ false → word (wrap t (binary_on op x y)) ≡ word (binary_on op x y)) → x_at s a ≡ word x → v ≡ word y
@@ -271,13 +271,13 @@ module _ (D : Laid) (L : Layout) (fit : Assigned L) where
   neg_sets {s = s} leaves t x a d sized hi kept ex =
       let z : x_at s 31 ≡ 0 = get_or_past s.x 31 0 (omega (arith, sized)) in
       settle_sets D L fit leaves t d (difference (x_at s 31) (shifted_word 0 (x_at s a) 0)) (neg_ℤ x) sized hi refl
-      (ap₂ (λ m n. difference m (shifted_word 0 n 0)) z ex ∙ ap (λ n. difference 0 n) (plain (word x) (word-below x)) ∙ sym (word-negated x)) kept
+      (ap₂ (λ m n. difference m (shifted_word 0 n 0)) z ex ∙ ap (λ n. difference 0 n) (shifted_word-zero (word x) (word-below x)) ∙ sym (word-negated x)) kept
 
   flip_sets : {rest : List DraftEntry} {s : State} (leaves : Bool) (t : Ty) (x : ℤ) (a d : ℕ) → length s.x ≡ 31 → d ≤ 25 → (leaves ≡ false → word (wrap t (neg_ℤ x -ℤ pos 1)) ≡ word (neg_ℤ x -ℤ pos 1)) → x_at s a ≡ word x → Sets D (unary_code leaves unary.Flip t d a rest) s rest d (wrap t (neg_ℤ x -ℤ pos 1)) 2
   flip_sets {s = s} leaves t x a d sized hi kept ex =
       let z : x_at s 31 ≡ 0 = get_or_past s.x 31 0 (omega (arith, sized)) in
       settle_sets D L fit leaves t d (bit_or (x_at s 31) (inverted (shifted_word 0 (x_at s a) 0))) (neg_ℤ x -ℤ pos 1) sized hi refl
-      (ap₂ (λ m n. bit_or m (inverted (shifted_word 0 n 0))) z ex ∙ ap (λ n. bit_or 0 (inverted n)) (plain (word x) (word-below x)) ∙ or_zero_l (inverted (word x)) ∙ sym (word-flipped x)) kept
+      (ap₂ (λ m n. bit_or m (inverted (shifted_word 0 n 0))) z ex ∙ ap (λ n. bit_or 0 (inverted n)) (shifted_word-zero (word x) (word-below x)) ∙ or_zero_l (inverted (word x)) ∙ sym (word-flipped x)) kept
 
   -- code that extends nothing is that of a type with 64 bits
   pub unary_runs : {rest : List DraftEntry} {s : State} (op : UnaryOp) (leaves : Bool) (w : Extent) (t : Ty) (x : ℤ) (a d : ℕ) → length s.x ≡ 31 → a ≤ 25 → d ≤ 25

@@ -9,8 +9,9 @@ use Rattle.machine_model.specs.Arithmetic.{sum}
 use Rattle.kernel_tree.specs.declared.ops.Ty.{Ty}
 use Rattle.kernel_tree.specs.declared.ops.Ty.TheVariants as ty
 use Rattle.kernel_tree.specs.Typing.{Local}
+use Rattle.kernel_tree.specs.Wrap.{byte_count}
 use Rattle.kernel_meaning.specs.Operators.{word}
-use Rattle.kernel_meaning.specs.Eval.{Names, value_at, iteration, byte_count, address, element_number, read_element, read_value}
+use Rattle.kernel_meaning.specs.Eval.{Names, value_at, iteration, address, element_number, read_element, read_value}
 use Rattle.kernel_meaning.proofs.Residues.{word-below}
 use Rattle.label_fix.specs.DraftRun.{DraftEntry, Laid}
 use Rattle.label_fix.proofs.StretchSteps.{Resolves}
@@ -30,13 +31,13 @@ pub some_words : (o : Option ℤ) (n : ℕ) → 1 ≤ element_words o n
 some_words (Some c) n = omega arith
 some_words None n = omega arith
 
-moved : (t : Ty) (base c x : ℤ) → base +ℤ pos (byte_count t) *ℤ c +ℤ pos (byte_count t) *ℤ x ≡ base +ℤ pos (byte_count t) *ℤ (x +ℤ c)
-moved ty.I8 base c x = omega (arith, ints)
-moved other base c x = omega (arith, ints)
+place_of_moved_index : (t : Ty) (base c x : ℤ) → base +ℤ pos (byte_count t) *ℤ c +ℤ pos (byte_count t) *ℤ x ≡ base +ℤ pos (byte_count t) *ℤ (x +ℤ c)
+place_of_moved_index ty.I8 base c x = omega (arith, ints)
+place_of_moved_index other base c x = omega (arith, ints)
 
 -- an element at an offset is one of an array that begins so many bytes further on
 pub address_moved : (t : Ty) (base c x : ℤ) → address t (base +ℤ pos (byte_count t) *ℤ c) x ≡ address t base (x +ℤ c)
-address_moved t base c x = ap word (moved t base c x)
+address_moved t base c x = ap word (place_of_moved_index t base c x)
 
 -- what an offset that has a place is
 record IsPlace (L : Layout) (q : ℕ) (T : Ty) (o : Option ℤ) (r : ℕ) : Type 0 where

@@ -7,8 +7,9 @@ use Rattle.guest_types.specs.Memory.{Memory, loaded}
 use Rattle.machine_model.specs.Machine.{State}
 use Rattle.kernel_tree.specs.declared.ops.Ty.{Ty}
 use Rattle.kernel_tree.specs.declared.ops.Ty.TheVariants as ty
+use Rattle.kernel_tree.specs.Wrap.{byte_count}
 use Rattle.kernel_meaning.specs.Operators.{word}
-use Rattle.kernel_meaning.specs.Eval.{Names, value_at, iteration, byte_count, address, read_element, read_value}
+use Rattle.kernel_meaning.specs.Eval.{Names, value_at, iteration, address, read_element, read_value}
 use Rattle.scalar_words.specs.Layout.{Form, LowBits, Ahead, Behind, Loose, loose_in, Homes, NameLasts}
 use Rattle.scalar_words.proofs.LayoutStates.{AreInRegisters, Tells, Told}
 use Rattle.scalar_words.proofs.Told.{told_found}
@@ -20,8 +21,8 @@ both_moved : (t : Ty) (count : ℕ) (a i k : ℤ) → a +ℤ pos (byte_count t *
 both_moved ty.I8 count a i k = omega (arith, ints)
 both_moved other count a i k = omega (arith, ints)
 
-ahead : (t T : Ty) (count : ℕ) (z v y i k : ℤ) → byte_count t ≡ byte_count T → z ≡ v +ℤ pos (byte_count t * count) → y ≡ i -ℤ pos count → address T z (y +ℤ k) ≡ address T v (i +ℤ k)
-ahead t T count z v y i k same e f = ap₂ (λ a x. address T a (x +ℤ k)) (e ∙ ap (λ n. v +ℤ pos (n * count)) same) f ∙ ap word (both_moved T count v i k)
+place_ahead : (t T : Ty) (count : ℕ) (z v y i k : ℤ) → byte_count t ≡ byte_count T → z ≡ v +ℤ pos (byte_count t * count) → y ≡ i -ℤ pos count → address T z (y +ℤ k) ≡ address T v (i +ℤ k)
+place_ahead t T count z v y i k same e f = ap₂ (λ a x. address T a (x +ℤ k)) (e ∙ ap (λ n. v +ℤ pos (n * count)) same) f ∙ ap word (both_moved T count v i k)
 
 together_by : (count : ℕ) (array index : Option Form) (T : Ty) (z v y i k : ℤ) → stands_together array index (Some T) ≡ true → Tells count array z v → Tells count index y i → address T z (y +ℤ k) ≡ address T v (i +ℤ k)
 together_by count None None T z v y i k h p q = ap₂ (λ a x. address T a (x +ℤ k)) p q
@@ -30,7 +31,7 @@ together_by count (Some (LowBits t)) index T z v y i k h p q = absurd cc
 together_by count (Some (Ahead t)) None T z v y i k h p q = absurd cc
 together_by count (Some (Ahead t)) (Some (LowBits u)) T z v y i k h p q = absurd cc
 together_by count (Some (Ahead t)) (Some (Ahead u)) T z v y i k h p q = absurd cc
-together_by count (Some (Ahead t)) (Some Behind) T z v y i k h p q = ahead t T count z v y i k (eqb-true (byte_count t) (byte_count T) h) p q
+together_by count (Some (Ahead t)) (Some Behind) T z v y i k h p q = place_ahead t T count z v y i k (eqb-true (byte_count t) (byte_count T) h) p q
 together_by count (Some Behind) index T z v y i k h p q = absurd cc
 
 -- the loop variable

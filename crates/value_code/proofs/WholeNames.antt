@@ -17,7 +17,7 @@ whole_tells : (count : ℕ) (o : Option Form) (z v : ℤ) → is_none o ≡ true
 whole_tells count None z v h is = is
 whole_tells count (Some f) z v h is = absurd cc
 
-whole_itself : (o : Option Form) → is_none o ≡ true → tells_itself o ≡ true
+pub whole_itself : (o : Option Form) → is_none o ≡ true → tells_itself o ≡ true
 whole_itself None h = refl
 whole_itself (Some f) h = absurd cc
 

@@ -6,12 +6,12 @@ use Rattle.kernel_tree.specs.declared.ops.BinaryOp.TheVariants as binary
 use Rattle.a64_code.specs.Table.{csel}
 use Rattle.kernel_tree.specs.Plain.{Term, Literal, Variable, Element, Unary, Operation, Shift, Conversion, Choice, Comparison, Both, Either, Not}
 use Rattle.kernel_tree.specs.Items.{literal_value, term_size, index_items, stream_offset}
-use Rattle.kernel_tree.specs.Wrap.{is_signed}
+use Rattle.kernel_tree.specs.Wrap.{is_signed, byte_count}
 use Rattle.kernel_tree.specs.Typing.{Scope, lookup, own, element_type, index_type, side_type}
 use Rattle.kernel_meaning.specs.Operators.{word, wrapped, shift_count}
 use Rattle.label_fix.specs.DraftRun.{DraftEntry, Put, ins}
+use Rattle.label_fix.specs.Registers.{iteration, xzr}
 use Rattle.scalar_words.specs.Layout.{Key, OfNumber, OfAddress, Layout, Homes, reg_of, last_use_at, constant_at, register_at}
-use Rattle.kernel_meaning.specs.Eval.{byte_count}
 use Rattle.value_code.specs.ValueRegisters.{home}
 use Rattle.value_code.specs.declared.extent.Extent.{Extent}
 use Rattle.value_code.specs.Extents.{Whole, within_type, fits_at, converted_extent}
@@ -114,7 +114,7 @@ abbrev pub part_side : Layout → Homes → Option (List ℕ) → Option Ty → 
 part_side L homes i want b (Operation o p q) = Product (home L homes i b p) (home L homes i (b + term_size i p) q)
 part_side L homes i want b (Shift left e z) = Moved (shift_kind left (signed_side want)) (shift_count z) (home L homes i b e)
 part_side L homes i want b (Conversion e t) = Register (home L homes i b e)
-part_side L homes i want b _ = Register 31
+part_side L homes i want b _ = Register xzr
 
 abbrev pub side_by : Option ℕ → (fused : Bool) → (r : ℕ) → Side → Side
 side_by (Some v) fused r part = Number v
@@ -208,7 +208,7 @@ place_of L q t o = option_and_then (constant_at L) (moved_key q t o)
 
 -- then the loop variable is the index
 abbrev pub placed_index : Option ℕ → ℕ → ℕ
-placed_index (Some r) x = 9
+placed_index (Some r) x = iteration
 placed_index None x = x
 
 -- ---- conditions

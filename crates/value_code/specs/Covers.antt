@@ -4,7 +4,7 @@ use Rattle.kernel_tree.specs.declared.ops.Ty.{Ty}
 use Rattle.kernel_tree.specs.Plain.{Term, Literal, Variable, Element, Unary, Operation, Shift, Conversion, Choice, Comparison, Both, Either, Not}
 use Rattle.kernel_tree.specs.Items.{stream_offset}
 use Rattle.kernel_tree.specs.Typing.{Scope, lookup, own, element_type, index_type, side_type}
-use Rattle.kernel_meaning.specs.Eval.{byte_count}
+use Rattle.kernel_tree.specs.Wrap.{byte_count}
 use Rattle.scalar_words.specs.Layout.{Form, LowBits, Ahead, Behind, Loose, loose_in}
 use Rattle.value_code.specs.declared.extent.Extent.{Extent}
 use Rattle.value_code.specs.Extents.{Whole, extent_of, within_type, converted_extent}

@@ -6,6 +6,7 @@ use Rattle.kernel_tree.specs.Plain.{Term, Literal, Variable, Element, Unary, Ope
 use Rattle.kernel_tree.specs.Items.{term_size, index_items, stream_offset}
 use Rattle.kernel_tree.specs.Typing.{Scope, lookup, own, element_type, value_type, index_type, side_type}
 use Rattle.kernel_meaning.specs.Operators.{wrapped}
+use Rattle.label_fix.specs.Registers.{iteration}
 use Rattle.scalar_words.specs.Layout.{Layout, Homes, register_at, NameLasts, last_use_at}
 
 abbrev pub IsSome : Option Ty → Type 0
@@ -15,7 +16,7 @@ IsSome (Some t) = Unit {0}
 -- the loop variable is held in X9
 abbrev pub IndexAt : Homes → Option (List ℕ) → ℕ → Type 0
 IndexAt hs None p = ⊥
-IndexAt hs (Some x) p = (register_at hs x ≡ 9) × NameLasts hs x p
+IndexAt hs (Some x) p = (register_at hs x ≡ iteration) × NameLasts hs x p
 
 -- an offset that an instruction can hold
 abbrev pub IsSmall : ℤ → Type 0

@@ -8,6 +8,7 @@ use Rattle.kernel_tree.specs.Items.{literal_value, stream_offset}
 use Rattle.kernel_tree.specs.Typing.{Scope, lookup, element_type}
 use Rattle.kernel_meaning.specs.Operators.{word}
 use Rattle.loop_form.specs.Needs.{same_number}
+use Rattle.label_fix.specs.Registers.{highest_held}
 use Rattle.scalar_words.specs.Layout.{Key, OfNumber, OfAddress, Constant, constant_in, Homes, register_at}
 use Rattle.value_code.specs.ItemWords.{immediate, addend, held_addend}
 use Rattle.value_code.specs.Code.{moved_key}
@@ -20,14 +21,14 @@ IsReached p (OfAddress q c) = (q < p) × (addend (word c) ≡ Some (word c))
 -- The registers are the next ones after n others, and none is that of one of so many parameters.
 abbrev pub AreNext : (p n : ℕ) → List Constant → Type 0
 AreNext p n [] = Unit {0}
-AreNext p n (c ∷ cs) = (c.register + n ≡ 8) × (p ≤ c.register) × IsReached p c.key × AreNext p (n + 1) cs
+AreNext p n (c ∷ cs) = (c.register + n ≡ highest_held) × (p ≤ c.register) × IsReached p c.key × AreNext p (n + 1) cs
 
 -- whether one more has a register, after so many parameters
 abbrev pub has_room : ℕ → List Constant → Bool
-has_room p cs = nat_lt (length cs) 5 && nat_le (p + length cs) 8
+has_room p cs = nat_lt (length cs) 5 && nat_le (p + length cs) highest_held
 
 abbrev pub add_key : Bool → Key → List Constant → List Constant
-add_key true z cs = cs ++ record { key = z; register = 8 - length cs } ∷ []
+add_key true z cs = cs ++ record { key = z; register = highest_held - length cs } ∷ []
 add_key false z cs = cs
 
 abbrev pub new_key : Option ℕ → ℕ → Key → List Constant → List Constant

@@ -12,6 +12,8 @@ use Rattle.kernel_meaning.specs.Operators.{shift_count}
 use Rattle.kernel_meaning.specs.TypeValues.{fits}
 use Rattle.label_fix.specs.DraftRun.{Kind, Always, If, Zero, NotZero, DraftEntry, Put, Branch, Place, word_of, ins}
 use Rattle.label_fix.specs.Finished.{is_plain}
+use Rattle.label_fix.specs.Registers.{iteration, scratch, xzr}
+use Rattle.label_fix.specs.Conditions as conditions
 use Rattle.scalar_words.specs.Words.{word_code, copy_word, extend_word, settle_word, condition, operation_code, contrary}
 use Rattle.kernel_tree.specs.declared.ops.Ty.TheVariants as ty
 use Rattle.kernel_tree.specs.declared.ops.UnaryOp.TheVariants as unary
@@ -32,8 +34,8 @@ convert_word false s t d a = cast_word s t d a
 -- the word that adds an offset, below 4,096 to either side, to the loop variable: none for 0
 abbrev pub index_word : ℤ → Option Listed
 index_word (pos zero) = None
-index_word (pos (suc c)) = Some (word_of add_imm (26 ∷ 9 ∷ suc c % 4096 ∷ 0 ∷ []))
-index_word (negsuc c) = Some (word_of sub_imm (26 ∷ 9 ∷ suc c % 4096 ∷ 0 ∷ []))
+index_word (pos (suc c)) = Some (word_of add_imm (scratch ∷ iteration ∷ suc c % 4096 ∷ 0 ∷ []))
+index_word (negsuc c) = Some (word_of sub_imm (scratch ∷ iteration ∷ suc c % 4096 ∷ 0 ∷ []))
 
 -- a word, if any, that a draft takes
 abbrev pub IsPlainIf : Option Listed → Type 0
@@ -46,8 +48,8 @@ ArePlain (Some w) = IsPlainIf w
 
 -- the register in which the sum stands
 abbrev pub index_register : Option Listed → ℕ
-index_register None = 9
-index_register (Some i) = 26
+index_register None = iteration
+index_register (Some i) = scratch
 
 -- the element of the array at p whose number is in r
 abbrev pub load : Ty → (d p r : ℕ) → Listed
@@ -80,12 +82,12 @@ store_code (Some t) d p r rest = Put (store t d p r) ∷ rest
 
 -- the absolute value, by whether the type is signed
 abbrev pub abs_code : (leaves signed : Bool) → Ty → ℕ → ℕ → List DraftEntry → List DraftEntry
-abs_code leaves true t d a rest = ins subs (26 ∷ 31 ∷ 0 ∷ a ∷ 0 ∷ []) ∷ ins csel (d ∷ 26 ∷ 10 ∷ a ∷ []) ∷ word_code (settle_word leaves t d) rest
+abs_code leaves true t d a rest = ins subs (scratch ∷ xzr ∷ 0 ∷ a ∷ 0 ∷ []) ∷ ins csel (d ∷ scratch ∷ conditions.ge ∷ a ∷ []) ∷ word_code (settle_word leaves t d) rest
 abs_code leaves false t d a rest = word_code (copy_word d a) rest
 
 abbrev pub unary_code : (leaves : Bool) → UnaryOp → Ty → ℕ → ℕ → List DraftEntry → List DraftEntry
-unary_code leaves unary.Neg t d a rest = ins sub (d ∷ 31 ∷ 0 ∷ a ∷ 0 ∷ []) ∷ word_code (settle_word leaves t d) rest
-unary_code leaves unary.Flip t d a rest = ins orn (d ∷ 31 ∷ 0 ∷ a ∷ 0 ∷ []) ∷ word_code (settle_word leaves t d) rest
+unary_code leaves unary.Neg t d a rest = ins sub (d ∷ xzr ∷ 0 ∷ a ∷ 0 ∷ []) ∷ word_code (settle_word leaves t d) rest
+unary_code leaves unary.Flip t d a rest = ins orn (d ∷ xzr ∷ 0 ∷ a ∷ 0 ∷ []) ∷ word_code (settle_word leaves t d) rest
 unary_code leaves unary.Abs t d a rest = abs_code leaves (is_signed t) t d a rest
 
 abbrev pub shift_kind : Bool → Bool → ℕ
@@ -94,7 +96,7 @@ shift_kind false true = 2
 shift_kind false false = 1
 
 abbrev pub shift_code : (leaves left : Bool) → ℤ → Ty → ℕ → ℕ → List DraftEntry → List DraftEntry
-shift_code leaves left n t d a rest = ins orr (d ∷ 31 ∷ shift_count n ∷ a ∷ shift_kind left (is_signed t) ∷ []) ∷ word_code (settle_word leaves t d) rest
+shift_code leaves left n t d a rest = ins orr (d ∷ xzr ∷ shift_count n ∷ a ∷ shift_kind left (is_signed t) ∷ []) ∷ word_code (settle_word leaves t d) rest
 
 -- ---- numbers that a word holds
 
@@ -156,8 +158,8 @@ operator_code (Moved kind n r) leaves op t d a rest = Put (shift_word op d a kin
 
 -- a compared with a number that the word holds, or else with c
 abbrev pub compare_word : Option ℕ → (a c : ℕ) → Listed
-compare_word (Some v) a c = word_of subs_imm (31 ∷ a ∷ v % 4096 ∷ 0 ∷ [])
-compare_word None a c = word_of subs (31 ∷ a ∷ 0 ∷ c ∷ 0 ∷ [])
+compare_word (Some v) a c = word_of subs_imm (xzr ∷ a ∷ v % 4096 ∷ 0 ∷ [])
+compare_word None a c = word_of subs (xzr ∷ a ∷ 0 ∷ c ∷ 0 ∷ [])
 
 -- where a register is zero, and where it is not
 abbrev pub zero_kind : Bool → ℕ → Kind

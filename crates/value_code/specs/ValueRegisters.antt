@@ -2,6 +2,7 @@
 use Rattle.std.specs.Prelude.{ℕ, ◌+◌, ℤ, List, Option, unwrap_or}
 use Rattle.kernel_tree.specs.Plain.{Term, Literal, Variable, Element, Unary, Operation, Shift, Conversion, Choice, Comparison, Both, Either, Not}
 use Rattle.kernel_tree.specs.Items.{term_size, index_items}
+use Rattle.label_fix.specs.Registers.{xzr}
 use Rattle.scalar_words.specs.Layout.{OfNumber, Layout, reg_of, constant_at, Homes, register_at}
 
 -- the last item of an expression whose items begin at b
@@ -33,7 +34,7 @@ home L homes i b (Operation op x y) = reg_of L (last_item i b (Operation op x y)
 home L homes i b (Shift left e n) = reg_of L (last_item i b (Shift left e n))
 home L homes i b (Conversion e t) = reg_of L (last_item i b (Conversion e t))
 home L homes i b (Choice c x y) = reg_of L (last_item i b (Choice c x y))
-home L homes i b (Comparison op x y) = 31
-home L homes i b (Both x y) = 31
-home L homes i b (Either x y) = 31
-home L homes i b (Not e) = 31
+home L homes i b (Comparison op x y) = xzr
+home L homes i b (Both x y) = xzr
+home L homes i b (Either x y) = xzr
+home L homes i b (Not e) = xzr

@@ -6,7 +6,6 @@ ghost use Rattle.kernel_tree.specs.Items.{stream_offset};
 ghost use Rattle.kernel_tree.specs.Plain.{name_of, term_of};
 ghost use Rattle.kernel_tree.specs.Typing.{index_type};
 ghost use Rattle.kernel_tree.specs.Typing as typing;
-ghost use Rattle.kernel_meaning.specs.Eval as eval;
 ghost use Rattle.kernel_scope.specs.Scopes.{lent_text, scope_of};
 ghost use Rattle.scalar_words.specs.Layout.{loose_in};
 ghost use Rattle.scalar_words.specs.View.{looses_of, form_of};
@@ -59,18 +58,6 @@ fn index_form(loose: &[Loose], index: Option<&str>) -> Option<Form>
     }
 }
 
-// The bytes of an element.
-fn byte_count(ty: Ty) -> u32
-    ensures { result ≡ eval.byte_count ty }
-{
-    match ty {
-        Ty::I8 | Ty::U8 => 1,
-        Ty::I16 | Ty::U16 => 2,
-        Ty::I32 | Ty::U32 => 4,
-        Ty::I64 | Ty::U64 => 8,
-    }
-}
-
 /// Whether the address of each element of an array, at an offset from the loop variable, is the sum of what stands in the
 /// registers of the two.
 pub fn stands_together(array: Option<Form>, index: Option<Form>, want: Option<Ty>) -> bool
@@ -81,7 +68,7 @@ pub fn stands_together(array: Option<Form>, index: Option<Form>, want: Option<Ty
         Some(Form::Ahead(ty)) => match index {
             Some(Form::Behind) => match want {
                 None => false,
-                Some(element) => byte_count(ty) == byte_count(element),
+                Some(element) => ty.bytes() == element.bytes(),
             },
             _ => false,
         },

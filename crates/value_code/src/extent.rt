@@ -44,8 +44,8 @@ pub fn within_type(extent: Extent, ty: Ty) -> bool
 {
     match extent {
         Extent::Low8 => true,
-        Extent::Low16 => !matches!(ty, Ty::I8 | Ty::U8),
-        Extent::Low32 => matches!(ty, Ty::I32 | Ty::U32 | Ty::I64 | Ty::U64),
+        Extent::Low16 => 16 <= ty.bits(),
+        Extent::Low32 => 32 <= ty.bits(),
         Extent::Whole => false,
     }
 }

@@ -12,6 +12,7 @@ use crate::place::{moved_key, near_offset};
 use kernel_meaning::word;
 use kernel_scope::{Scope, array_type, literal_value};
 use kernel_tree::{BinaryOp, Expr, Name};
+use label_fix::registers::HIGHEST_HELD;
 use scalar_words::{Constant, Home, Key, constant_in, is_same_number, register_at};
 use std::alloc::AllocError;
 use word_rows::Bits;
@@ -34,7 +35,7 @@ fn add_key(constants: &mut Vec<Constant>, key: Key) -> Result<(), AllocError>
         ≡ numbers.add_key true (key_of key) (constants_of constants.old.items)) }
 {
     let register = Bits {
-        number: 8 - constants.len() as u32,
+        number: HIGHEST_HELD.number - constants.len() as u32,
     };
     constants.push(Constant { key, register })?;
     Ok(())

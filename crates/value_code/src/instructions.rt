@@ -12,6 +12,7 @@ ghost use Rattle.value_code.specs.ItemWords as words;
 ghost use Rattle.scalar_words.specs.Words as common;
 ghost use Rattle.value_code.specs.Code as code;
 ghost use Rattle.label_fix.specs.DraftRun as plain;
+ghost use Rattle.label_fix.specs.Registers.{iteration, scratch, xzr};
 ghost use Rattle.a64_code.specs.View as seen;
 
 use a64_code::{
@@ -22,15 +23,9 @@ use kernel_meaning::{word, wrapped};
 use kernel_scope::{Scope, is_index, is_index_term, literal_value};
 use kernel_tree::{BinaryOp, CompareOp, Expr, Ty};
 use label_fix::Word;
+use label_fix::registers::{ITERATION, SCRATCH};
 use scalar_words::instructions::{add_sub, condition, wide};
 use word_rows::Bits;
-
-/// The register that belongs to the stretch at hand.
-pub fn scratch() -> Reg
-    ensures { result.number ≡ 26 }
-{
-    Bits { number: 26 }
-}
 
 /// ADD, SUB or SUBS with a number below 4,096.
 pub fn add_sub_number(op: AddSubOp, d: Reg, a: Reg, number: u32) -> Word
@@ -77,12 +72,12 @@ fn index_back(offset: i128) -> Option<Word>
 // ADD or SUB of so much, of the loop variable.
 fn index_by(op: AddSubOp, offset: i128) -> Word
     ensures { word_view result ≡ plain.word_of (seen.add_sub_imm_name op)
-        (26 ∷ 9 ∷ unsigned_abs offset % 4096 ∷ 0 ∷ []) }
+        (scratch ∷ iteration ∷ unsigned_abs offset % 4096 ∷ 0 ∷ []) }
 {
     add_sub_number(
         op,
-        scratch(),
-        index(),
+        SCRATCH,
+        ITERATION,
         (offset.unsigned_abs() % 4096) as u32,
     )
 }
@@ -335,7 +330,7 @@ fn logical_moved(op: LogicalOp, d: Reg, a: Reg, shift: Shift, count: Bits<6>, r:
 /// A register shifted by a constant.
 pub fn shifted(left: bool, signed: bool, count: Bits<6>, d: Reg, a: Reg) -> Word
     ensures { word_view result ≡ plain.word_of table.orr
-        (d.number ∷ 31 ∷ count.number ∷ a.number ∷ words.shift_kind left signed ∷ []) }
+        (d.number ∷ xzr ∷ count.number ∷ a.number ∷ words.shift_kind left signed ∷ []) }
 {
     logical_moved(LogicalOp::Orr, d, zero(), shift_of(left, signed), count, a)
 }
@@ -431,18 +426,11 @@ pub fn store(ty: Ty, d: Reg, p: Reg, r: Reg) -> Word
     }
 }
 
-/// The register of the loop variable.
-pub fn index() -> Reg
-    ensures { result.number ≡ 9 }
-{
-    Bits { number: 9 }
-}
-
 /// The loop variable of the next iteration.
 pub fn next_iteration() -> Word
-    ensures { word_view result ≡ plain.word_of table.add_imm (9 ∷ 9 ∷ 1 ∷ 0 ∷ []) }
+    ensures { word_view result ≡ plain.word_of table.add_imm (iteration ∷ iteration ∷ 1 ∷ 0 ∷ []) }
 {
-    add_sub_number(AddSubOp::Add, index(), index(), 1)
+    add_sub_number(AddSubOp::Add, ITERATION, ITERATION, 1)
 }
 
 /// A small number into a register.

@@ -3,11 +3,11 @@
 ghost use Rattle.std.specs.Prelude.{◌≡◌, pos, ◌*ℤ◌, neg_ℤ, option_map, option_and_then};
 ghost use Rattle.kernel_tree.specs.Plain.{term_of, name_of};
 ghost use Rattle.kernel_scope.specs.Scopes.{scope_of};
-ghost use Rattle.kernel_meaning.specs.Eval.{byte_count};
 ghost use Rattle.scalar_words.specs.View.{homes_of, key_of, register_number};
 ghost use Rattle.scalar_words.specs.Layout as layout;
 ghost use Rattle.kernel_tree.specs.Items as items;
 ghost use Rattle.kernel_tree.specs.Typing as typing;
+ghost use Rattle.kernel_tree.specs.Wrap.{byte_count};
 ghost use Rattle.value_code.specs.Code as code;
 
 use a64_code::Reg;

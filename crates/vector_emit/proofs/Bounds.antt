@@ -5,7 +5,7 @@ use Rattle.kernel_tree.specs.declared.ops.Ty.TheVariants.{U64}
 use Rattle.kernel_tree.specs.declared.ast.Shape.TheVariants.{Scalar}
 use Rattle.kernel_tree.specs.Plain.{Parameter, PlainLoop, Program}
 use Rattle.kernel_tree.specs.Typing.{check_fault}
-use Rattle.kernel_tree.proofs.Names.{bytes_told, param_alone}
+use Rattle.kernel_tree.proofs.Names.{bytes_eq-told, param_alone}
 use Rattle.kernel_meaning.specs.Operators.{word}
 use Rattle.kernel_meaning.specs.Eval.{Names, is_named, value_of, value_at}
 use Rattle.kernel_meaning.specs.ScalarRun.{bound_of}
@@ -27,7 +27,7 @@ value_steady k x (m ∷ ms) (n ∷ ns) no' h =
     ap (λ y. unwrap_or (option_map value_of (if bytes_eq y x then Some n else find (is_named x) ns)) (pos 0)) (sym h.0) ∙ by_name (bytes_eq m.name x) refl (value_steady k x ms ns no' h.2)
   where
     by_name : (b : Bool) → bytes_eq m.name x ≡ b → value_at ns x ≡ value_at ms x → unwrap_or (option_map value_of (if b then Some n else find (is_named x) ns)) (pos 0) ≡ unwrap_or (option_map value_of (if b then Some m else find (is_named x) ms)) (pos 0)
-    by_name true e more = h.1 (ap (is_accumulator k) (bytes_told m.name x e) ∙ no')
+    by_name true e more = h.1 (ap (is_accumulator k) (bytes_eq-told m.name x e) ∙ no')
     by_name false e more = more
 
 pub bound_steady : (k : Program) (l : PlainLoop) (r : ℕ) (ms ns : Names) → check_fault k ≡ None → slice_get k.params r ≡ Some (record { name = l.bound; shape = Scalar U64 }) → Steady k ms ns → bound_of l ns ≡ bound_of l ms

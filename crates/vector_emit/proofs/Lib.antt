@@ -8,6 +8,8 @@ pub mod Tests
 pub mod While
 pub mod Labels
 pub mod Breaking
+pub mod Grounds
+pub mod Turns
 pub mod Straight
 pub mod Bounds
 pub mod NamesHeld

@@ -1,5 +1,5 @@
 -- The vector code of a kernel's loop does what the scalar loop does.
-use Rattle.std.proofs.Common.{◌≡◌, ℕ, ◌+◌, ◌*◌, ◌<◌, ◌≤◌, inl, inr, Bool, true, false, List, [], ◌∷◌, Some, refl, sym, ap, ◌∙◌, subst, arith}
+use Rattle.std.proofs.Common.{◌≡◌, ◌≢◌, ℕ, ◌+◌, ◌*◌, ◌<◌, ◌≤◌, inl, inr, Bool, true, false, List, [], ◌∷◌, Some, refl, sym, ap, ◌∙◌, subst, arith}
 use Rattle.std.specs.Prelude.{ℤ, slice_index}
 use Rattle.std.specs.Int.{div_ceil}
 use Rattle.std.specs.List.{list_any}
@@ -23,7 +23,7 @@ use Rattle.reg_assign.specs.Registers.{Assignment}
 use Rattle.loop_form.specs.LoopItems.{for_loop_items}
 use Rattle.loop_form.specs.Needs.{throughout}
 use Rattle.loop_form.specs.Registers.{FitsKernel}
-use Rattle.close_bound.specs.CloseBound.{has_break, spare, pass_steps, iteration_steps, last_steps, laid_all, joined_all, ending_steps}
+use Rattle.close_bound.specs.CloseBound.{has_break, spare, pass_steps, iteration_steps, last_steps, turning_steps, laid_all, joined_all, ending_steps}
 use Rattle.scalar_words.specs.KernelRegisters.{layout_of_kernel, kernel_homes, register_in}
 use Rattle.scalar_words.specs.Iterations.{AtIteration, AreHeld, Comes, ends_so}
 use Rattle.scalar_words.proofs.ChosenOf.{chosen_all}
@@ -44,8 +44,9 @@ use Rattle.vector_emit.proofs.KernelPassLoop.{HeadOf, loop_of, has_lanes}
 use Rattle.vector_emit.proofs.Labels.{following_start}
 use Rattle.vector_emit.proofs.PassSizes.{break_is}
 use Rattle.vector_emit.proofs.Bounds.{bound_steady}
-use Rattle.vector_emit.proofs.NamesHeld.{held_still}
-use Rattle.vector_emit.proofs.ReturnedReads.{answered}
+use Rattle.vector_emit.proofs.NamesHeld.{names_eight, held_still}
+use Rattle.vector_emit.proofs.Grounds.{from_x, aside_same, ground_at, same_at, head_from, near_from}
+use Rattle.vector_emit.proofs.ReturnedReads.{answer_is_checked}
 use Rattle.vector_emit.proofs.Breaking.{breaking_runs}
 use Rattle.vector_emit.proofs.Straight.{Enters, straight_runs}
 
@@ -56,8 +57,8 @@ record Ended (d : Laid) (c : List DraftEntry) (s : State) (K F i : ℕ) (m : Mem
   is : bg ≡ i + n
   ends : Ends d c s m r (K * n + F)
 
-ended : {d : Laid} {c : List DraftEntry} {s : State} {K F i : ℕ} {m : Memory} {r bg : ℕ} → Comes d c s K F i (run.End m r bg) → Ended d c s K F i m r bg
-ended (ends_so n is h) = record { n = n; is = is; ends = h }
+comes_to_end : {d : Laid} {c : List DraftEntry} {s : State} {K F i : ℕ} {m : Memory} {r bg : ℕ} → Comes d c s K F i (run.End m r bg) → Ended d c s K F i m r bg
+comes_to_end (ends_so n is h) = record { n = n; is = is; ends = h }
 
 jump_at : {R : ℕ → ℕ} {k : Program} {i : ℕ} {cur : Names} {m : Memory} {s : State} (pc : ℕ) → AtIteration R k i cur m s → AtIteration R k i cur m (jump s pc)
 jump_at {R = R} {k = k} {cur = cur} {s = s} pc at = record { sized = at.sized; index = at.index; ranged = at.ranged; held = held_still_jump (kernel_homes R k) cur at.held; memory = at.memory; good = at.good }
@@ -105,7 +106,10 @@ module _ (b : Bool) (L U edges x following : ℕ) (some : 0 < L) (around : x + f
 
 passes_run : (g : Ground) (ground : IsGround g) (d : Laid) (n : ℕ) (rest : List DraftEntry) {sum : List ℕ → ℕ → ℤ} {cur : Names} {m : Memory} {s : State} (b : Bool) → list_any is_loop_break (items_of g) ≡ b
     → Resolves d (passes_by b g.kernel g.vectors g.predicates (items_of g) n rest) → AtHead g 0 cur m sum s → Enters g b d rest (passes_by b g.kernel g.vectors g.predicates (items_of g) n rest) s cur m
-passes_run g ground d n rest {s = s} true breaks_loop res h = record { head = _; state = s; goes = go_more 2 (omega arith) pass; passing = breaking_runs g ground breaks_loop d n rest res h }
+passes_run g ground d n rest {s = s} true breaks_loop res h =
+    let same = aside_same s h.is in
+    let there = ground_at ground h same in
+    record { x = s.x; ground = there; same = same_at h same; head = _; state = s; goes = go_more 2 (omega arith) pass; passing = breaking_runs (from_x g s.x) there breaks_loop d n rest res (head_from h same) }
 passes_run g ground d n rest false breaks_loop res h = straight_runs g ground breaks_loop d n rest res h
 
 passes_are : (g : Ground) → IsGround g → (n : ℕ) (rest : List DraftEntry) → passes_code g.kernel g.vectors g.predicates n rest ≡ passes_by (has_break g.kernel) g.kernel g.vectors g.predicates (items_of g) n rest
@@ -119,7 +123,8 @@ enters g ground d n rest {cur = cur} {m = m} {s = s} res h =
 -- ---- the whole
 
 module _ (g : Ground) (c : Assignment) (d : Laid) (scalar n : ℕ) (rest : List DraftEntry) (m : Memory) (s : State) (ground : IsGround g) (fit : FitsKernel g.kernel X c) (at : AtIteration (register_in c) g.kernel 0 g.names m s)
-    (x : (r : ℕ) → r ≤ 25 → x_at s r ≡ slice_index g.x r) (reaches : ReachesScalar g c d scalar) where
+    (x : (r : ℕ) → r ≤ 25 → x_at s r ≡ slice_index g.x r) (reaches : ReachesScalar g c d scalar)
+    (xs : List ℕ) (there : IsGround (from_x g xs)) (same : (r : ℕ) → r ≤ 25 → r ≢ 9 → r ≢ 8 → slice_index xs r ≡ slice_index g.x r) where
   abbrev R : ℕ → ℕ
   R = register_in c
 
@@ -137,7 +142,7 @@ module _ (g : Ground) (c : Assignment) (d : Laid) (scalar n : ℕ) (rest : List 
 
   -- the words before the passes, and those after them
   abbrev start_most : ℕ
-  start_most = 3 + laid_all (throughout g.kernel Z)
+  start_most = 3 + turning_steps breaks + laid_all (throughout g.kernel Z)
 
   abbrev end_most : ℕ
   end_most = joined_all (throughout g.kernel Z) + 1 + (last_steps breaks g.kernel + ending_steps g.kernel)
@@ -148,23 +153,23 @@ module _ (g : Ground) (c : Assignment) (d : Laid) (scalar n : ℕ) (rest : List 
   loop_is : (i : ℕ) (m : Memory) (names : Names) → run_from g.kernel i m names ≡ for_loop_from (var_scope g.kernel) (Some g.for_loop) g.kernel.answer i m names
   loop_is i m names = ap (λ l. for_loop_from (var_scope g.kernel) l g.kernel.answer i m names) ground.loops
 
-  bound_is : (i : ℕ) (names : Names) (now : Memory) (t : State) → HeadOf g i names now t → bound_of g.for_loop names ≡ limit g
+  bound_is : (i : ℕ) (names : Names) (now : Memory) (t : State) → HeadOf (from_x g xs) i names now t → bound_of g.for_loop names ≡ limit g
   bound_is i names now t h = let k = names_fit R g.kernel ground.sound ground.few (chosen_all g.kernel c fit) in bound_steady g.kernel g.for_loop _ g.names names ground.sound (k.bound g.for_loop ground.loops) h.head.between.steady
 
   -- the names as the loop began are in their registers still
-  names_held : (i : ℕ) (names : Names) (now : Memory) (t : State) → HeadOf g i names now t → AreHeld (kernel_homes R g.kernel) g.names t
+  names_held : (i : ℕ) (names : Names) (now : Memory) (t : State) → HeadOf (from_x g xs) i names now t → AreHeld (kernel_homes R g.kernel) g.names t
   names_held i names now t h =
       let k = names_fit R g.kernel ground.sound ground.few (chosen_all g.kernel c fit) in
-      held_still (layout_of_kernel R g.kernel) (loop_start g.kernel) (kernel_homes R g.kernel) g.names s t k.steady (k.safe (loop_start g.kernel)) (k.nine (loop_start g.kernel)) (λ r le ne. h.head.x r le ne ∙ sym (x r le)) at.held
+      held_still (layout_of_kernel R g.kernel) (loop_start g.kernel) (kernel_homes R g.kernel) g.names s t k.steady (k.safe (loop_start g.kernel)) (k.nine (loop_start g.kernel)) (names_eight R g.kernel (loop_start g.kernel) ground.few) (λ r le nine eight. h.head.x r le nine ∙ same r le nine eight ∙ sym (x r le)) at.held
 
   -- the scalar code does no iteration more, or one that breaks
-  late_ends : (j : ℕ) (now : Memory) (names : Names) → bound_of g.for_loop names ≡ limit g → j ≤ limit g → Late (loop_of g breaks d leave) j now names
+  late_ends : (j : ℕ) (now : Memory) (names : Names) → bound_of g.for_loop names ≡ limit g → j ≤ limit g → Late (loop_of (from_x g xs) breaks d leave) j now names
       → (e : EndsBy (for_loop_from (var_scope g.kernel) (Some g.for_loop) g.kernel.answer j now names) (j + 1)) × ((n : ℕ) → e.count ≡ j + n → iteration_steps g.kernel * n ≤ last_steps breaks g.kernel)
   late_ends j now names bound le (inl last) =
-      let e = bound_ends (var_scope g.kernel) g.for_loop g.kernel.answer (limit g) j now names (answered g.kernel g.for_loop ground.sound ground.loops) bound last in
+      let e = bound_ends (var_scope g.kernel) g.for_loop g.kernel.answer (limit g) j now names (answer_is_checked g.kernel g.for_loop ground.sound ground.loops) bound last in
       (more_ends (j + 1) (omega arith) e, (λ n is. (let f = e.few in let none : n ≡ 0 = omega (arith, is, f) in let z = ap (λ n. iteration_steps g.kernel * n) none in omega (arith, z))))
   late_ends j now names bound le (inr h) =
-      let e = break_ends (var_scope g.kernel) g.for_loop g.kernel.answer (limit g) j now names (answered g.kernel g.for_loop ground.sound ground.loops) bound le h.1 in
+      let e = break_ends (var_scope g.kernel) g.for_loop g.kernel.answer (limit g) j now names (answer_is_checked g.kernel g.for_loop ground.sound ground.loops) bound le h.1 in
       (e, (λ n is. (let f = e.few in let one : iteration_steps g.kernel * n ≤ iteration_steps g.kernel * 1 = mul-le-mul_left (iteration_steps g.kernel) (omega (arith, is, f)) in let last = ap (λ b. last_steps b g.kernel) h.0 in omega (arith, one, last))))
 
   module _ {head : List DraftEntry} {start : State} (before : Goes d code s head start start_most) where
@@ -177,15 +182,15 @@ module _ (g : Ground) (c : Assignment) (d : Laid) (scalar n : ℕ) (rest : List 
       late : j ≤ begun
       ends : Ends d leave end memory result end_most
 
-    following_passes : (j : ℕ) (now : Memory) (names : Names) (end : State) → HeadOf g j names now end → j ≤ limit g → Late (loop_of g breaks d leave) j now names → Following j now names end
+    following_passes : (j : ℕ) (now : Memory) (names : Names) (end : State) → HeadOf (from_x g xs) j names now end → j ≤ limit g → Late (loop_of (from_x g xs) breaks d leave) j now names → Following j now names end
     following_passes j now names end h le late =
         let bound = bound_is j names now end h in
-        let f = folds_at g c j names now h.sum d (Branch Always scalar ∷ rest) end ground fit at.ranged (names_held j names now end h) h.head in
+        let f = folds_at (from_x g xs) c j names now h.sum d (Branch Always scalar ∷ rest) end there fit at.ranged (names_held j names now end h) h.head in
         let there : AtIteration R g.kernel j names now (jump f.end (address_of d scalar)) = jump_at (address_of d scalar) f.at in
         let within : IsWithin g.kernel.for_loop j names = subst (λ l. IsWithin l j names) (sym ground.loops) (let b : j ≤ bound_of g.for_loop names = omega (arith, le, bound) in b) in
         let ends = late_ends j now names bound le late in
         let is : run_from g.kernel j now names ≡ run.End ends.0.memory ends.0.result ends.0.count = loop_is j now names ∙ ends.0.is in
-        let e = ended (subst (λ r. Comes d (following d scalar) (jump f.end (address_of d scalar)) (iteration_steps g.kernel) (ending_steps g.kernel) j r) is (reaches j names now (jump f.end (address_of d scalar)) within there)) in
+        let e = comes_to_end (subst (λ r. Comes d (following d scalar) (jump f.end (address_of d scalar)) (iteration_steps g.kernel) (ending_steps g.kernel) j r) is (reaches j names now (jump f.end (address_of d scalar)) within there)) in
         let begun = e.is in
         record {
           memory = ends.0.memory;
@@ -196,7 +201,7 @@ module _ (g : Ground) (c : Assignment) (d : Laid) (scalar n : ℕ) (rest : List 
           ends = end_after end_most (let few = ends.1 e.n begun in omega (arith, few)) (chain (joined_all (throughout g.kernel Z) + 1) (omega arith) f.goes (taken_goes refl)) e.ends;
         }
 
-    finish : Passing (loop_of g breaks d leave) head start 0 g.names m → Done (run_from g.kernel 0 m g.names)
+    finish : Passing (loop_of (from_x g xs) breaks d leave) head start 0 g.names m → Done (run_from g.kernel 0 m g.names)
     finish (leaves k j now names end count place le goes late h by pace few2) =
         let b = following_passes j now names end h le late in
         let on : run_from g.kernel 0 m g.names ≡ run_from g.kernel j now names
@@ -214,7 +219,7 @@ module _ (g : Ground) (c : Assignment) (d : Laid) (scalar n : ℕ) (rest : List 
         (iterations_in_all (pass_steps g.kernel) (edge_steps g.kernel) j b.begun before.count count b.ends.count b.late (let f = before.within in let k = b.ends.within in let a = around in omega (arith, f, k, a)) few2))
     finish (stops k j left faulted kind count pc place within lo hi fails ends by pace few2) =
         subst Done (sym (loop_is 0 m g.names ∙ for_loop_fails (var_scope g.kernel) g.for_loop g.kernel.answer (limit g) k 0 m g.names faulted j refl within fails))
-        (follows.faults_so kind left ends.access ends.near (record {
+        (follows.faults_so kind left ends.access (near_from ends.near) (record {
           count = before.count + count;
           pc = pc;
           at = place;
@@ -232,4 +237,4 @@ vector_runs g c d scalar n rest m s ground fit is vl at x res reaches =
     let passes = passes_code g.kernel g.vectors g.predicates n leave in
     let st = start_runs g m d passes s ground is vl at.memory at.index x in
     let e = enters g ground d n leave (following_start d g.kernel g.vectors passes res) st.head in
-    finish g c d scalar n rest m s ground fit at x reaches (chain (3 + laid_all (throughout g.kernel Z)) (omega arith) st.goes e.goes) e.passing
+    finish g c d scalar n rest m s ground fit at x reaches e.x e.ground e.same (chain (3 + turning_steps (has_break g.kernel) + laid_all (throughout g.kernel Z)) (omega arith) st.goes e.goes) e.passing

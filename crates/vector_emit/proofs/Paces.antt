@@ -91,16 +91,24 @@ pub in_stop : (b : Bool) (lanes unit i j n q a : ℕ) → 0 < lanes → i ≤ j 
 in_stop true lanes unit i j n q a some le few within = in_place true lanes unit i (j + 0) n q a some (omega (arith, le)) (omega (arith, few)) within
 in_stop false lanes unit i j n q a some le few within = in_iteration false lanes unit i (j + 1) n q a (omega (arith, le)) (omega (arith, few)) within
 
--- How `a` passes that take k iterations on are paid, of which r free elements were suppressed: by the lanes of a chunk, by a
+-- or two chunks
+pub in_two : (b : Bool) (lanes unit i j n q : ℕ) → 0 < lanes → i + lanes * 2 ≤ j → n ≤ unit * 2 → Spends b lanes unit i j n q
+in_two b lanes unit i j n q some le within = record { passes = 2; within = within; few = omega (arith, some, le) }
+
+-- How `a` passes that take k iterations on are paid, of which r free elements were suppressed: by the lanes of a chunk, or of two, by a
 -- free element, or, where they come to the last iteration, by the passes that are spare.
 pub data Paid (breaks : Bool) (lanes k i j r : ℕ) : ℕ → Type 0 where
   by_lanes : lanes ≤ k → Paid breaks lanes k i j r 1
+  by_two : lanes * 2 ≤ k → Paid breaks lanes k i j r 2
   by_cut : breaks ≡ true → 0 < r → Paid breaks lanes k i j r 1
   by_last : 0 < k → j ≡ i + k → Paid breaks lanes k i j r 1
   by_one : breaks ≡ true → 0 < r → k ≡ 1 → Paid breaks lanes k i j r 2
 
 pay_lanes : (L i k j x y P : ℕ) → L ≤ k → x ≤ y → L * P + (i + k) < j + L + L * x → L * (1 + P) + i < j + L + L * y
 pay_lanes L i k j x y P le more few = let up : L * x ≤ L * y = mul-le-mul_left L more in omega (arith, le, few, up)
+
+pay_two : (L i k j x y P : ℕ) → L * 2 ≤ k → x ≤ y → L * P + (i + k) < j + L + L * x → L * (2 + P) + i < j + L + L * y
+pay_two L i k j x y P le more few = let up : L * x ≤ L * y = mul-le-mul_left L more in omega (arith, le, few, up)
 
 pay_cut : (L i k j x y P : ℕ) → x + 2 ≤ y → L * P + (i + k) < j + L + L * x → L * (1 + P) + i < j + L + L * y
 pay_cut L i k j x y P more few = let up : L * (x + 2) ≤ L * y = mul-le-mul_left L more in omega (arith, few, up)
@@ -117,6 +125,7 @@ pay_one L i j x y P more few = let up : L * (x + 2) ≤ L * y = mul-le-mul_left 
 
 pays : {b : Bool} {lanes k i j r a : ℕ} (q P : ℕ) → Paid b lanes k i j r a → lanes * P + (i + k) < j + lanes + lanes * extra b q → lanes * (a + P) + i < j + lanes + lanes * extra b (r + q)
 pays {b = b} {lanes = L} {k = k} {i = i} {j = j} {r = r} q P (by_lanes le) few = pay_lanes L i k j (extra b q) (extra b (r + q)) P le (extra_le b q (r + q) (omega arith)) few
+pays {b = b} {lanes = L} {k = k} {i = i} {j = j} {r = r} q P (by_two le) few = pay_two L i k j (extra b q) (extra b (r + q)) P le (extra_le b q (r + q) (omega arith)) few
 pays {b = b} {lanes = L} {k = k} {i = i} {j = j} {r = r} q P (by_cut e some) few = pay_cut L i k j (extra b q) (extra b (r + q)) P (extra_more b q r e some) few
 pays {b = b} {lanes = L} {k = k} {i = i} {j = j} {r = r} q P (by_last some at) few =
     subst (λ j. L * (1 + P) + i < j + L + L * extra b (r + q)) (sym at) (pay_last L i k (extra b q) (extra b (r + q)) P some (extra_le b q (r + q) (omega arith)) (subst (λ j. L * P + (i + k) < j + L + L * extra b q) at few))

@@ -28,9 +28,9 @@ more_early (it ∷ items) = let here = at it.mask in let more = more_early items
     at None = omega arith
     at (Some q) = omega arith
 
-parts : (items : List Item) → items_steps true (region_of items) + items_steps true (rest_of items) ≡ items_steps true items
-parts [] = refl
-parts (it ∷ items) = by_loop_break (list_any is_loop_break (it ∷ items)) (parts items)
+region_and_rest_steps : (items : List Item) → items_steps true (region_of items) + items_steps true (rest_of items) ≡ items_steps true items
+region_and_rest_steps [] = refl
+region_and_rest_steps (it ∷ items) = by_loop_break (list_any is_loop_break (it ∷ items)) (region_and_rest_steps items)
   where
     by_loop_break : (b : Bool) → items_steps true (region_of items) + items_steps true (rest_of items) ≡ items_steps true items → items_steps true (if b then it ∷ region_of items else []) + items_steps true (if b then rest_of items else it ∷ items) ≡ items_steps true (it ∷ items)
     by_loop_break true h = omega (arith, h)
@@ -56,7 +56,7 @@ chunk_few w l n items =
     let y = (always_few w l (region_of items)).exits in
     let z = items_end w l (rest_of items) in
     let early = more_early (rest_of items) in
-    let all = parts items in
+    let all = region_and_rest_steps items in
     omega (arith, a, b, x, y, z, early, all)
 
 pub iteration_few : (w : Width) (l : Layout) (items : List Item) → length (iteration_words w l items) ≤ 3 + items_steps true items
@@ -67,7 +67,7 @@ iteration_few w l items =
     let y = (always_few w l (region_of items)).single in
     let z = items_end w l (rest_of items) in
     let early = more_early (rest_of items) in
-    let all = parts items in
+    let all = region_and_rest_steps items in
     omega (arith, a, b, y, z, early, all)
 
 pub plain_few : (w : Width) (l : Layout) (items : List Item) → length (plain_words w l items) ≤ 2 + items_steps false items

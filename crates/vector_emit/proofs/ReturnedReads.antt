@@ -17,8 +17,8 @@ returned_there : (s : Scope) (from : ℕ) (answer : Option Returned) (m : Memory
 returned_there s from None m ns out none = (0, refl)
 returned_there s from (Some a) m ns out none = let h = value_there a.value s from (Some a.type) m ns out none in (word h.0, ap (option_map word) h.1)
 
-pub answered : (k : Program) (l : PlainLoop) → check_fault k ≡ None → k.for_loop ≡ Some l → Answers (var_scope k) l k.answer
-answered k l checked is m ns =
+pub answer_is_checked : (k : Program) (l : PlainLoop) → check_fault k ≡ None → k.for_loop ≡ Some l → Answers (var_scope k) l k.answer
+answer_is_checked k l checked is m ns =
     let from = loop_end k in
     returned_there (after_for_loop (var_scope k) (Some l)) from k.answer m ns (scope_outside k)
     (subst (λ l. answer_faults (after_for_loop (var_scope k) l) from k.answer ≡ []) is (answer_faultless k checked))

@@ -12,7 +12,7 @@ use Rattle.guest_types.specs.Memory.{Memory}
 use Rattle.machine_model.specs.Arithmetic.{holds}
 use Rattle.machine_model.specs.Machine.{State, x_at, z_at, p_at, with_flags, jump, next}
 use Rattle.machine_model.specs.States.{IsState}
-use Rattle.machine_model.proofs.StateSteps.{moved, jumped, flags_kept, x_kept, wrapped}
+use Rattle.machine_model.proofs.StateSteps.{next_is_state, jumped, flags_kept, x_kept, wrapped}
 use Rattle.a64_code.specs.Table.{subs}
 use Rattle.kernel_meaning.specs.Operators.{word}
 use Rattle.kernel_meaning.specs.Eval.{Names, value_at}
@@ -27,6 +27,7 @@ use Rattle.lane_emit.specs.Right.{PRight}
 use Rattle.lane_emit.specs.AccumulatorLanes.{LanesHold}
 use Rattle.chunk_emit.specs.Chunk.{IsTop}
 use Rattle.chunk_emit.specs.Head.{Ground, IsGround, AtHead, HeldAll, IndexHeld, layout, width, most_lanes, limit}
+use Rattle.chunk_pass.proofs.LaneHeads.{bound_at}
 use Rattle.vector_emit.specs.VectorCode.{any_lane}
 use Rattle.vector_emit.proofs.Flags.{top_none, top_some}
 
@@ -41,7 +42,7 @@ pub record Kept (s t : State) : Type 0 where
   pub all : p_at t 1 ≡ p_at s 1
   pub z : t.z ≡ s.z
 
-z_same : (s t : State) → t.z ≡ s.z → (n : ℕ) → z_at s n ≡ z_at t n
+pub z_same : (s t : State) → t.z ≡ s.z → (n : ℕ) → z_at s n ≡ z_at t n
 z_same s t e n = ap (λ zs. slice_index_or zs n []) (sym e)
 
 pub head_kept : {g : Ground} {i : ℕ} {cur : Names} {m : Memory} {sum : List ℕ → ℕ → ℤ} {s t : State} → AtHead g i cur m sum s → Kept s t → AtHead g i cur m sum t
@@ -97,12 +98,12 @@ pub branch_passed : {g : Ground} {i : ℕ} {cur : Names} {m : Memory} {sum : Lis
 branch_passed d {t = t} k l rest h no' = record {
   end = next t;
   goes = passed_goes no';
-  head = head_kept h (record { is = moved t h.is; vl = refl; memory = refl; x = λ r le. refl; all = refl; z = refl });
+  head = head_kept h (record { is = next_is_state t h.is; vl = refl; memory = refl; x = λ r le. refl; all = refl; z = refl });
   z = refl;
   p = refl;
 }
 
-following_word : {g : Ground} {i : ℕ} {cur : Names} {m : Memory} {sum : List ℕ → ℕ → ℤ} {d : Laid} {c b e : List DraftEntry} {s t : State} → Goes d c s b t 1 → t.z ≡ s.z → t.p ≡ s.p → Branched g i cur m sum d b t e → Tests g i cur m sum d c s e 2
+pub following_word : {g : Ground} {i : ℕ} {cur : Names} {m : Memory} {sum : List ℕ → ℕ → ℤ} {d : Laid} {c b e : List DraftEntry} {s t : State} → Goes d c s b t 1 → t.z ≡ s.z → t.p ≡ s.p → Branched g i cur m sum d b t e → Tests g i cur m sum d c s e 2
 following_word goes z p b = record { end = b.end; goes = chain 2 (omega arith) goes b.goes; head = b.head; z = b.z ∙ z; p = ap (λ ps. slice_index_or ps 0 []) (b.p ∙ p) }
 
 -- ---- PTEST, and B.NE
@@ -112,7 +113,7 @@ lane_state s = next (with_flags s (pred_test (bit (p_at s 0)) (bit (p_at s 0)) (
 
 lane_head : {g : Ground} {i : ℕ} {cur : Names} {m : Memory} {sum : List ℕ → ℕ → ℤ} {s : State} → AtHead g i cur m sum s → AtHead g i cur m sum (lane_state s)
 unfolding lane_state
-lane_head {s = s} h = head_kept h (record { is = moved _ (flags_kept s (pred_test (bit (p_at s 0)) (bit (p_at s 0)) (lanes s.vl B)) h.is); vl = refl; memory = refl; x = λ r le. refl; all = refl; z = refl })
+lane_head {s = s} h = head_kept h (record { is = next_is_state _ (flags_kept s (pred_test (bit (p_at s 0)) (bit (p_at s 0)) (lanes s.vl B)) h.is); vl = refl; memory = refl; x = λ r le. refl; all = refl; z = refl })
 
 lane_goes : (d : Laid) (rest : List DraftEntry) (s : State) → Goes d (Put any_lane ∷ rest) s rest (lane_state s) 1
 unfolding lane_state
@@ -132,18 +133,15 @@ lanes_none {g = g} d s k l rest h top none =
 
 -- ---- SUBS, and B.HS
 
-pub bound_at : {g : Ground} {i : ℕ} {cur : Names} {m : Memory} {sum : List ℕ → ℕ → ℤ} {s : State} → IsGround g → AtHead g i cur m sum s → x_at s (bound_place g.kernel) ≡ limit g
-bound_at {g = g} ground h = h.x (bound_place g.kernel) (let n = ground.near in omega (arith, n)) (λ e. let n = ground.near in absurd (omega (arith, n, e))) ∙ ground.bound
-
 pub limit_small : (g : Ground) → limit g < 2 ^ 64
 limit_small g = word-below (value_at g.names g.for_loop.bound)
 
-index_small : {g : Ground} {i : ℕ} {cur : Names} {m : Memory} {sum : List ℕ → ℕ → ℤ} {s : State} → AtHead g i cur m sum s → i < 2 ^ 64
+pub index_small : {g : Ground} {i : ℕ} {cur : Names} {m : Memory} {sum : List ℕ → ℕ → ℤ} {s : State} → AtHead g i cur m sum s → i < 2 ^ 64
 index_small {g = g} h = let w = h.between.within in let l = limit_small g in omega (arith, w, l)
 
 tested_head : {g : Ground} {i : ℕ} {cur : Names} {m : Memory} {sum : List ℕ → ℕ → ℤ} {s : State} → AtHead g i cur m sum s → AtHead g i cur m sum (tested s 9 (bound_place g.kernel))
 tested_head {g = g} {s = s} h = head_kept h (record {
-  is = moved _ (flags_kept _ _ (x_kept s 31 _ h.is (wrapped _)));
+  is = next_is_state _ (flags_kept _ _ (x_kept s 31 _ h.is (wrapped _)));
   vl = refl;
   memory = refl;
   x = λ r le. tested_other s 9 (bound_place g.kernel) r (λ e. absurd (omega (arith, le, e)));

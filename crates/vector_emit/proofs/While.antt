@@ -19,8 +19,9 @@ use Rattle.first_fault.proofs.PrefixBits.{top_made}
 use Rattle.chunk_pass.specs.PassCode.{lanes_word}
 use Rattle.chunk_pass.specs.Passes.{lanes_at}
 use Rattle.chunk_pass.proofs.LaneWords.{below_bound}
+use Rattle.chunk_pass.proofs.LaneHeads.{bound_at}
 use Rattle.vector_emit.proofs.Flags.{some_lanes, while_none, while_some}
-use Rattle.vector_emit.proofs.Tests.{head_kept, Branched, branch_taken, branch_passed, bound_at}
+use Rattle.vector_emit.proofs.Tests.{head_kept, Branched, branch_taken, branch_passed}
 
 -- the words lead to these entries, and to a state before the same pass with its lanes in P0
 pub record Taken (g : Ground) (i : ℕ) (cur : Names) (m : Memory) (sum : List ℕ → ℕ → ℤ) (d : Laid) (c : List DraftEntry) (s : State) (e : List DraftEntry) (most : ℕ) : Type 0 where
@@ -80,8 +81,8 @@ following_while {g = g} {i = i} {d = d} {b = b} {s = s} ground h x = record {
 }
 
 -- no lane is left
-none_left : {g : Ground} {i : ℕ} {cur : Names} {m : Memory} {sum : List ℕ → ℕ → ℤ} {s : State} → IsGround g → AtHead g i cur m sum s → limit g ≤ i → flag g s ≡ true
-none_left {g = g} {i = i} ground h le = flag_is ground h ∙ while_none i (limit g) (most_lanes g) le
+flag_past_limit : {g : Ground} {i : ℕ} {cur : Names} {m : Memory} {sum : List ℕ → ℕ → ℤ} {s : State} → IsGround g → AtHead g i cur m sum s → limit g ≤ i → flag g s ≡ true
+flag_past_limit {g = g} {i = i} ground h le = flag_is ground h ∙ while_none i (limit g) (most_lanes g) le
 
 some_left : {g : Ground} {i : ℕ} {cur : Names} {m : Memory} {sum : List ℕ → ℕ → ℤ} {s : State} → IsGround g → AtHead g i cur m sum s → i < limit g → flag g s ≡ false
 some_left {g = g} {i = i} ground h lt = flag_is ground h ∙ while_some i (limit g) (most_lanes g) (some_lanes g.vl (width g) ground.sized) lt
@@ -89,7 +90,7 @@ some_left {g = g} {i = i} ground h lt = flag_is ground h ∙ while_some i (limit
 -- B.EQ
 pub while_ends : {g : Ground} {i : ℕ} {cur : Names} {m : Memory} {sum : List ℕ → ℕ → ℤ} (d : Laid) (s : State) (l : ℕ) (rest : List DraftEntry) → IsGround g → AtHead g i cur m sum s → limit g ≤ i → Taken g i cur m sum d (Put (lanes_word (width g) (bound_place g.kernel)) ∷ Branch (If 0) l ∷ rest) s (following d l) 2
 unfolding while_state flag
-while_ends d s l rest ground h le = following_while ground h (branch_taken d (If 0) l rest (while_head h) (none_left ground h le))
+while_ends d s l rest ground h le = following_while ground h (branch_taken d (If 0) l rest (while_head h) (flag_past_limit ground h le))
 
 pub while_begins : {g : Ground} {i : ℕ} {cur : Names} {m : Memory} {sum : List ℕ → ℕ → ℤ} (d : Laid) (s : State) (l : ℕ) (rest : List DraftEntry) → IsGround g → AtHead g i cur m sum s → i < limit g → Taken g i cur m sum d (Put (lanes_word (width g) (bound_place g.kernel)) ∷ Branch (If 0) l ∷ rest) s rest 2
 unfolding while_state flag
@@ -98,7 +99,7 @@ while_begins d s l rest ground h lt = following_while ground h (branch_passed d 
 -- B.NE
 pub while_over : {g : Ground} {i : ℕ} {cur : Names} {m : Memory} {sum : List ℕ → ℕ → ℤ} (d : Laid) (s : State) (l : ℕ) (rest : List DraftEntry) → IsGround g → AtHead g i cur m sum s → limit g ≤ i → Taken g i cur m sum d (Put (lanes_word (width g) (bound_place g.kernel)) ∷ Branch (If 1) l ∷ rest) s rest 2
 unfolding while_state flag
-while_over d s l rest ground h le = following_while ground h (branch_passed d (If 1) l rest (while_head h) (ap not (none_left ground h le)))
+while_over d s l rest ground h le = following_while ground h (branch_passed d (If 1) l rest (while_head h) (ap not (flag_past_limit ground h le)))
 
 pub while_back : {g : Ground} {i : ℕ} {cur : Names} {m : Memory} {sum : List ℕ → ℕ → ℤ} (d : Laid) (s : State) (l : ℕ) (rest : List DraftEntry) → IsGround g → AtHead g i cur m sum s → i < limit g → Taken g i cur m sum d (Put (lanes_word (width g) (bound_place g.kernel)) ∷ Branch (If 1) l ∷ rest) s (following d l) 2
 unfolding while_state flag

@@ -15,7 +15,7 @@ use Rattle.reg_assign.specs.declared.interval.RegClass.TheVariants.{X, Z}
 use Rattle.reg_assign.specs.Registers.{Assignment}
 use Rattle.loop_form.specs.Needs.{throughout}
 use Rattle.loop_form.specs.Registers.{FitsKernel}
-use Rattle.close_bound.specs.CloseBound.{has_break, pass_steps, passes, spare, iteration_steps, last_steps, held_steps, ending_steps}
+use Rattle.close_bound.specs.CloseBound.{has_break, pass_steps, passes, spare, iteration_steps, last_steps, turning_steps, held_steps, ending_steps}
 use Rattle.vector_order.specs.Elsewhere.{Elsewhere}
 use Rattle.scalar_words.specs.KernelRegisters.{register_in}
 use Rattle.scalar_words.specs.Iterations.{AtIteration, Comes}
@@ -43,7 +43,7 @@ pub data Follows (g : Ground) (d : Laid) (c : List DraftEntry) (s : State) (unit
 
 -- the words before and after the passes, and of the end of the run
 abbrev pub edge_steps : Program → ℕ
-edge_steps k = 4 + held_steps (throughout k Z) + last_steps (has_break k) k + ending_steps k
+edge_steps k = 4 + turning_steps (has_break k) + held_steps (throughout k Z) + last_steps (has_break k) k + ending_steps k
 
 -- the words of the passes over so many iterations, and of what stands before and after them
 abbrev pub vector_base : Ground → ℕ → ℕ

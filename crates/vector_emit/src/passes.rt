@@ -4,7 +4,6 @@ ghost use Rattle.std.specs.Prelude.{◌≡◌, ◌+◌, ◌*◌, ◌<◌, suc, [
 ghost use Rattle.std.specs.List.{list_any};
 ghost use Rattle.a64_code.specs.Table.{subs};
 ghost use Rattle.reg_assign.specs.declared.interval.RegClass.TheVariants as class;
-ghost use Rattle.close_bound.specs.CloseBound.{pass_steps};
 ghost use Rattle.label_fix.specs.Draft.{word_view};
 ghost use Rattle.label_fix.specs.DraftRun as plain;
 ghost use Rattle.loop_form.specs.LoopView.{view};
@@ -15,9 +14,11 @@ ghost use Rattle.dependence.specs.Classes.{class_of};
 ghost use Rattle.dependence.specs.declared.reason.Class.TheVariants.{Vector};
 ghost use Rattle.label_fix.specs.Emits.{Emits, AppendsWords};
 ghost use Rattle.label_fix.specs.DraftRun.{ins};
+ghost use Rattle.label_fix.specs.Registers.{turn_limit};
 ghost use Rattle.lane_emit.specs.RegistersView.{kernel_in, vectors_in, predicates_in};
 ghost use Rattle.chunk_emit.specs.Writable.{AreWritable};
 ghost use Rattle.chunk_emit.specs.View.{layout_in, width_in};
+ghost use Rattle.chunk_pass.specs.PassCode.{plain_words};
 ghost use Rattle.first_fault.specs.BreakRegion.{is_loop_break, region_of, rest_of};
 ghost use Rattle.vector_emit.specs.Parts as parts;
 ghost use Rattle.vector_emit.specs.VectorCode as code;
@@ -27,12 +28,15 @@ use chunk_emit::{LoopLayout, loop_layout};
 use chunk_pass::{emit_chunk, emit_iteration, emit_plain, lanes};
 use dependence::bound_place;
 use first_fault::{has_break, writable_items};
+use guest_types::length::Width;
+use label_fix::registers::{LANES_LEFT, TURN_LIMIT, compare_iteration};
 use label_fix::{BranchKind, Draft, Label, Word};
+use lane_emit::wide;
 use loop_form::{LoopFacts, LoopItem};
 use loop_items::loop_items;
 use reg_assign::VectorRegs;
 use std::alloc::{AllocError, Global};
-use sve_code::Sve;
+use sve_code::{ElementCountOp, Sve};
 use word_rows::Bits;
 
 // Z is clear where a lane came through.
@@ -40,21 +44,34 @@ fn any_lane() -> Word
     ensures { word_view result ≡ code.any_lane }
 {
     Word::V(Sve::Ptest {
-        pn: Bits { number: 0 },
-        pg: Bits { number: 0 },
+        pn: wide(LANES_LEFT),
+        pg: wide(LANES_LEFT),
     })
 }
 
-// The comparison of the iteration with the bound.
-fn compare(bound: Reg) -> Word
-    ensures { plain.Put (word_view result) ≡ ins subs (31 ∷ 9 ∷ 0 ∷ bound.number ∷ 0 ∷ []) }
+// CNTB, CNTH, CNTW, CNTD X8: the lanes of a chunk.
+fn count(width: Width) -> Word
+    ensures { word_view result ≡ code.count_word width }
+{
+    let op = match width {
+        Width::B => ElementCountOp::Cntb,
+        Width::H => ElementCountOp::Cnth,
+        Width::S => ElementCountOp::Cntw,
+        Width::D => ElementCountOp::Cntd,
+    };
+    Word::V(Sve::ElementCount { op, rd: TURN_LIMIT })
+}
+
+// X8, the last iteration from which four chunks are left.
+fn limit(bound: Reg) -> Word
+    ensures { plain.Put (word_view result) ≡ ins subs (turn_limit ∷ bound.number ∷ 2 ∷ turn_limit ∷ 0 ∷ []) }
 {
     Word::A(A64::AddSubShifted {
         op: AddSubOp::Subs,
-        rd: Bits { number: 31 },
-        rn: Bits { number: 9 },
-        imm6: Bits { number: 0 },
-        rm: bound,
+        rd: TURN_LIMIT,
+        rn: bound,
+        imm6: Bits { number: 2 },
+        rm: TURN_LIMIT,
         shift: AddSubShift::Lsl,
     })
 }
@@ -80,7 +97,7 @@ fn emit_chunk_part(
     emit_chunk(alloc, layout, bound, items, draft)?;
     draft.put(any_lane())?;
     draft.branch(BranchKind::If(Cond::Ne), head)?;
-    draft.put(compare(bound))?;
+    draft.put(compare_iteration(bound))?;
     draft.branch(BranchKind::If(Cond::Hs), end)
 }
 
@@ -106,7 +123,53 @@ fn emit_iteration_part(
     draft.place(end)
 }
 
-// A chunk of a loop without a break.
+// The passes of a turn.
+fn emit_four(
+    alloc: Global,
+    layout: &LoopLayout<'_>,
+    items: &[LoopItem<'_>],
+    draft: &mut Draft,
+) -> Result<(), AllocError>
+    requires writable { AreWritable (width_in layout.now) (view items.now) }
+    ensures { let words = plain_words (width_in layout.now) (layout_in layout.now) (view items.now) in
+        OnOk result (Emits draft.old draft.new draft.old.labels (code.times 4 words)) }
+{
+    emit_plain(alloc, layout, items, draft)?;
+    emit_plain(alloc, layout, items, draft)?;
+    emit_plain(alloc, layout, items, draft)?;
+    emit_plain(alloc, layout, items, draft)
+}
+
+// The turns of a loop without a break.
+fn emit_turns_part(
+    alloc: Global,
+    layout: &LoopLayout<'_>,
+    bound: Reg,
+    items: &[LoopItem<'_>],
+    head: Label,
+    end: Label,
+    turn: Label,
+    draft: &mut Draft,
+) -> Result<(), AllocError>
+    requires writable { AreWritable (width_in layout.now) (view items.now) }
+    requires head { head < draft.old.labels }
+    requires end { end < draft.old.labels }
+    requires turn { turn < draft.old.labels }
+    ensures { let part = parts.turns_part (width_in layout.now) (layout_in layout.now) bound.number in
+        OnOk result (Emits draft.old draft.new draft.old.labels (part (view items.now) head end turn)) }
+{
+    draft.put(count(layout.width()))?;
+    draft.put(limit(bound))?;
+    draft.branch(BranchKind::If(Cond::Lo), head)?;
+    draft.place(turn)?;
+    emit_four(alloc, layout, items, draft)?;
+    draft.put(compare_iteration(TURN_LIMIT))?;
+    draft.branch(BranchKind::If(Cond::Ls), turn)?;
+    draft.put(lanes(layout.width(), bound))?;
+    draft.branch(BranchKind::If(Cond::Eq), end)
+}
+
+// A chunk of such a loop.
 fn emit_plain_part(
     alloc: Global,
     layout: &LoopLayout<'_>,
@@ -162,12 +225,14 @@ fn emit_straight(
     requires writable { AreWritable (width_in layout.now) (view items.now) }
     ensures { let r = layout.now.registers in
         let passes = code.straight_code (kernel_in r) (vectors_in r) (predicates_in r) (view items.now) in
-        OnOk result (Emits draft.old draft.new (draft.old.labels + 2) (passes draft.old.labels)) }
+        OnOk result (Emits draft.old draft.new (draft.old.labels + 3) (passes draft.old.labels)) }
 {
     let head = draft.label()?;
     let end = draft.label()?;
+    let turn = draft.label()?;
     draft.put(lanes(layout.width(), bound))?;
     draft.branch(BranchKind::If(Cond::Eq), end)?;
+    emit_turns_part(alloc, layout, bound, items, head, end, turn, draft)?;
     emit_plain_part(alloc, layout, bound, items, head, end, draft)
 }
 
@@ -185,7 +250,8 @@ fn emit_by(
     ensures { let r = layout.now.registers in
         let by = code.passes_by (list_any is_loop_break (view items.now)) in
         let passes = by (kernel_in r) (vectors_in r) (predicates_in r) (view items.now) in
-        OnOk result (Emits draft.old draft.new (draft.old.labels + 2) (passes draft.old.labels)) }
+        let more = code.labels_by (list_any is_loop_break (view items.now)) in
+        OnOk result (Emits draft.old draft.new (draft.old.labels + more) (passes draft.old.labels)) }
 {
     if has_break(items) {
         emit_breaking(alloc, layout, bound, items, draft)
@@ -194,7 +260,7 @@ fn emit_by(
     }
 }
 
-/// The passes of a kernel's loop, with two labels: before a pass, and after the loop.
+/// The passes of a kernel's loop, with their labels: before a pass, after the loop, and in a loop without a break before a turn.
 pub fn emit_passes(
     alloc: Global,
     facts: &LoopFacts<'_>,
@@ -204,10 +270,11 @@ pub fn emit_passes(
     requires class { class_of (program facts.now.kernel.now) ≡ Vector }
     requires vectors { FitsKernel (program facts.now.kernel.now) class.Z regs.now.z }
     requires predicates { FitsKernel (program facts.now.kernel.now) class.P regs.now.p }
-    ensures words { let most = 2 * pass_steps (program facts.now.kernel.now) in
+    ensures words { let most = code.passes_most (program facts.now.kernel.now) in
         OnOk result (AppendsWords draft.old draft.new most) }
     ensures emits { let passes = code.passes_code (program facts.now.kernel.now) regs.now.z regs.now.p in
-        OnOk result (Emits draft.old draft.new (draft.old.labels + 2) (passes draft.old.labels)) }
+        let more = code.passes_labels (program facts.now.kernel.now) in
+        OnOk result (Emits draft.old draft.new (draft.old.labels + more) (passes draft.old.labels)) }
 {
     writable_items(facts.kernel, regs);
     let items = loop_items(alloc, facts.kernel)?;

@@ -9,7 +9,7 @@ ghost use Rattle.dependence.specs.Classes.{class_of};
 ghost use Rattle.dependence.specs.declared.reason.Class.TheVariants.{Vector};
 ghost use Rattle.label_fix.specs.Emits.{Emits, AppendsWords};
 ghost use Rattle.scalar_words.specs.KernelRegisters.{register_in};
-ghost use Rattle.vector_emit.specs.VectorCode.{vector_code};
+ghost use Rattle.vector_emit.specs.VectorCode.{passes_labels, vector_code};
 
 use crate::passes::emit_passes;
 use label_fix::{BranchKind, Draft, Label};
@@ -35,7 +35,7 @@ pub fn emit_vector(
     ensures words { OnOk result (AppendsWords draft.old draft.new (200 + 32 * size_of (program facts.now.kernel.now))) }
     ensures emits { let r = register_in regs.now.x in
         let whole = vector_code r (program facts.now.kernel.now) regs.now.z regs.now.p scalar in
-        OnOk result (Emits draft.old draft.new (draft.old.labels + 2) (whole draft.old.labels)) }
+        OnOk result (Emits draft.old draft.new (draft.old.labels + passes_labels (program facts.now.kernel.now)) (whole draft.old.labels)) }
 {
     emit_start(draft, facts, regs)?;
     emit_passes(alloc, facts, regs, draft)?;

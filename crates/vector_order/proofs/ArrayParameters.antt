@@ -11,7 +11,7 @@ use Rattle.loop_form.specs.Streams.{type_of_place}
 use Rattle.loop_form.specs.declared.loop_item.Operand.TheVariants as operands
 use Rattle.vector_order.specs.Operands.{nth_value}
 use Rattle.vector_order.specs.Apart.{base_of}
-use Rattle.kernel_tree.proofs.Names.{bytes_same, NoName, index_alone}
+use Rattle.kernel_tree.proofs.Names.{bytes_eq-refl, NoName, index_alone}
 use Rattle.kernel_meaning.proofs.Started.{started_names}
 use Rattle.loop_form.specs.LoopItems.{bound, operand_at, outer_env, loop_env}
 use Rattle.loop_form.specs.declared.loop_item.Operand.TheVariants.{Constant, Outer}
@@ -29,7 +29,7 @@ started_bases k args m names e p t h = let r = started_names k args m names e in
 -- ---- the loop variable's name is that of nothing else
 
 index_as_loop_index : (vs : List Local) (x : List ℕ) (n : ℕ) → NoName x vs → operand_at (outer_env n vs ++ bound x operands.LoopIndex ∷ []) x ≡ operands.LoopIndex
-index_as_loop_index [] x n h = by_test (bytes_eq x x) (bytes_same x)
+index_as_loop_index [] x n h = by_test (bytes_eq x x) (bytes_eq-refl x)
   where
     by_test : (b : Bool) → b ≡ true → cond b operands.LoopIndex (Constant None (pos 0)) ≡ operands.LoopIndex
     by_test true e = refl

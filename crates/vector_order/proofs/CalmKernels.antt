@@ -50,37 +50,37 @@ module _ (k : Program) where
   next : (g : ℕ) (t : Option Ty) (ts : List (Option Ty)) → From k g (t ∷ ts) → From k (g + 1) ts
   next g t ts h = from_right g 1 (t ∷ []) ts refl h
 
-  here : (g : ℕ) (t : Option Ty) (ts : List (Option Ty)) → From k g (t ∷ ts) → item_type k g ≡ t
+  from_head_type : (g : ℕ) (t : Option Ty) (ts : List (Option Ty)) → From k g (t ∷ ts) → item_type k g ≡ t
   unfolding item_type
-  here g t ts h = ap checked.flat (get_drop (types_of k) g t (ts ++ h.0) h.1)
+  from_head_type g t ts h = ap checked.flat (get_drop (types_of k) g t (ts ++ h.0) h.1)
 
   -- as many types as items
   inner_length : (o : Option ℤ) (ts : List (Option Ty)) (n : ℕ) → length ts ≡ n → length (inner_types o ts) ≡ index_size o n
   inner_length None ts n e = e
   inner_length (Some c) ts n e = refl
 
-  two : (xs ys : List (Option Ty)) (m n : ℕ) → length xs ≡ m → length ys ≡ n → length (xs ++ ys) ≡ m + n
-  two xs ys m n e f = length-append xs ys ∙ ap₂ (λ (a : ℕ) (b : ℕ). a + b) e f
+  length_append_is : (xs ys : List (Option Ty)) (m n : ℕ) → length xs ≡ m → length ys ≡ n → length (xs ++ ys) ≡ m + n
+  length_append_is xs ys m n e f = length-append xs ys ∙ ap₂ (λ (a : ℕ) (b : ℕ). a + b) e f
 
   pub many : (t : Term) (scope : Scope) (role : Role) → length (term_types scope role t) ≡ term_size scope.index t
   many (Literal n) scope role = refl
   many (Variable x) scope role = refl
-  many (Element a i) scope role = two (inner_types (stream_offset scope.index i) (term_types scope (Value (index_type scope i)) i)) _ (index_items scope.index i) 1 (inner_length (stream_offset scope.index i) _ (term_size scope.index i) (many i scope (Value (index_type scope i)))) refl
-  many (Unary op e) scope role = two (term_types scope (Value (wanted role)) e) _ (term_size scope.index e) 1 (many e scope (Value (wanted role))) refl
-  many (Operation op a b) scope role = two (term_types scope (Value (wanted role)) a) _ (term_size scope.index a) (term_size scope.index b + 1) (many a scope (Value (wanted role))) (two (term_types scope (Value (wanted role)) b) _ (term_size scope.index b) 1 (many b scope (Value (wanted role))) refl) ∙ omega arith
-  many (Shift l e n) scope role = two (term_types scope (Value (wanted role)) e) _ (term_size scope.index e) 1 (many e scope (Value (wanted role))) refl
-  many (Conversion e t) scope role = two (term_types scope (Value (own scope e)) e) _ (term_size scope.index e) 1 (many e scope (Value (own scope e))) refl
+  many (Element a i) scope role = length_append_is (inner_types (stream_offset scope.index i) (term_types scope (Value (index_type scope i)) i)) _ (index_items scope.index i) 1 (inner_length (stream_offset scope.index i) _ (term_size scope.index i) (many i scope (Value (index_type scope i)))) refl
+  many (Unary op e) scope role = length_append_is (term_types scope (Value (wanted role)) e) _ (term_size scope.index e) 1 (many e scope (Value (wanted role))) refl
+  many (Operation op a b) scope role = length_append_is (term_types scope (Value (wanted role)) a) _ (term_size scope.index a) (term_size scope.index b + 1) (many a scope (Value (wanted role))) (length_append_is (term_types scope (Value (wanted role)) b) _ (term_size scope.index b) 1 (many b scope (Value (wanted role))) refl) ∙ omega arith
+  many (Shift l e n) scope role = length_append_is (term_types scope (Value (wanted role)) e) _ (term_size scope.index e) 1 (many e scope (Value (wanted role))) refl
+  many (Conversion e t) scope role = length_append_is (term_types scope (Value (own scope e)) e) _ (term_size scope.index e) 1 (many e scope (Value (own scope e))) refl
   many (Choice c a b) scope role =
-      two (term_types scope (Value (wanted role)) a) _ (term_size scope.index a) (term_size scope.index b + (term_size scope.index c + 1)) (many a scope (Value (wanted role)))
-      (two (term_types scope (Value (wanted role)) b) _ (term_size scope.index b) (term_size scope.index c + 1) (many b scope (Value (wanted role))) (two (term_types scope Condition c) _ (term_size scope.index c) 1 (many c scope Condition) refl)) ∙ omega arith
-  many (Comparison op a b) scope role = two (term_types scope (Value (side_type scope a b)) a) _ (term_size scope.index a) (term_size scope.index b + 1) (many a scope (Value (side_type scope a b))) (two (term_types scope (Value (side_type scope a b)) b) _ (term_size scope.index b) 1 (many b scope (Value (side_type scope a b))) refl) ∙ omega arith
-  many (Both a b) scope role = two (term_types scope Condition a) _ (term_size scope.index a) (term_size scope.index b + 1) (many a scope Condition) (two (term_types scope Condition b) _ (term_size scope.index b) 1 (many b scope Condition) refl) ∙ omega arith
-  many (Either a b) scope role = two (term_types scope Condition a) _ (term_size scope.index a) (1 + (term_size scope.index b + 1)) (many a scope Condition) (ap suc (two (term_types scope Condition b) _ (term_size scope.index b) 1 (many b scope Condition) refl) ∙ omega arith) ∙ omega arith
-  many (Not e) scope role = two (term_types scope Condition e) _ (term_size scope.index e) 1 (many e scope Condition) refl
+      length_append_is (term_types scope (Value (wanted role)) a) _ (term_size scope.index a) (term_size scope.index b + (term_size scope.index c + 1)) (many a scope (Value (wanted role)))
+      (length_append_is (term_types scope (Value (wanted role)) b) _ (term_size scope.index b) (term_size scope.index c + 1) (many b scope (Value (wanted role))) (length_append_is (term_types scope Condition c) _ (term_size scope.index c) 1 (many c scope Condition) refl)) ∙ omega arith
+  many (Comparison op a b) scope role = length_append_is (term_types scope (Value (side_type scope a b)) a) _ (term_size scope.index a) (term_size scope.index b + 1) (many a scope (Value (side_type scope a b))) (length_append_is (term_types scope (Value (side_type scope a b)) b) _ (term_size scope.index b) 1 (many b scope (Value (side_type scope a b))) refl) ∙ omega arith
+  many (Both a b) scope role = length_append_is (term_types scope Condition a) _ (term_size scope.index a) (term_size scope.index b + 1) (many a scope Condition) (length_append_is (term_types scope Condition b) _ (term_size scope.index b) 1 (many b scope Condition) refl) ∙ omega arith
+  many (Either a b) scope role = length_append_is (term_types scope Condition a) _ (term_size scope.index a) (1 + (term_size scope.index b + 1)) (many a scope Condition) (ap suc (length_append_is (term_types scope Condition b) _ (term_size scope.index b) 1 (many b scope Condition) refl) ∙ omega arith) ∙ omega arith
+  many (Not e) scope role = length_append_is (term_types scope Condition e) _ (term_size scope.index e) 1 (many e scope Condition) refl
 
   -- the last item of a value has the type that is wanted
   last_of : (g n : ℕ) (xs : List (Option Ty)) (w : Option Ty) → length xs ≡ n → From k g (xs ++ w ∷ []) → item_type k (g + n) ≡ w
-  last_of g n xs w e h = here (g + n) w [] (from_right g n xs (w ∷ []) e h)
+  last_of g n xs w e h = from_head_type (g + n) w [] (from_right g n xs (w ∷ []) e h)
 
   last_two : (g m n : ℕ) (xs ys : List (Option Ty)) (w : Option Ty) → length xs ≡ m → length ys ≡ n → From k g (xs ++ (ys ++ w ∷ [])) → item_type k (g + m + n) ≡ w
   last_two g m n xs ys w e f h = last_of (g + m) n ys w f (from_right g m xs (ys ++ w ∷ []) e h)
@@ -89,8 +89,8 @@ module _ (k : Program) where
   as_last g n m w e h = ap (item_type k) (sym e) ∙ h
 
   root : (t : Term) (scope : Scope) (want : Option Ty) (g : ℕ) → IsValue t → From k g (term_types scope (Value want) t) → item_type k (g + term_size scope.index t - 1) ≡ want
-  root (Literal n) scope want g v h = as_last g _ g want (omega arith) (here g want [] h)
-  root (Variable x) scope want g v h = as_last g _ g want (omega arith) (here g want [] h)
+  root (Literal n) scope want g v h = as_last g _ g want (omega arith) (from_head_type g want [] h)
+  root (Variable x) scope want g v h = as_last g _ g want (omega arith) (from_head_type g want [] h)
   root (Element a i) scope want g v h = as_last g _ (g + index_items scope.index i) want (omega arith) (last_of g (index_items scope.index i) (inner_types (stream_offset scope.index i) (term_types scope (Value (index_type scope i)) i)) want (inner_length (stream_offset scope.index i) _ (term_size scope.index i) (many i scope (Value (index_type scope i)))) h)
   root (Unary op e) scope want g v h = as_last g _ (g + term_size scope.index e) want (omega arith) (last_of g (term_size scope.index e) (term_types scope (Value want) e) want (many e scope (Value want)) h)
   root (Operation op a b) scope want g v h = as_last g _ (g + term_size scope.index a + term_size scope.index b) want (omega arith) (last_two g (term_size scope.index a) (term_size scope.index b) (term_types scope (Value want) a) (term_types scope (Value want) b) want (many a scope (Value want)) (many b scope (Value want)) h)
@@ -156,8 +156,8 @@ module _ (k : Program) where
     size_at t scope e = ap (λ (j : Option (List ℕ)). term_size j t) e
 
     -- the types after those of an expression
-    past : (t : Term) (scope : Scope) (role : Role) (g : ℕ) (ts : List (Option Ty)) → scope.index ≡ loop_index k → From k g (term_types scope role t ++ ts) → From k (g + term_size (loop_index k) t) ts
-    past t scope role g ts e h = from_right g (term_size (loop_index k) t) (term_types scope role t) ts (many t scope role ∙ size_at t scope e) h
+    from_past_term : (t : Term) (scope : Scope) (role : Role) (g : ℕ) (ts : List (Option Ty)) → scope.index ≡ loop_index k → From k g (term_types scope role t ++ ts) → From k (g + term_size (loop_index k) t) ts
+    from_past_term t scope role g ts e h = from_right g (term_size (loop_index k) t) (term_types scope role t) ts (many t scope role ∙ size_at t scope e) h
 
     record TermCalms (t : Term) : Type 0 where
       as_value : (scope : Scope) (want : Option Ty) (g last_use : ℕ) → scope.index ≡ loop_index k → IsValue t → From k g (term_types scope (Value want) t) → CalmEntries (term_entries k g last_use t) → Calmly C scope t
@@ -192,7 +192,7 @@ module _ (k : Program) where
     term_calms (Operation op x y) = record {
       as_value = λ scope want g last_use e v h a. (
         (term_calms x).as_value scope want g _ e v.0 (from_left g (term_types scope (Value want) x) _ h) (calm_left (term_entries k g _ x) _ a),
-        (term_calms y).as_value scope want _ _ e v.1 (from_left _ (term_types scope (Value want) y) _ (past x scope (Value want) g _ e h)) (calm_left (term_entries k _ _ y) _ (calm_right (term_entries k g _ x) _ a)),
+        (term_calms y).as_value scope want _ _ e v.1 (from_left _ (term_types scope (Value want) y) _ (from_past_term x scope (Value want) g _ e h)) (calm_left (term_entries k _ _ y) _ (calm_right (term_entries k g _ x) _ a)),
       );
       as_cond = λ scope g last_use e c h a. elim c [ ];
     }
@@ -200,8 +200,8 @@ module _ (k : Program) where
     term_calms (Conversion x t) = record { as_value = λ scope want g last_use e v h a. (term_calms x).as_value scope (own scope x) g _ e v (from_left g (term_types scope (Value (own scope x)) x) _ h) (calm_left (term_entries k g _ x) _ a); as_cond = λ scope g last_use e c h a. elim c [ ] }
     term_calms (Choice c x y) = record {
       as_value = λ scope want g last_use e v h a.
-          let h1 = past x scope (Value want) g _ e h in
-          let h2 = past y scope (Value want) (g + term_size (loop_index k) x) _ e h1 in
+          let h1 = from_past_term x scope (Value want) g _ e h in
+          let h2 = from_past_term y scope (Value want) (g + term_size (loop_index k) x) _ e h1 in
           let a1 = calm_right (term_entries k g _ x) _ a in
           let a2 = calm_right (term_entries k _ _ y) _ a1 in (
             (term_calms c).as_cond scope _ _ e v.2 (from_left _ (term_types scope Condition c) _ h2) (calm_left (term_entries k _ _ c) _ a2),
@@ -215,21 +215,21 @@ module _ (k : Program) where
       as_cond = λ scope g last_use e c h a.
           let want : Option Ty = side_type scope x y in (
             (term_calms x).as_value scope want g _ e c.0 (from_left g (term_types scope (Value want) x) _ h) (calm_left (term_entries k g _ x) _ a),
-            (term_calms y).as_value scope want _ _ e c.1 (from_left _ (term_types scope (Value want) y) _ (past x scope (Value want) g _ e h)) (calm_left (term_entries k _ _ y) _ (calm_right (term_entries k g _ x) _ a)),
+            (term_calms y).as_value scope want _ _ e c.1 (from_left _ (term_types scope (Value want) y) _ (from_past_term x scope (Value want) g _ e h)) (calm_left (term_entries k _ _ y) _ (calm_right (term_entries k g _ x) _ a)),
           );
     }
     term_calms (Both x y) = record {
       as_value = λ scope want g last_use e v h a. elim v [ ];
       as_cond = λ scope g last_use e c h a. (
         (term_calms x).as_cond scope g _ e c.0 (from_left g (term_types scope Condition x) _ h) (calm_left (term_entries k g _ x) _ a),
-        (term_calms y).as_cond scope _ _ e c.1 (from_left _ (term_types scope Condition y) _ (past x scope Condition g _ e h)) (calm_left (term_entries k _ _ y) _ (calm_right (term_entries k g _ x) _ a)),
+        (term_calms y).as_cond scope _ _ e c.1 (from_left _ (term_types scope Condition y) _ (from_past_term x scope Condition g _ e h)) (calm_left (term_entries k _ _ y) _ (calm_right (term_entries k g _ x) _ a)),
       );
     }
     term_calms (Either x y) = record {
       as_value = λ scope want g last_use e v h a. elim v [ ];
       as_cond = λ scope g last_use e c h a. (
         (term_calms x).as_cond scope g _ e c.0 (from_left g (term_types scope Condition x) _ h) (calm_left (term_entries k g _ x) _ a),
-        (term_calms y).as_cond scope _ _ e c.1 (from_left _ (term_types scope Condition y) _ (next _ None _ (past x scope Condition g _ e h))) (calm_left (term_entries k _ _ y) _ (calm_right (term_entries k g _ x) _ a).1),
+        (term_calms y).as_cond scope _ _ e c.1 (from_left _ (term_types scope Condition y) _ (next _ None _ (from_past_term x scope Condition g _ e h))) (calm_left (term_entries k _ _ y) _ (calm_right (term_entries k g _ x) _ a).1),
       );
     }
     term_calms (Not x) = record { as_value = λ scope want g last_use e v h a. elim v [ ]; as_cond = λ scope g last_use e c h a. (term_calms x).as_cond scope g _ e c (from_left g (term_types scope Condition x) _ h) (calm_left (term_entries k g _ x) _ a) }
@@ -237,18 +237,18 @@ module _ (k : Program) where
     -- as many types as items of statements
     mutual
       many_action : (s : Action) (scope : Scope) → scope.index ≡ loop_index k → length (action_types scope s) ≡ action_size (loop_index k) s
-      many_action (Define x t v) scope e = two (term_types scope (Value (first t (own scope v))) v) _ (term_size (loop_index k) v) 1 (many v scope (Value (first t (own scope v))) ∙ size_at v scope e) refl
-      many_action (Put b i v) scope e = two (term_types scope (Value (option_and_then element_type (lookup scope b))) v) _ (term_size (loop_index k) v) 1 (many v scope (Value (option_and_then element_type (lookup scope b))) ∙ size_at v scope e) refl
-      many_action (Update x op v) scope e = two (term_types scope (Value (option_and_then accumulator_type (lookup scope x))) v) _ (term_size (loop_index k) v) 1 (many v scope (Value (option_and_then accumulator_type (lookup scope x))) ∙ size_at v scope e) refl
+      many_action (Define x t v) scope e = length_append_is (term_types scope (Value (first t (own scope v))) v) _ (term_size (loop_index k) v) 1 (many v scope (Value (first t (own scope v))) ∙ size_at v scope e) refl
+      many_action (Put b i v) scope e = length_append_is (term_types scope (Value (option_and_then element_type (lookup scope b))) v) _ (term_size (loop_index k) v) 1 (many v scope (Value (option_and_then element_type (lookup scope b))) ∙ size_at v scope e) refl
+      many_action (Update x op v) scope e = length_append_is (term_types scope (Value (option_and_then accumulator_type (lookup scope x))) v) _ (term_size (loop_index k) v) 1 (many v scope (Value (option_and_then accumulator_type (lookup scope x))) ∙ size_at v scope e) refl
       many_action (Choose c b d) scope e =
-          two (term_types scope Condition c) _ (term_size (loop_index k) c) (1 + (block_size (loop_index k) b + (otherwise_size (loop_index k) d + 1))) (many c scope Condition ∙ size_at c scope e)
-          (ap suc (two (block_types scope b) _ (block_size (loop_index k) b) (otherwise_size (loop_index k) d + 1) (many_block b scope e) (two (otherwise_types (left scope (after_block scope b)) d) _ (otherwise_size (loop_index k) d) 1 (many_otherwise d (left scope (after_block scope b)) e) refl)) ∙ omega arith)
+          length_append_is (term_types scope Condition c) _ (term_size (loop_index k) c) (1 + (block_size (loop_index k) b + (otherwise_size (loop_index k) d + 1))) (many c scope Condition ∙ size_at c scope e)
+          (ap suc (length_append_is (block_types scope b) _ (block_size (loop_index k) b) (otherwise_size (loop_index k) d + 1) (many_block b scope e) (length_append_is (otherwise_types (left scope (after_block scope b)) d) _ (otherwise_size (loop_index k) d) 1 (many_otherwise d (left scope (after_block scope b)) e) refl)) ∙ omega arith)
           ∙ omega arith
-      many_action (Leave c) scope e = two (term_types scope Condition c) _ (term_size (loop_index k) c) 1 (many c scope Condition ∙ size_at c scope e) refl
+      many_action (Leave c) scope e = length_append_is (term_types scope Condition c) _ (term_size (loop_index k) c) 1 (many c scope Condition ∙ size_at c scope e) refl
 
       many_block : (b : Block) (scope : Scope) → scope.index ≡ loop_index k → length (block_types scope b) ≡ block_size (loop_index k) b
       many_block Done scope e = refl
-      many_block (Then s b) scope e = two (action_types scope s) _ (action_size (loop_index k) s) (block_size (loop_index k) b) (many_action s scope e) (many_block b (after_action scope s) (index_after scope s ∙ e))
+      many_block (Then s b) scope e = length_append_is (action_types scope s) _ (action_size (loop_index k) s) (block_size (loop_index k) b) (many_action s scope e) (many_block b (after_action scope s) (index_after scope s ∙ e))
 
       many_otherwise : (d : Otherwise) (scope : Scope) → scope.index ≡ loop_index k → length (otherwise_types scope d) ≡ otherwise_size (loop_index k) d
       many_otherwise Nothing scope e = refl
@@ -261,7 +261,7 @@ module _ (k : Program) where
       calm_action (Update x op v) scope g e kinds h a = (term_calms v).as_value scope (option_and_then accumulator_type (lookup scope x)) g _ e kinds (from_left g (term_types scope (Value (option_and_then accumulator_type (lookup scope x))) v) _ h) (calm_left (term_entries k g _ v) _ a)
       calm_action (Choose c b d) scope g e kinds h a =
           let scope' : Scope = left scope (after_block scope b) in
-          let h1 = next _ None _ (past c scope Condition g _ e h) in
+          let h1 = next _ None _ (from_past_term c scope Condition g _ e h) in
           let h2 = from_right _ (block_size (loop_index k) b) (block_types scope b) _ (many_block b scope e) h1 in
           let a1 = (calm_right (term_entries k g _ c) _ a).1 in (
             (term_calms c).as_cond scope g _ e kinds.0 (from_left g (term_types scope Condition c) _ h) (calm_left (term_entries k g _ c) _ a),

@@ -22,8 +22,8 @@ copy = record {
 abbrev args : List ℕ
 args = 65536 ∷ 70000 ∷ 100 ∷ []
 
-two : streams_of copy ≡ record { param = 0; offset = pos 0; store = false; item = 4 } ∷ record { param = 1; offset = pos 0; store = true; item = 5 } ∷ []
-two = refl
+copy_streams : streams_of copy ≡ record { param = 0; offset = pos 0; store = false; item = 4 } ∷ record { param = 1; offset = pos 0; store = true; item = 5 } ∷ []
+copy_streams = refl
 
 at_most_one : (p : ℕ) → list_any (is_of p) (streams_of copy) ≡ true → p ≤ 1
 at_most_one zero e = omega arith

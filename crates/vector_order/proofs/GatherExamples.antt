@@ -36,15 +36,15 @@ vector = refl
 abbrev args : List ℕ
 args = 65536 ∷ 70000 ∷ 80000 ∷ 100 ∷ []
 
-two : streams_of gather ≡ record { param = 1; offset = pos 0; store = false; item = 5 } ∷ record { param = 2; offset = pos 0; store = true; item = 7 } ∷ []
-two = refl
+gather_streams : streams_of gather ≡ record { param = 1; offset = pos 0; store = false; item = 5 } ∷ record { param = 2; offset = pos 0; store = true; item = 7 } ∷ []
+gather_streams = refl
 
 unfoldable table : Reach
 table = record { param = 0; reach = 256 }
 
-one : reaches_of gather ≡ table ∷ []
+gather_reaches : reaches_of gather ≡ table ∷ []
 unfolding item_type table
-one = refl
+gather_reaches = refl
 
 one_or_two : (p : ℕ) → list_any (is_of p) (streams_of gather) ≡ true → (p ≡ 1) ⊎ (p ≡ 2)
 one_or_two zero e = absurd cc
@@ -78,7 +78,7 @@ apart_at p q e (inl f) ne z v w = far z (subst (λ x. Within gather args 100 x z
 apart_at p q e (inr f) ne z v w = ne (e ∙ sym f)
 
 is_table : (r : Reach) → Among r (reaches_of gather) → table ≡ r
-is_table r i = by (subst (λ rs. Among r rs) one i)
+is_table r i = by (subst (λ rs. Among r rs) gather_reaches i)
   where
     by : Among r (table ∷ []) → table ≡ r
     by (inl e) = e

@@ -11,7 +11,7 @@ use Rattle.vector_order.specs.Orders.{Share, Lane}
 use Rattle.loop_form.specs.LoopItems.{Bound, operand_at}
 use Rattle.vector_order.specs.Operands.{operand_value}
 use Rattle.vector_order.proofs.HeldNames.{operand_at-append}
-use Rattle.kernel_tree.proofs.Names.{bytes_told}
+use Rattle.kernel_tree.proofs.Names.{bytes_eq-told}
 use Rattle.vector_order.proofs.LaneValues.{EnvBelow, operand_agree}
 use Rattle.vector_order.specs.Shares.{apply_shares}
 use Rattle.kernel_tree.specs.Typing.{Local}
@@ -93,7 +93,7 @@ module _ (is_acc : List ℕ → Bool) where
         (by_test (bytes_eq b.name x) refl (zip_held env ns l z.2 x a))
       where
         by_test : (t : Bool) → bytes_eq b.name x ≡ t → value_at ns x ≡ operand_value names i l (operand_at env x) → unwrap_or (option_map value_of (cond t (Some n) (find (is_named x) ns))) (pos 0) ≡ operand_value names i l (cond t b.source (operand_at env x))
-        by_test true e h = z.1 (ap is_acc (bytes_told b.name x e) ∙ a)
+        by_test true e h = z.1 (ap is_acc (bytes_eq-told b.name x e) ∙ a)
         by_test false e h = h
 
     pub zip_kept : (env : List Bound) (ns : Names) (n : ℕ) (k l : Lane) → EnvBelow env n → Kept n k l → Zip env ns l → Zip env ns k
@@ -115,7 +115,7 @@ module _ (is_acc : List ℕ → Bool) where
     zip_assigned (b ∷ env) (n ∷ ns) x v l a z = by_test (bytes_eq n.name x) refl (zip_assigned env ns x v l a z.2)
       where
         by_test : (t : Bool) → bytes_eq n.name x ≡ t → Zip env (assigned x v ns) l → Zip (b ∷ env) (cond t (named n.name v ∷ ns) (n ∷ assigned x v ns)) l
-        by_test true e h = (z.0, (λ f. let no : false ≡ true = sym f ∙ ap is_acc (z.0 ∙ bytes_told n.name x e) ∙ a in absurd cc), z.2)
+        by_test true e h = (z.0, (λ f. let no : false ≡ true = sym f ∙ ap is_acc (z.0 ∙ bytes_eq-told n.name x e) ∙ a in absurd cc), z.2)
         by_test false e h = (z.0, z.1, h)
 
     pub zip_apply : (shares : List Share) (env : List Bound) (ns : Names) (l : Lane) → AllAcc shares → Zip env ns l → Zip env (apply_shares shares ns) l

@@ -9,12 +9,12 @@ use Rattle.guest_types.specs.Memory.{Memory, loaded}
 use Rattle.kernel_tree.specs.declared.ops.Ty.{Ty}
 use Rattle.kernel_tree.specs.declared.ops.Ty.TheVariants as ty
 use Rattle.kernel_tree.specs.Plain.{Term, Literal, Variable, Element, Unary, Operation, Shift, Conversion, Choice, Comparison, Both, Either, Not, Program}
-use Rattle.kernel_tree.specs.Wrap.{wrap, residue, bits_of, is_signed}
+use Rattle.kernel_tree.specs.Wrap.{wrap, residue, bits_of, is_signed, byte_count}
 use Rattle.kernel_tree.specs.Typing.{Scope, Local, lookup, own, first, has_name, value_type, element_type, index_type}
-use Rattle.kernel_tree.proofs.Names.{bytes_told}
+use Rattle.kernel_tree.proofs.Names.{bytes_eq-told}
 use Rattle.kernel_meaning.specs.TypeValues.{IsOf}
 use Rattle.kernel_meaning.specs.Ranges.{TypeRange, AreRanged}
-use Rattle.kernel_meaning.specs.Eval.{Named, Names, is_named, value_at, read_value, read_element, address, byte_count, on_both, chosen, value, holds}
+use Rattle.kernel_meaning.specs.Eval.{Named, Names, is_named, value_at, read_value, read_element, address, on_both, chosen, value, holds}
 use Rattle.kernel_meaning.specs.Iterate.{named, assigned}
 use Rattle.kernel_meaning.proofs.NameRanges.{found_type}
 use Rattle.kernel_meaning.proofs.TypeRanges.{in_bits, residue-below}
@@ -70,11 +70,11 @@ module _ (is_acc : List ℕ → Bool) where
   typed_ranged (x ∷ xs) [] h = absurd h
   typed_ranged (x ∷ xs) (n ∷ ns) h = (h.0, (λ a. narrow_range (value_type x.binding) n.value h.1), typed_ranged xs ns h.2)
 
-  found_step : (b : Bool) (l : Local) (n : Named) (ls : List Local) (ns : Names) (x : List ℕ) → has_name x l ≡ b → n.name ≡ l.name → (b ≡ true → Narrow (value_type l.binding) n.value) → Narrow (found_type ls x) (value_at ns x) → Narrow (found_type (l ∷ ls) x) (value_at (n ∷ ns) x)
-  found_step true l n ls ns x e same here rest =
+  narrow_found_of_cons : (b : Bool) (l : Local) (n : Named) (ls : List Local) (ns : Names) (x : List ℕ) → has_name x l ≡ b → n.name ≡ l.name → (b ≡ true → Narrow (value_type l.binding) n.value) → Narrow (found_type ls x) (value_at ns x) → Narrow (found_type (l ∷ ls) x) (value_at (n ∷ ns) x)
+  narrow_found_of_cons true l n ls ns x e same here rest =
       let f : is_named x n ≡ true = ap (λ y. bytes_eq y x) same ∙ e in
       rw (e, f) (here refl)
-  found_step false l n ls ns x e same here rest =
+  narrow_found_of_cons false l n ls ns x e same here rest =
       let f : is_named x n ≡ false = ap (λ y. bytes_eq y x) same ∙ e in
       rw (e, f) rest
 
@@ -82,7 +82,7 @@ module _ (is_acc : List ℕ → Bool) where
   typed_found [] [] x free h = tt
   typed_found [] (n ∷ ns) x free h = absurd h
   typed_found (l ∷ ls) [] x free h = absurd h
-  typed_found (l ∷ ls) (n ∷ ns) x free h = found_step (has_name x l) l n ls ns x refl h.0 (λ e. h.1 (ap is_acc (bytes_told l.name x e) ∙ free)) (typed_found ls ns x free h.2)
+  typed_found (l ∷ ls) (n ∷ ns) x free h = narrow_found_of_cons (has_name x l) l n ls ns x refl h.0 (λ e. h.1 (ap is_acc (bytes_eq-told l.name x e) ∙ free)) (typed_found ls ns x free h.2)
 
   pub typed_more : (ls : List Local) (ns : Names) (l : Local) (v : ℤ) → Typed ls ns → Narrow (value_type l.binding) v → Typed (ls ++ l ∷ []) (ns ++ named l.name v ∷ [])
   typed_more [] [] l v k e = (refl, (λ a. e), tt)
@@ -97,7 +97,7 @@ module _ (is_acc : List ℕ → Bool) where
   typed_assigned (l ∷ ls) (n ∷ ns) x v a h = by_test (bytes_eq n.name x) refl (typed_assigned ls ns x v a h.2)
     where
       by_test : (t : Bool) → bytes_eq n.name x ≡ t → Typed ls (assigned x v ns) → Typed (l ∷ ls) (cond t (named n.name v ∷ ns) (n ∷ assigned x v ns))
-      by_test true e rest = (h.0, (λ f. let no : false ≡ true = sym f ∙ ap is_acc (sym h.0 ∙ bytes_told n.name x e) ∙ a in absurd cc), h.2)
+      by_test true e rest = (h.0, (λ f. let no : false ≡ true = sym f ∙ ap is_acc (sym h.0 ∙ bytes_eq-told n.name x e) ∙ a in absurd cc), h.2)
       by_test false e rest = (h.0, h.1, rest)
 
   -- ---- values

@@ -10,7 +10,7 @@ use Rattle.kernel_tree.specs.Plain.{Term, Parameter, Accumulator, PlainLoop, Pro
 use Rattle.kernel_tree.specs.Items.{stream_offset, loop_index, loop_start, term_size, vars_size}
 use Rattle.kernel_tree.specs.Typing.{Scope, Value, declared, check_fault, in_loop, param_scope, var_scope, after_for_loop, block_types, term_types, params_types, vars_types, for_loop_types, answer_types, types_of}
 use Rattle.kernel_tree.specs.declared.fault.Binding.TheVariants as binding
-use Rattle.kernel_tree.proofs.Names.{bytes_same, bytes_told}
+use Rattle.kernel_tree.proofs.Names.{bytes_eq-refl, bytes_eq-told}
 use Rattle.kernel_tree.proofs.Scopes.{param_index, scope_index}
 use Rattle.kernel_tree.proofs.RightKinds.{body-kinds}
 use Rattle.loop_form.specs.declared.stream.Stream.{Stream}
@@ -66,7 +66,7 @@ place_name x y n p [] e f = absurd cc
 place_name x y n p (q ∷ ps) e f = by (bytes_eq q.name x) (bytes_eq q.name y) refl refl e f (place_name x y (n + 1) p ps)
   where
     by : (b c : Bool) → bytes_eq q.name x ≡ b → bytes_eq q.name y ≡ c → cond b (Some n) (place_from x (n + 1) ps) ≡ Some p → cond c (Some n) (place_from y (n + 1) ps) ≡ Some p → (place_from x (n + 1) ps ≡ Some p → place_from y (n + 1) ps ≡ Some p → x ≡ y) → x ≡ y
-    by true true g h e f ih = sym (bytes_told q.name x g) ∙ bytes_told q.name y h
+    by true true g h e f ih = sym (bytes_eq-told q.name x g) ∙ bytes_eq-told q.name y h
     by true false g h e f ih = let at : n ≡ p = cc in let up = place_up y (n + 1) p ps f in absurd (omega (arith, at, up))
     by false true g h e f ih = let at : n ≡ p = cc in let up = place_up x (n + 1) p ps e in absurd (omega (arith, at, up))
     by false false g h e f ih = ih e f
@@ -89,7 +89,7 @@ unstored_place k a p s (e ∷ es) at h is store = let parts = or_parts (stores_t
     stored b (Some r) q (Some c) item ss other (inl one) h same =
         let there : r ≡ p = ap (λ (s : Stream). s.param) one ∙ same in
         let names : b ≡ a = place_name b a 0 p k.params (q ∙ ap Some there) at in
-        let no : true ≡ false = sym (bytes_same a) ∙ ap (λ x. bytes_eq x a) (sym names) ∙ other in
+        let no : true ≡ false = sym (bytes_eq-refl a) ∙ ap (λ x. bytes_eq x a) (sym names) ∙ other in
         cc
 
     here : {c : Content} → e.content ≡ c → In s (filter_map (stream_of k) (e ∷ es)) → In s (cons_option (access_of k c e.item) (filter_map (stream_of k) es))

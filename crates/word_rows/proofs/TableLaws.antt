@@ -1,12 +1,12 @@
 -- What holds of a table of rows that passes its tests.
 use Rattle.std.proofs.Common.{◌≡◌, ℕ, ◌-◌, ◌*◌, ◌/◌, ◌%◌, ◌^◌, ◌<◌, min, max, bit_and, bit_or, true, false, ◌&&◌, cond, eqb, List, [], ◌∷◌, ◌++◌, slice_get, zero, suc, Option, Some, None, inl, inr, refl, sym, ap, ◌∙◌, arith}
 use Rattle.std.specs.Int.{bit_at}
-use Rattle.std.proofs.lemmas.Nat.{and_assoc, and_comm, shl-shr, and_mask}
+use Rattle.std.proofs.lemmas.Nat.{and_assoc, and_comm, shl-shr, and_mask, pow_pos}
 use Rattle.std.proofs.lemmas.Nat.Bits.{same_from_bits, bit_at_and, bit_at_or, and_high}
 use Rattle.std.proofs.lemmas.Bool.{and_parts, and_from, eqb-true, eq-eqb, both_ways, cases_Bool, not-true, cond-true, cond-false, false_from_ne_true}
 use Rattle.std.proofs.lemmas.Option.{same_Some}
 use Rattle.std.specs.Option.{option_or, option_map, IfSome}
-use Rattle.std.proofs.Math.Nat.{mod-eq_of_lt}
+use Rattle.std.proofs.Math.Nat.{mod-eq_of_lt, mod-lt}
 use lib.Bits.{and_zero_r, or_zero_r, or_zero_l}
 use Rattle.word_rows.specs.Field.{Field, number_in, ones_of}
 use Rattle.word_rows.specs.Row.{Row, mask_of, numbers_in, takes, or_into, Instruction, reads, spells, is_clear_of, are_disjoint, with_ones, is_laid_out, are_apart, is_apart_from_all, is_table, Fill, IsInstruction, are_tables_apart}
@@ -27,10 +27,10 @@ or_and c a b = and_comm c (bit_or a b) ∙ and_or a b c ∙ ap (λ x. bit_or x (
 pub and_ones : (w : ℕ) (f : Field) → bit_and w (ones_of f) ≡ number_in w f * 2 ^ f.low
 and_ones w f = and_high w f.width f.low
 
-placed_number : (n : ℕ) (f : Field) → n < 2 ^ f.width → number_in (n * 2 ^ f.low) f ≡ n
+pub placed_number : (n : ℕ) (f : Field) → n < 2 ^ f.width → number_in (n * 2 ^ f.low) f ≡ n
 placed_number n f h = ap (λ x. x % 2 ^ f.width) (shl-shr n f.low) ∙ mod-eq_of_lt h
 
-placed_and_ones : (n : ℕ) (f : Field) → n < 2 ^ f.width → bit_and (n * 2 ^ f.low) (ones_of f) ≡ n * 2 ^ f.low
+pub placed_and_ones : (n : ℕ) (f : Field) → n < 2 ^ f.width → bit_and (n * 2 ^ f.low) (ones_of f) ≡ n * 2 ^ f.low
 placed_and_ones n f h = and_ones (n * 2 ^ f.low) f ∙ ap (λ x. x * 2 ^ f.low) (placed_number n f h)
 
 same_number : (m n k : ℕ) → m * 2 ^ k ≡ n * 2 ^ k → m ≡ n
@@ -45,12 +45,12 @@ spelled_back w m (f ∷ fs) =
 
 -- ---- from numbers to a word and back
 -- a field's number has no bit outside the field
-outside : (n m : ℕ) (f : Field) → n < 2 ^ f.width → bit_and m (ones_of f) ≡ 0 → bit_and (n * 2 ^ f.low) m ≡ 0
+pub outside : (n m : ℕ) (f : Field) → n < 2 ^ f.width → bit_and m (ones_of f) ≡ 0 → bit_and (n * 2 ^ f.low) m ≡ 0
 outside n m f small apart =
     ap (λ x. bit_and x m) (sym (placed_and_ones n f small)) ∙ and_assoc m (n * 2 ^ f.low) (ones_of f)
     ∙ ap (bit_and (n * 2 ^ f.low)) (and_comm (ones_of f) m ∙ apart) ∙ and_zero_r (n * 2 ^ f.low)
 
-or_outside : (v n m : ℕ) (f : Field) → n < 2 ^ f.width → bit_and m (ones_of f) ≡ 0 → bit_and (bit_or v (n * 2 ^ f.low)) m ≡ bit_and v m
+pub or_outside : (v n m : ℕ) (f : Field) → n < 2 ^ f.width → bit_and m (ones_of f) ≡ 0 → bit_and (bit_or v (n * 2 ^ f.low)) m ≡ bit_and v m
 or_outside v n m f small apart =
     and_or v (n * 2 ^ f.low) m ∙ ap (bit_or (bit_and v m)) (outside n m f small apart) ∙ or_zero_r (bit_and v m)
 
@@ -62,7 +62,7 @@ kept_outside v m (f ∷ fs) (n ∷ ns) fill clear =
     kept_outside (bit_or v (n * 2 ^ f.low)) m fs ns fill.1 here.1 ∙ or_outside v n m f fill.0 (eqb-true _ _ here.0)
 
 -- a word that is clear of the fields stays so with a number in a field apart from them
-still_clear : (v n : ℕ) (f : Field) (fs : List Field) → n < 2 ^ f.width → is_clear_of v fs ≡ true → is_clear_of (ones_of f) fs ≡ true → is_clear_of (bit_or v (n * 2 ^ f.low)) fs ≡ true
+pub still_clear : (v n : ℕ) (f : Field) (fs : List Field) → n < 2 ^ f.width → is_clear_of v fs ≡ true → is_clear_of (ones_of f) fs ≡ true → is_clear_of (bit_or v (n * 2 ^ f.low)) fs ≡ true
 still_clear v n f [] small clear apart = refl
 still_clear v n f (g ∷ fs) small clear apart =
     let here = and_parts (eqb (bit_and v (ones_of g)) 0) (is_clear_of v fs) clear in
@@ -239,3 +239,8 @@ same_from_view view (Some y) x same e = ap (λ z. Some z) (same y x (same_Some (
 -- the same where values that are seen alike are one
 pub inverts_exactly : {X Name : Type 0} (row : Name → Row) (names : List Name) (view : X → Instruction Name) (w : ℕ) (r : Option X) → is_table row names ≡ true → option_map view r ≡ reads row names w → ((x : X) → IsInstruction row names (view x)) → ((x y : X) → view x ≡ view y → x ≡ y) → (x : X) → w ≡ spells row (view x) → r ≡ Some x
 inverts_exactly row names view w r ok e valid same x h = same_from_view view r x same (inverts_by row names view w r ok e valid x h)
+
+-- the numbers that a word has in its fields fit them
+pub numbers_in-fit : (word : ℕ) (fields : List Field) → Fill fields (numbers_in word fields)
+numbers_in-fit word [] = tt
+numbers_in-fit word (f ∷ fields) = (mod-lt (word / 2 ^ f.low) (pow_pos f.width), numbers_in-fit word fields)

@@ -8,8 +8,8 @@ at_most_one : (b : Bool) → bool_byte b ≤ 1
 at_most_one true = lit≤ tt
 at_most_one false = lit≤ tt
 
-small : (m : ℕ) (b : Bool) → m ≡ bool_byte b → m ≤ 1
-small m b e = subst (λ k. k ≤ 1) (sym e) (at_most_one b)
+bool_byte_le_1 : (m : ℕ) (b : Bool) → m ≡ bool_byte b → m ≤ 1
+bool_byte_le_1 m b e = subst (λ k. k ≤ 1) (sym e) (at_most_one b)
 
 made : (n z c v : Bool) → let flags : Flags = record { n = n; z = z; c = c; v = v } in flags_in (8 * bool_byte n + 4 * bool_byte z + 2 * bool_byte c + bool_byte v) ≡ flags
 made true true true true = refl
@@ -30,24 +30,24 @@ made false false false true = refl
 made false false false false = refl
 
 pub overflow_mul-result : goal.overflow_mul-result
-overflow_mul-result c = omega (arith, small c.from.result c.args.n c.from.ensures)
+overflow_mul-result c = omega (arith, bool_byte_le_1 c.from.result c.args.n c.from.ensures)
 
 pub overflow_mul-result-2 : goal.overflow_mul-result-2
-overflow_mul-result-2 c = omega (arith, small c.from-2.result c.args.z c.from-2.ensures)
+overflow_mul-result-2 c = omega (arith, bool_byte_le_1 c.from-2.result c.args.z c.from-2.ensures)
 
 pub overflow_add-result : goal.overflow_add-result
-overflow_add-result c = omega (arith, small c.from.result c.args.n c.from.ensures, small c.from-2.result c.args.z c.from-2.ensures)
+overflow_add-result c = omega (arith, bool_byte_le_1 c.from.result c.args.n c.from.ensures, bool_byte_le_1 c.from-2.result c.args.z c.from-2.ensures)
 
 pub overflow_mul-result-3 : goal.overflow_mul-result-3
-overflow_mul-result-3 c = omega (arith, small c.from-3.result c.args.c c.from-3.ensures)
+overflow_mul-result-3 c = omega (arith, bool_byte_le_1 c.from-3.result c.args.c c.from-3.ensures)
 
 pub overflow_add-result-2 : goal.overflow_add-result-2
 overflow_add-result-2 c =
-    omega (arith, small c.from.result c.args.n c.from.ensures, small c.from-2.result c.args.z c.from-2.ensures, small c.from-3.result c.args.c c.from-3.ensures)
+    omega (arith, bool_byte_le_1 c.from.result c.args.n c.from.ensures, bool_byte_le_1 c.from-2.result c.args.z c.from-2.ensures, bool_byte_le_1 c.from-3.result c.args.c c.from-3.ensures)
 
 pub overflow_add-result-3 : goal.overflow_add-result-3
 overflow_add-result-3 c =
-    omega (arith, small c.from.result c.args.n c.from.ensures, small c.from-2.result c.args.z c.from-2.ensures, small c.from-3.result c.args.c c.from-3.ensures, small c.from-4.result c.args.v c.from-4.ensures)
+    omega (arith, bool_byte_le_1 c.from.result c.args.n c.from.ensures, bool_byte_le_1 c.from-2.result c.args.z c.from-2.ensures, bool_byte_le_1 c.from-3.result c.args.c c.from-3.ensures, bool_byte_le_1 c.from-4.result c.args.v c.from-4.ensures)
 
 pub returns : goal.returns
 returns c =

@@ -45,3 +45,31 @@ returns-in-WideAtNumber g c = record {
       answer_as _ _ _ _ _ does (c.wide_at_once-in-WideAtNumber.ensures.answer rest);
   past = c.wide_at_once-in-WideAtNumber.ensures.past;
 }
+
+pub returns-in-AddNumber-clause-answer : goal.returns-in-AddNumber-clause-answer
+returns-in-AddNumber-clause-answer g c rest =
+    ap (λ p. prepared_does p (state_of c.args.core.now c.args.pages.now.memory rest)) c.in-AddNumber.is ∙ c.add_number.ensures c.args.pages.now.memory rest
+
+pub returns-in-LessNumber-clause-answer : goal.returns-in-LessNumber-clause-answer
+returns-in-LessNumber-clause-answer g c rest =
+    ap (λ p. prepared_does p (state_of c.args.core.now c.args.pages.now.memory rest)) c.in-LessNumber.is ∙ c.less_number.ensures c.args.pages.now.memory rest
+
+pub returns-in-Add-clause-answer : goal.returns-in-Add-clause-answer
+returns-in-Add-clause-answer g c rest =
+    ap (λ p. prepared_does p (state_of c.args.core.now c.args.pages.now.memory rest)) c.in-Add.is ∙ c.add.ensures c.args.pages.now.memory rest
+
+pub returns-in-Subtract-clause-answer : goal.returns-in-Subtract-clause-answer
+returns-in-Subtract-clause-answer g c rest =
+    ap (λ p. prepared_does p (state_of c.args.core.now c.args.pages.now.memory rest)) c.in-Subtract.is ∙ c.subtract.ensures c.args.pages.now.memory rest
+
+pub returns-in-CompareNumber-clause-answer : goal.returns-in-CompareNumber-clause-answer
+returns-in-CompareNumber-clause-answer g c rest =
+    ap (λ p. prepared_does p (state_of c.args.core.now c.args.pages.now.memory rest)) c.in-CompareNumber.is ∙ c.compare_number.ensures c.args.pages.now.memory rest
+
+pub returns-in-Compare-clause-answer : goal.returns-in-Compare-clause-answer
+returns-in-Compare-clause-answer g c rest =
+    ap (λ p. prepared_does p (state_of c.args.core.now c.args.pages.now.memory rest)) c.in-Compare.is ∙ c.compare.ensures c.args.pages.now.memory rest
+
+pub returns-in-MultiplyAdd-clause-answer : goal.returns-in-MultiplyAdd-clause-answer
+returns-in-MultiplyAdd-clause-answer g c rest =
+    ap (λ p. prepared_does p (state_of c.args.core.now c.args.pages.now.memory rest)) c.in-MultiplyAdd.is ∙ c.multiply_add.ensures c.args.pages.now.memory rest

@@ -3,17 +3,17 @@ use Rattle.a64_code.specs.View.{multiply_add_name}
 use Rattle.machine_model.specs.Arithmetic.{sum}
 use Rattle.machine_model.specs.Machine.{x_at}
 use Rattle.machine_model.specs.Effects.{act, write}
-use Rattle.a64_machine.proofs.Nothing.{nothing}
+use Rattle.a64_machine.proofs.Nothing.{if_some_of_none}
 use Rattle.a64_machine.proofs.preparing.multiply_add.Goals as goal
 
 pub returns-in_err-rd : goal.returns-in_err-rd
-returns-in_err-rd c pc = nothing _ c.from_residual.result c.from_residual.ensures
+returns-in_err-rd c pc = if_some_of_none _ c.from_residual.result c.from_residual.ensures
 
 pub returns-in_err-rn : goal.returns-in_err-rn
-returns-in_err-rn c pc = nothing _ c.from_residual-in_err-rn.result c.from_residual-in_err-rn.ensures
+returns-in_err-rn c pc = if_some_of_none _ c.from_residual-in_err-rn.result c.from_residual-in_err-rn.ensures
 
 pub returns-in_err-rm : goal.returns-in_err-rm
-returns-in_err-rm c pc = nothing _ c.from_residual-in_err-rm.result c.from_residual-in_err-rm.ensures
+returns-in_err-rm c pc = if_some_of_none _ c.from_residual-in_err-rm.result c.from_residual-in_err-rm.ensures
 
 pub returns-in-Madd : goal.returns-in-Madd
 returns-in-Madd c pc s at =

@@ -1,8 +1,8 @@
-use Rattle.a64_machine.proofs.Nothing.{nothing}
+use Rattle.a64_machine.proofs.Nothing.{if_some_of_none}
 use Rattle.a64_machine.proofs.preparing.wide_register.Goals as goal
 
 pub returns-in_err-rn : goal.returns-in_err-rn
-returns-in_err-rn c pc = nothing _ c.from_residual.result c.from_residual.ensures
+returns-in_err-rn c pc = if_some_of_none _ c.from_residual.result c.from_residual.ensures
 
 pub returns-in_err-rm : goal.returns-in_err-rm
-returns-in_err-rm c pc = nothing _ c.from_residual-in_err-rm.result c.from_residual-in_err-rm.ensures
+returns-in_err-rm c pc = if_some_of_none _ c.from_residual-in_err-rm.result c.from_residual-in_err-rm.ensures

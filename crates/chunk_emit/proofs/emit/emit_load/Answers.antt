@@ -1,11 +1,12 @@
 use Rattle.std.proofs.Common.{◌<◌, w32, sym, ap, ◌∙◌, subst, unsigned_abs}
 use Rattle.std.proofs.lemmas.Int.{to_z-of_z}
 use Rattle.std.proofs.lemmas.Result.{on_ok_weaker}
+use Rattle.guest_types.proofs.Errors.{on_error}
 use Rattle.machine_model.specs.InstructionTable.{Vector}
 use Rattle.label_fix.specs.Draft.{word_view}
 use Rattle.label_fix.specs.Finished.{is_plain}
 use Rattle.chunk_emit.specs.ChunkCode.{load_word, index_of}
-use Rattle.chunk_emit.proofs.Appended.{on_error, emits_indexed}
+use Rattle.chunk_emit.proofs.Appended.{emits_indexed}
 use Rattle.chunk_emit.proofs.emit.emit_load.Goals as goal
 
 pub base_register-requires : goal.base_register-requires

@@ -1,10 +1,11 @@
 use Rattle.std.proofs.Common.{◌≡◌, Some, rules, sym, ap, ◌∙◌}
+use Rattle.guest_types.proofs.Errors.{on_error}
 use Rattle.loop_form.specs.LoopItems as ops
 use Rattle.loop_form.specs.LoopView.{op_of}
 use Rattle.chunk_emit.specs.Registers.{z_of, base_of}
 use Rattle.chunk_emit.specs.ChunkCode.{gather_code, vectors, op_words}
 use Rattle.chunk_emit.specs.View.{layout_in, width_in}
-use Rattle.chunk_emit.proofs.Appended.{on_error, emits_words}
+use Rattle.chunk_emit.proofs.Appended.{emits_words}
 use Rattle.chunk_emit.proofs.emit.emit_op.Goals as goal
 
 pub returns-in_err-emit_load-in-Load-default-default-Some-default : goal.returns-in_err-emit_load-in-Load-default-default-Some-default

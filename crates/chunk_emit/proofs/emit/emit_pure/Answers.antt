@@ -1,11 +1,12 @@
 use Rattle.std.proofs.Common.{[], ◌++◌, if◌then◌else◌, refl, sym, ap, ◌∙◌}
 use Rattle.guest_types.specs.declared.length.Width.{Width}
+use Rattle.guest_types.proofs.Errors.{on_error}
 use Rattle.loop_form.specs.LoopView.{op_of}
 use Rattle.lane_emit.specs.ItemCode.{op_code}
 use Rattle.lane_emit.specs.View.{words_of}
 use Rattle.chunk_emit.specs.ChunkCode.{vectors, puts}
 use Rattle.chunk_emit.specs.View.{layout_in, width_in}
-use Rattle.chunk_emit.proofs.Appended.{on_error, emits_words}
+use Rattle.chunk_emit.proofs.Appended.{emits_words}
 use Rattle.chunk_emit.proofs.emit.emit_pure.Goals as goal
 
 pub returns-in_err-words : goal.returns-in_err-words

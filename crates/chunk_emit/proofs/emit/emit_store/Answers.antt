@@ -1,19 +1,21 @@
 use Rattle.std.proofs.Common.{◌<◌, ◌≤◌, w32, sym, ap, ◌∙◌, subst, unsigned_abs}
 use Rattle.std.proofs.lemmas.Int.{to_z-of_z}
 use Rattle.std.proofs.lemmas.Result.{on_ok_weaker}
+use Rattle.guest_types.proofs.Errors.{on_error}
 use Rattle.machine_model.specs.InstructionTable.{Vector}
 use Rattle.label_fix.specs.Draft.{word_view}
 use Rattle.label_fix.specs.Finished.{is_plain}
 use Rattle.lane_emit.specs.LaneCode.{size_of}
-use Rattle.chunk_emit.specs.ChunkCode.{memory_size, store_word, index_of}
-use Rattle.chunk_emit.proofs.Appended.{on_error, emits_indexed}
+use Rattle.kernel_tree.specs.Wrap.{log_bytes}
+use Rattle.chunk_emit.specs.ChunkCode.{store_word, index_of}
+use Rattle.chunk_emit.proofs.Appended.{emits_indexed}
 use Rattle.chunk_emit.proofs.emit.emit_store.Goals as goal
 
 pub base_register-requires : goal.base_register-requires
 base_register-requires c = c.requires.place.0
 
 pub store-word-requires : goal.store-word-requires
-store-word-requires c = subst (λ w. memory_size c.args.ty ≤ size_of w) (sym c.width.ensures) c.requires.narrow
+store-word-requires c = subst (λ w. log_bytes c.args.ty ≤ size_of w) (sym c.width.ensures) c.requires.narrow
 
 pub emit_index-requires : goal.emit_index-requires
 emit_index-requires c = subst (λ n. unsigned_abs n < 4096) (sym (to_z-of_z w32 c.args.offset c.ranges.offset)) c.requires.place.1

@@ -1,8 +1,8 @@
 use Rattle.std.proofs.Common.{◌+◌, ◌++◌, drop, refl, sym, ap, ◌∙◌, drop_of_length-le}
-use Rattle.loop_form.proofs.LoopLists.{next-entry}
+use Rattle.guest_types.proofs.Errors.{on_error}
+use Rattle.kernel_tree.proofs.Walks.{next_item}
 use Rattle.lane_emit.specs.View.{words_of}
 use Rattle.chunk_emit.specs.ChunkCode.{vectors, puts}
-use Rattle.chunk_emit.proofs.Appended.{on_error}
 use Rattle.chunk_emit.proofs.emit.put_all.Goals as goal
 
 pub loop-word-init : goal.loop-word-init
@@ -15,7 +15,7 @@ pub loop-word-preserved : goal.loop-word-preserved
 loop-word-preserved c =
     let l = c.loop-word in
     let ws = c.args.words.now in
-    let e = next-entry ws l.word-index c.word-item.result c.loop-word-test.true c.word-item.is in
+    let e = next_item ws l.word-index c.word-item.result c.loop-word-test.true c.word-item.is in
     record {
       labels = c.in_ok-put.ensures.labels ∙ l.invariant.labels;
       code = λ rest.

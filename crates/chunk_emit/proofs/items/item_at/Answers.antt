@@ -1,5 +1,5 @@
 use Rattle.std.proofs.Common.{◌∙◌}
-use Rattle.chunk_emit.proofs.Appended.{looked}
+use Rattle.lane_emit.proofs.Looked.{looked}
 use Rattle.chunk_emit.proofs.items.item_at.Goals as goal
 
 pub returns : goal.returns

@@ -1,6 +1,6 @@
 use Rattle.std.proofs.Common.{ap, ◌∙◌}
 use Rattle.std.specs.Prelude.{slice_get}
-use Rattle.chunk_emit.proofs.Appended.{looked}
+use Rattle.lane_emit.proofs.Looked.{looked}
 use Rattle.chunk_emit.proofs.layout.item_with.Goals as goal
 
 pub returns : goal.returns

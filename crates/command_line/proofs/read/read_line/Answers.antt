@@ -2,7 +2,7 @@ use Rattle.std.proofs.Common.{◌∙◌, sym, ap}
 use Rattle.std.specs.Prelude.{string_bytes}
 use Rattle.command_line.specs.Line.{line_of}
 use Rattle.command_line.proofs.Outcomes.{ok_is, no_elements}
-use Rattle.command_line.proofs.FirstWords.{first_and_rest, no_line, other_line, compile_line, check_line, eval_line, list_line, run_line, debug_line, sweep_line, asm_line, pipe_line}
+use Rattle.command_line.proofs.FirstWords.{first_and_rest, no_line, other_line, compile_line, check_line, eval_line, list_line, run_line, debug_line, sweep_line, asm_line, object_line, pipe_line}
 use Rattle.command_line.proofs.read.read_line.Goals as goal
 
 pub returns-in_default : goal.returns-in_default
@@ -48,6 +48,11 @@ returns-in-asm c =
     ok_is _ _ _ _ c.asm.ensures
     (sym (ap line_of (first_and_rest c.args.words.now c.name-item.result c.as_str.result.now c.in-len1-up.len_at_least c.name-item.is c.as_str.ensures.value) ∙ asm_line c.as_str.result.now _ c.in-asm.is))
 
+pub returns-in-object : goal.returns-in-object
+returns-in-object c =
+    ok_is _ _ _ _ c.object.ensures
+    (sym (ap line_of (first_and_rest c.args.words.now c.name-item.result c.as_str.result.now c.in-len1-up.len_at_least c.name-item.is c.as_str.ensures.value) ∙ object_line c.as_str.result.now _ c.in-object.is))
+
 pub returns-in-pipe : goal.returns-in-pipe
 returns-in-pipe c =
     ok_is _ _ _ _ c.pipe.ensures
@@ -57,4 +62,4 @@ pub returns-in_default-as_str : goal.returns-in_default-as_str
 returns-in_default-as_str c =
     let d = c.in_default-as_str in
     sym (ap line_of (first_and_rest c.args.words.now c.name-item.result c.as_str.result.now c.in-len1-up.len_at_least c.name-item.is c.as_str.ensures.value)
-    ∙ other_line c.as_str.result.now _ d.not-compile d.not-check d.not-eval d.not-list d.not-run d.not-debug d.not-sweep d.not-asm d.not-pipe)
+    ∙ other_line c.as_str.result.now _ d.not-compile d.not-check d.not-eval d.not-list d.not-run d.not-debug d.not-sweep d.not-asm d.not-object d.not-pipe)

@@ -39,4 +39,5 @@ returns-clause-code c = record {
   words = c.in-Ok.code.words.items;
   few = c.in-Ok.ensures.short;
   file_is = c.in_ok-file.ensures.file ∙ ap file_of c.deref.ensures.value;
+  reserved = c.in-Ok.ensures.reserved;
 }

@@ -1,6 +1,6 @@
 use Rattle.std.proofs.Common.{◌≡◌, ◌+◌, ◌-◌, ◌*◌, ◌++◌, length, replicate, ap, ◌∙◌, arith}
 use Rattle.machine_model.specs.Load.{segment_byte}
-use Rattle.elf_image.proofs.Laid.{filled, length_filled, page_bytes_are}
+use Rattle.elf_image.proofs.Laid.{page_filled_between, length_filled, page_bytes_are}
 use Rattle.elf_image.proofs.pages.bytes_of_page.Goals as goal
 
 pub put_zeros-requires-2 : goal.put_zeros-requires-2
@@ -9,7 +9,7 @@ put_zeros-requires-2 c =
     let start = 4096 * c.args.number in
     let from = c.clamp-from.result in
     let end = c.clamp-end.result in
-    let e = filled f _ _ _ start from end c.in_ok-page.ensures.items c.in_ok-put_zeros.ensures c.in_ok-put_file_bytes.ensures in
+    let e = page_filled_between f _ _ _ start from end c.in_ok-page.ensures.items c.in_ok-put_zeros.ensures c.in_ok-put_file_bytes.ensures in
     let size = length_filled f _ start from end (omega arith) (omega arith) e in
     omega arith
 
@@ -22,7 +22,7 @@ returns c =
     let from = c.clamp-from.result in
     let end = c.clamp-end.result in
     let second = c.put_file_bytes.new.page.items in
-    let e = filled f _ _ second start from end c.in_ok-page.ensures.items c.in_ok-put_zeros.ensures c.in_ok-put_file_bytes.ensures in
+    let e = page_filled_between f _ _ second start from end c.in_ok-page.ensures.items c.in_ok-put_zeros.ensures c.in_ok-put_file_bytes.ensures in
     let size = length_filled f second start from end (omega arith) (omega arith) e in
     let count : 4096 - length second ≡ start + 4096 - end = omega arith in
     c.in_ok-put_zeros-2.ensures

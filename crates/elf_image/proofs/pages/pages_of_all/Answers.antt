@@ -7,8 +7,8 @@ use Rattle.elf_image.specs.Loadable.{IsLoadable}
 use Rattle.elf_image.proofs.pages.pages_of_all.Goals as goal
 
 -- what one element more gives
-one_more : {A B : Type 0} (f : A → List B) (xs : List A) (i : ℕ) (x : A) → i < length xs → x ≡ get_or xs i x → flat_map f (take i xs) ++ f x ≡ flat_map f (take (i + 1) xs)
-one_more f xs i x some is =
+flat_map_one_on : {A B : Type 0} (f : A → List B) (xs : List A) (i : ℕ) (x : A) → i < length xs → x ≡ get_or xs i x → flat_map f (take i xs) ++ f x ≡ flat_map f (take (i + 1) xs)
+flat_map_one_on f xs i x some is =
     ap (λ l. flat_map f (take i xs) ++ l) (sym (append-nil (f x)))
     ∙ sym (flat_map-append f (take i xs) (x ∷ []))
     ∙ ap (λ y. flat_map f (take i xs ++ y ∷ [])) is
@@ -27,7 +27,7 @@ pub loop-segment-preserved : goal.loop-segment-preserved
 loop-segment-preserved c =
     let f = pages_of c.args.bytes.now in
     c.in_ok-put_pages.ensures ∙ ap (λ l. l ++ f c.segment-item.result) c.loop-segment.invariant
-    ∙ one_more f c.args.segments.now c.loop-segment.segment-index c.segment-item.result c.loop-segment-test.true c.segment-item.is
+    ∙ flat_map_one_on f c.args.segments.now c.loop-segment.segment-index c.segment-item.result c.loop-segment-test.true c.segment-item.is
 
 pub returns : goal.returns
 returns c = c.loop-segment.invariant ∙ ap (flat_map (pages_of c.args.bytes.now)) (take_all c.loop-segment.segment-index c.args.segments.now c.loop-segment-test.false)

@@ -8,7 +8,7 @@ use Rattle.kernel_tree.specs.declared.token.Token.{Token}
 use Rattle.kernel_tree.specs.Grammar.{opening_of_mark}
 use Rattle.expression_syntax.specs.Reading.{mark_at, chain_at, unary_at, signed_by, choice_by, pair_by, absolute_by, term_before}
 use Rattle.expression_syntax.specs.Operands.{joined_by, compared_by}
-use Rattle.expression_syntax.proofs.Chain.{chain-zero, chain-above, fails_on, missed_on, begins, ends, takes, ends_at, refuses}
+use Rattle.expression_syntax.proofs.Chain.{chain-zero, chain-above, fails_on, missed_on, chain_begins_below, chain_without_operator, takes, chain_ends_at_fault, refuses}
 use Rattle.expression_syntax.proofs.Rooms.{opens, unopened}
 use Rattle.expression_syntax.proofs.Within.{reads_go}
 use Rattle.expression_syntax.proofs.Shorter.{chain_short, extended_short}
@@ -30,7 +30,7 @@ chain-returns-in_err-first t c =
 pub chain-more-init : goal.chain-more-init
 chain-more-init t c =
     let short : length (words_of c.in_ok-first.following.now) < length (words_of c.args.tokens.now) = chain_short c.args.room (c.args.level - 1) (words_of c.args.tokens.now) _ c.in_ok-first.ensures in
-    (omega (arith, short, length-map c.in_ok-first.following.now word_of, length-map c.args.tokens.now word_of), begins (unary_at c.args.room) c.args.level (words_of c.args.tokens.now) _ _ (omega arith) c.in_ok-first.ensures)
+    (omega (arith, short, length-map c.in_ok-first.following.now word_of, length-map c.args.tokens.now word_of), chain_begins_below (unary_at c.args.room) c.args.level (words_of c.args.tokens.now) _ _ (omega arith) c.in_ok-first.ensures)
 
 pub chain-returns-in_err-whole : goal.chain-returns-in_err-whole
 chain-returns-in_err-whole t c =
@@ -38,7 +38,7 @@ chain-returns-in_err-whole t c =
     rw (p.1, p.2) (refuses (unary_at c.args.room) c.args.level (words_of c.args.tokens.now) (term_of c.more.left.value) (words_of c.more.rest.now) c.more.invariant.1 c.in-Some.operator (words_of c.in-Some.after.now) _ c.in-Some.ensures.value c.in_err-whole.ensures)
 
 pub chain-returns-then-compares : goal.chain-returns-then-compares
-chain-returns-then-compares t c = ends_at (unary_at c.args.room) c.args.level (words_of c.args.tokens.now) (term_of c.more.left.value) (words_of c.more.rest.now) c.more.invariant.1 c.in-Some.operator (words_of c.in-Some.after.now) _ _ c.in-Some.ensures.value c.in_ok-whole.ensures (sym c.compares.ensures ∙ c.if-compares.true)
+chain-returns-then-compares t c = chain_ends_at_fault (unary_at c.args.room) c.args.level (words_of c.args.tokens.now) (term_of c.more.left.value) (words_of c.more.rest.now) c.more.invariant.1 c.in-Some.operator (words_of c.in-Some.after.now) _ _ c.in-Some.ensures.value c.in_ok-whole.ensures (sym c.compares.ensures ∙ c.if-compares.true)
 
 pub chain-more-preserved : goal.chain-more-preserved
 chain-more-preserved t c =
@@ -52,7 +52,7 @@ chain-more-smaller t c =
     omega (arith, less, c.in-Some.ensures.shorter, length-map c.in_ok-whole.next.now word_of, length-map c.in-Some.after.now word_of, length-map c.more.rest.now word_of)
 
 pub chain-returns : goal.chain-returns
-chain-returns t c = ends (unary_at c.args.room) c.args.level (words_of c.args.tokens.now) (term_of c.more.left.value) (words_of c.more.rest.now) c.more.invariant.1 c.in_default.ensures.value
+chain-returns t c = chain_without_operator (unary_at c.args.room) c.args.level (words_of c.args.tokens.now) (term_of c.more.left.value) (words_of c.more.rest.now) c.more.invariant.1 c.in_default.ensures.value
 
 pub unary-returns-in-None : goal.unary-returns-in-None
 unary-returns-in-None t c =

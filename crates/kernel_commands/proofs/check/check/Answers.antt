@@ -12,8 +12,14 @@ use Rattle.command_answers.specs.Outputs.{Prints}
 use Rattle.command_answers.proofs.Prints.{prints_nothing, prints_part, prints_all}
 use Rattle.command_answers.proofs.Reading.{of_read, of_every, with_output, is_err}
 use Rattle.command_answers.proofs.Exits.{passed_on, steady_read, of_reading, cut_answer, cut_loud, cut_not_file, cut_output, of_refusal, not_refused}
-use Rattle.kernel_commands.proofs.Exits.{read_not_output, steady_anyway, text_not}
+use Rattle.command_answers.proofs.Held.{steady_anyway}
+use Rattle.kernel_commands.proofs.Exits.{read_not_output, text_not}
 use Rattle.kernel_commands.proofs.Expectations.{text_refused}
+use Rattle.std.specs.Prelude.{[], ◌∷◌}
+use Rattle.command_answers.specs.Requests.{IsOk, Read, IsNotOfFiles, task_wants}
+use Rattle.command_answers.proofs.Asks.{fails_asks, ends_asks}
+use Rattle.kernel_commands.proofs.Requested.{text_elsewhere}
+use Rattle.refusals.specs.declared.refusal.Done.TheVariants.{Ended}
 use Rattle.kernel_commands.proofs.check.check.Goals as goal
 
 pub returns-in_err-report-clause-answer : goal.returns-in_err-report-clause-answer
@@ -147,3 +153,22 @@ returns-in_err-report-clause-printed g c =
     (λ work. Prints (g.S.Sink.taken c.args.out.now) (g.S.Sink.taken c.args.out.now) (expected_text work) c.from_residual-in_err-report.result)
     (λ work. subst (Prints (g.S.Sink.taken c.args.out.now) (g.S.Sink.taken c.args.out.now) (expected_text work)) (sym (is_err c.in_err-report.field-0.0 c.from_residual-in_err-report.result c.from_residual-in_err-report.ensures.1))
     (prints_nothing (g.S.Sink.taken c.args.out.now) (expected_text work) c.in_err-report.field-0.0))
+
+pub returns-in_err-text-clause-asked : goal.returns-in_err-text-clause-asked
+returns-in_err-text-clause-asked g c =
+    fails_asks IsNotOfFiles (g.F.Files.requests c.args.files.now) (g.F.Files.requests c.read_file.new.files) (Read c.args.from.now ∷ []) c.in_err-text.field-0.0 c.read_file.result c.from_residual.result
+    c.in_err-text.was (is_err (c.in_err-text.field-0.0) c.from_residual.result c.from_residual.ensures.1) c.read_file.ensures.asked
+
+pub returns-in_err-report-clause-asked : goal.returns-in_err-report-clause-asked
+returns-in_err-report-clause-asked g c =
+    ends_asks IsOk IsNotOfFiles (g.F.Files.requests c.args.files.now) (g.F.Files.requests c.read_file.new.files) (Read c.args.from.now ∷ []) c.in_ok-text.text c.read_file.result c.from_residual-in_err-report.result
+    c.in_ok-text.was (subst IsNotOfFiles (sym (is_err (c.in_err-report.field-0.0) c.from_residual-in_err-report.result c.from_residual-in_err-report.ensures.1)) (text_elsewhere _ c.in_err-report.field-0.0 c.in_err-report.ensures.refusal)) c.read_file.ensures.asked
+
+pub returns-in_err-put_all-clause-asked : goal.returns-in_err-put_all-clause-asked
+returns-in_err-put_all-clause-asked g c =
+    ends_asks IsOk IsNotOfFiles (g.F.Files.requests c.args.files.now) (g.F.Files.requests c.read_file.new.files) (Read c.args.from.now ∷ []) c.in_ok-text.text c.read_file.result c.from_residual-in_err-put_all.result
+    c.in_ok-text.was (subst IsNotOfFiles (sym (is_err (Output) c.from_residual-in_err-put_all.result c.from_residual-in_err-put_all.ensures.1)) (tt)) c.read_file.ensures.asked
+
+pub returns-clause-asked : goal.returns-clause-asked
+returns-clause-asked g c =
+    ends_asks IsOk IsNotOfFiles (g.F.Files.requests c.args.files.now) (g.F.Files.requests c.read_file.new.files) (Read c.args.from.now ∷ []) c.in_ok-text.text c.read_file.result (Ok Ended) c.in_ok-text.was tt c.read_file.ensures.asked

@@ -12,8 +12,13 @@ use Rattle.command_answers.proofs.Prints.{prints_nothing, prints_part, prints_al
 use Rattle.command_answers.proofs.Reading.{of_read, of_every, with_output, is_err}
 use Rattle.kernel_commands.specs.Commands.{EvalExpects, ExpectsEval, IsOfEval}
 use Rattle.command_answers.proofs.Exits.{passed_on, steady_read, of_reading, cut_answer, cut_loud, cut_not_file, cut_output, of_refusal, not_refused}
-use Rattle.kernel_commands.proofs.Exits.{read_not_output, steady_anyway}
+use Rattle.command_answers.proofs.Held.{steady_anyway}
+use Rattle.kernel_commands.proofs.Exits.{read_not_output}
 use Rattle.kernel_commands.proofs.Expectations.{eval_not_run}
+use Rattle.std.specs.Prelude.{[], ◌∷◌}
+use Rattle.command_answers.specs.Requests.{IsOk, Read, IsNotOfFiles, task_wants}
+use Rattle.command_answers.proofs.Asks.{fails_asks, ends_asks}
+use Rattle.kernel_commands.proofs.Requested.{eval_elsewhere}
 use Rattle.kernel_commands.proofs.eval.eval.Goals as goal
 
 pub returns-in_err-run_report-clause-answer : goal.returns-in_err-run_report-clause-answer
@@ -140,3 +145,22 @@ returns-clause-steady g c = λ s. steady_anyway (g.F.Files.held c.args.files.now
 
 pub returns-clause-of_eval : goal.returns-clause-of_eval
 returns-clause-of_eval g c = tt
+
+pub returns-in_err-read-clause-asked : goal.returns-in_err-read-clause-asked
+returns-in_err-read-clause-asked g c =
+    fails_asks IsNotOfFiles (g.F.Files.requests c.args.files.now) (g.F.Files.requests c.read_task.new.files) (task_wants (task_view c.args.task.now)) c.in_err-read.field-0.0 c.read_task.result c.from_residual.result
+    c.in_err-read.was (is_err (c.in_err-read.field-0.0) c.from_residual.result c.from_residual.ensures.1) c.read_task.ensures.asked
+
+pub returns-in_err-run_report-clause-asked : goal.returns-in_err-run_report-clause-asked
+returns-in_err-run_report-clause-asked g c =
+    ends_asks IsOk IsNotOfFiles (g.F.Files.requests c.args.files.now) (g.F.Files.requests c.read_task.new.files) (task_wants (task_view c.args.task.now)) c.in_ok-read.read c.read_task.result c.from_residual-in_err-run_report.result
+    c.in_ok-read.was (subst IsNotOfFiles (sym (is_err (c.in_err-run_report.field-0.0) c.from_residual-in_err-run_report.result c.from_residual-in_err-run_report.ensures.1)) (eval_elsewhere _ c.in_err-run_report.field-0.0 c.in_err-run_report.ensures.refusal)) c.read_task.ensures.asked
+
+pub returns-in_err-put_all-clause-asked : goal.returns-in_err-put_all-clause-asked
+returns-in_err-put_all-clause-asked g c =
+    ends_asks IsOk IsNotOfFiles (g.F.Files.requests c.args.files.now) (g.F.Files.requests c.read_task.new.files) (task_wants (task_view c.args.task.now)) c.in_ok-read.read c.read_task.result c.from_residual-in_err-put_all.result
+    c.in_ok-read.was (subst IsNotOfFiles (sym (is_err (Output) c.from_residual-in_err-put_all.result c.from_residual-in_err-put_all.ensures.1)) (tt)) c.read_task.ensures.asked
+
+pub returns-clause-asked : goal.returns-clause-asked
+returns-clause-asked g c =
+    ends_asks IsOk IsNotOfFiles (g.F.Files.requests c.args.files.now) (g.F.Files.requests c.read_task.new.files) (task_wants (task_view c.args.task.now)) c.in_ok-read.read c.read_task.result (Ok c.in_ok-run_report.run_report.done) c.in_ok-read.was tt c.read_task.ensures.asked

@@ -9,6 +9,7 @@ use Rattle.dependence.specs.Classes.{class_of}
 use Rattle.dependence.specs.declared.reason.Class.{Class}
 use Rattle.dependence.specs.declared.reason.Class.TheVariants.{Vector, Scalar}
 use Rattle.dependence.specs.declared.reason.Why.{Why}
+use Rattle.kernel_compile.proofs.SlowDrafts.{slow_is_close}
 use Rattle.kernel_compile.proofs.compile.scalar_words.Goals as goal
 
 why_scalar : (o : Class) → is_vector o ≡ false → (why : Why) × (o ≡ Scalar why)
@@ -30,3 +31,9 @@ returns-clause-ends c =
     let file = file_of c.in_ok-words.words.items in
     let why = why_scalar (class_of k) c.requires in
     c.faithful_files.ensures.ends k file (c.scalar_files.ensures.slow k file why.0 why.1 (few c.args.kernel.now c.few_params.ensures) c.in_ok-words.ensures.faithful)
+
+pub returns-clause-drafted : goal.returns-clause-drafted
+returns-clause-drafted c =
+    let k = program c.args.kernel.now in
+    let why = why_scalar (class_of k) c.requires in
+    slow_is_close k c.in_ok-words.words.items why.0 why.1 (few c.args.kernel.now c.few_params.ensures) c.in_ok-words.ensures.drafted

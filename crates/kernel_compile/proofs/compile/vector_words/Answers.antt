@@ -12,6 +12,7 @@ use Rattle.loop_form.specs.View.{program}
 use Rattle.machine_model.specs.Written.{file_of}
 use Rattle.dependence.specs.Classes.{class_of}
 use Rattle.promises.specs.Faithful.{FreeEnds, CloseFaithful}
+use Rattle.kernel_compile.specs.Drafted.{AreDrafted, FollowsClosely}
 use Rattle.kernel_compile.proofs.compile.vector_words.Goals as goal
 
 pub emit_vector_code-requires : goal.emit_vector_code-requires
@@ -30,6 +31,7 @@ returns-in_err-regs c =
       ends = IfOk-from_err _ _ failed;
       short = IfOk-from_err _ _ failed;
       reserved = IfOk-from_err _ _ failed;
+      drafted = IfOk-from_err _ _ failed;
       enough = on_error _ _ failed;
       refusal = on_fault (IsRefusal (program c.args.kernel.now)) (c.in_err-regs.field-0.0) _ c.from_residual.ensures.1 c.in_err-regs.ensures.refusal;
     }
@@ -42,6 +44,7 @@ returns-in_err-facts c =
       ends = IfOk-from_err _ _ failed;
       short = IfOk-from_err _ _ failed;
       reserved = IfOk-from_err _ _ failed;
+      drafted = IfOk-from_err _ _ failed;
       enough = on_error _ _ failed;
       refusal = on_fault (IsRefusal (program c.args.kernel.now)) (Memory) _ c.from_residual-in_err-facts.ensures.1 tt;
     }
@@ -54,6 +57,7 @@ returns-in_err-words c =
       ends = IfOk-from_err _ _ failed;
       short = IfOk-from_err _ _ failed;
       reserved = IfOk-from_err _ _ failed;
+      drafted = IfOk-from_err _ _ failed;
       enough = on_error _ _ failed;
       refusal = on_fault (IsRefusal (program c.args.kernel.now)) (Memory) _ c.from_residual-in_err-words.ensures.1 tt;
     }
@@ -64,6 +68,7 @@ returns c = record {
   ends = subst (λ (kernel : Checked). FreeEnds (program kernel) (file_of c.in_ok-words.words.items)) c.in_ok-facts.ensures c.in_ok-words.ensures.ends;
   short = subst (λ (kernel : Checked). length c.in_ok-words.words.items ≤ 1000 + 60 * size_of (program kernel)) c.in_ok-facts.ensures c.in_ok-words.ensures.short;
   reserved = c.in_ok-words.ensures.reserved;
+  drafted = subst (λ (kernel : Checked). AreDrafted (FollowsClosely (program kernel)) c.in_ok-words.words.items) c.in_ok-facts.ensures c.in_ok-words.ensures.drafted;
   enough = c.in_ok-regs.ensures.enough;
   refusal = tt;
 }

@@ -12,8 +12,8 @@ use Rattle.scalar_words.specs.KernelRegisters.{register_in}
 use Rattle.promises.specs.Reserved.{LeavesReserved}
 use Rattle.kernel_compile.proofs.ReservedWords.{lanes_alone}
 use Rattle.kernel_compile.proofs.VectorJoin.{IsJoined}
-use Rattle.kernel_compile.proofs.VectorFiles.{Promised, vector_file}
-use Rattle.kernel_compile.proofs.VectorEmitted.{Emitted, is_whole, label_given, label_placed, few_words}
+use Rattle.kernel_compile.proofs.VectorFiles.{Promised, vector_file, vector_followed}
+use Rattle.kernel_compile.proofs.VectorEmitted.{Emitted, is_whole, label_given, label_placed, vector_code_words_le}
 use Rattle.kernel_compile.proofs.emit.emit_vector_code.Goals as goal
 
 sound : (kernel : Checked) → check_fault (program kernel) ≡ None
@@ -94,7 +94,7 @@ finish-requires c =
       guard = c.in_ok-guard.ensures.emits.code;
       lanes = c.in_ok-emit_vector.ensures.emits.code;
     } in
-    let few = few_words d c.in_ok-emit_begin.ensures.words c.in_ok-scalar.ensures.words c.in_ok-guard.ensures.words c.in_ok-emit_vector.ensures.words in
+    let few = vector_code_words_le d c.in_ok-emit_begin.ensures.words c.in_ok-scalar.ensures.words c.in_ok-guard.ensures.words c.in_ok-emit_vector.ensures.words in
     record { few = omega (arith, few, c.few_items.ensures.size) }
 
 -- the drafts, one after another
@@ -123,17 +123,15 @@ drafts c = record {
 pub returns-clause-short : goal.returns-clause-short
 returns-clause-short c =
     let k = program c.args.facts.now.kernel.now in
-    let few = few_words (drafts c) c.in_ok-emit_begin.ensures.words c.in_ok-scalar.ensures.words c.in_ok-guard.ensures.words c.in_ok-emit_vector.ensures.words in
+    let few = vector_code_words_le (drafts c) c.in_ok-emit_begin.ensures.words c.in_ok-scalar.ensures.words c.in_ok-guard.ensures.words c.in_ok-emit_vector.ensures.words in
     let n = ap length c.in_ok-words.ensures.words in
     omega (arith, few, n, words_length c.emit_vector.new.draft.entries)
 
-promised : (c : goal.After-have_32_bits) → Promised (program c.args.facts.now.kernel.now) (file_of c.in_ok-words.words.items)
-promised c =
+registers_are_joined : (c : goal.After-have_32_bits) → IsJoined (program c.args.facts.now.kernel.now) c.args.regs.now.z c.args.regs.now.p c.args.regs.now.x
+registers_are_joined c =
     let k = program c.args.facts.now.kernel.now in
     let arrays = few-arrays k (sound c.args.facts.now.kernel.now) (few_params k (spelled c.args.facts.now.kernel.now)) in
-    let few = few_words (drafts c) c.in_ok-emit_begin.ensures.words c.in_ok-scalar.ensures.words c.in_ok-guard.ensures.words c.in_ok-emit_vector.ensures.words in
-    let small : All (λ w. w < 2 ^ 32) c.in_ok-words.words.items = subst (λ ws. All (λ w. w < 2 ^ 32) ws) c.deref-3.ensures.value c.have_32_bits.ensures in
-    let joined : IsJoined k c.args.regs.now.z c.args.regs.now.p c.args.regs.now.x = record {
+    record {
       spelled = spelled c.args.facts.now.kernel.now;
       sound = sound c.args.facts.now.kernel.now;
       vector = c.requires.class;
@@ -146,8 +144,14 @@ promised c =
       runs = c.scalar_runs.ensures;
       meets = c.meets_apart.ensures;
       vectors = c.vector_runs.ensures;
-    } in
-    vector_file k c.args.regs.now.z c.args.regs.now.p c.args.regs.now.x c.emit_vector.new.draft.labels _ _ _ c.emit_vector.new.draft.entries c.in_ok-words.words.items joined (is_whole (drafts c)) c.in_ok-words.ensures.fit (omega (arith, few, c.few_items.ensures.size)) c.in_ok-words.ensures.words small
+    }
+
+promised : (c : goal.After-have_32_bits) → Promised (program c.args.facts.now.kernel.now) (file_of c.in_ok-words.words.items)
+promised c =
+    let k = program c.args.facts.now.kernel.now in
+    let few = vector_code_words_le (drafts c) c.in_ok-emit_begin.ensures.words c.in_ok-scalar.ensures.words c.in_ok-guard.ensures.words c.in_ok-emit_vector.ensures.words in
+    let small : All (λ w. w < 2 ^ 32) c.in_ok-words.words.items = subst (λ ws. All (λ w. w < 2 ^ 32) ws) c.deref-3.ensures.value c.have_32_bits.ensures in
+    vector_file k c.args.regs.now.z c.args.regs.now.p c.args.regs.now.x c.emit_vector.new.draft.labels _ _ _ c.emit_vector.new.draft.entries c.in_ok-words.words.items (registers_are_joined c) (is_whole (drafts c)) c.in_ok-words.ensures.fit (omega (arith, few, c.few_items.ensures.size)) c.in_ok-words.ensures.words small
 
 pub returns-clause-close : goal.returns-clause-close
 returns-clause-close c = (promised c).close
@@ -162,44 +166,60 @@ returns-clause-reserved c =
     let alone = lanes_alone (drafts c) (c.scalar_code_leaves.ensures.begin c.label.new.self.labels) (c.scalar_code_leaves.ensures.scalar c.branch-draft.new.self.labels) (c.guard_leaves.ensures k scalar c.place.new.self.labels) (c.vector_code_leaves.ensures c.args.regs.now.z c.args.regs.now.p scalar c.guard.new.draft.labels) in
     subst (λ ws. All LeavesReserved ws) (sym c.in_ok-words.ensures.words) (c.words_leave.ensures c.emit_vector.new.draft.labels c.emit_vector.new.draft.entries c.in_ok-words.ensures.fit alone)
 
+pub returns-clause-drafted : goal.returns-clause-drafted
+returns-clause-drafted c =
+    let k = program c.args.facts.now.kernel.now in
+    let scalar = c.in_ok-scalar.field-0.at_iteration in
+    let few = vector_code_words_le (drafts c) c.in_ok-emit_begin.ensures.words c.in_ok-scalar.ensures.words c.in_ok-guard.ensures.words c.in_ok-emit_vector.ensures.words in
+    let follows = vector_followed k c.args.regs.now.z c.args.regs.now.p c.args.regs.now.x c.emit_vector.new.draft.labels _ _ _ c.emit_vector.new.draft.entries (registers_are_joined c) (is_whole (drafts c)) c.in_ok-words.ensures.fit in
+    record {
+      entries = c.emit_vector.new.draft.entries;
+      labels = c.emit_vector.new.draft.labels;
+      is = c.in_ok-words.ensures.words;
+      fit = c.in_ok-words.ensures.fit;
+      few = omega (arith, few, c.few_items.ensures.size);
+      alone = lanes_alone (drafts c) (c.scalar_code_leaves.ensures.begin c.label.new.self.labels) (c.scalar_code_leaves.ensures.scalar c.branch-draft.new.self.labels) (c.guard_leaves.ensures k scalar c.place.new.self.labels) (c.vector_code_leaves.ensures c.args.regs.now.z c.args.regs.now.p scalar c.guard.new.draft.labels);
+      holds = (follows.close, follows.ends);
+    }
+
 -- ---- where a call fails
 
 pub returns-in_err-vector : goal.returns-in_err-vector
 returns-in_err-vector c =
     let failed = c.from_residual.ensures.0 in
-    record { close = IfOk-from_err _ _ failed; ends = IfOk-from_err _ _ failed; short = IfOk-from_err _ _ failed; reserved = IfOk-from_err _ _ failed }
+    record { close = IfOk-from_err _ _ failed; ends = IfOk-from_err _ _ failed; short = IfOk-from_err _ _ failed; reserved = IfOk-from_err _ _ failed; drafted = IfOk-from_err _ _ failed }
 
 pub returns-in_err-emit_begin : goal.returns-in_err-emit_begin
 returns-in_err-emit_begin c =
     let failed = c.from_residual-in_err-emit_begin.ensures.0 in
-    record { close = IfOk-from_err _ _ failed; ends = IfOk-from_err _ _ failed; short = IfOk-from_err _ _ failed; reserved = IfOk-from_err _ _ failed }
+    record { close = IfOk-from_err _ _ failed; ends = IfOk-from_err _ _ failed; short = IfOk-from_err _ _ failed; reserved = IfOk-from_err _ _ failed; drafted = IfOk-from_err _ _ failed }
 
 pub returns-in_err-branch : goal.returns-in_err-branch
 returns-in_err-branch c =
     let failed = c.from_residual-in_err-branch.ensures.0 in
-    record { close = IfOk-from_err _ _ failed; ends = IfOk-from_err _ _ failed; short = IfOk-from_err _ _ failed; reserved = IfOk-from_err _ _ failed }
+    record { close = IfOk-from_err _ _ failed; ends = IfOk-from_err _ _ failed; short = IfOk-from_err _ _ failed; reserved = IfOk-from_err _ _ failed; drafted = IfOk-from_err _ _ failed }
 
 pub returns-in_err-scalar : goal.returns-in_err-scalar
 returns-in_err-scalar c =
     let failed = c.from_residual-in_err-scalar.ensures.0 in
-    record { close = IfOk-from_err _ _ failed; ends = IfOk-from_err _ _ failed; short = IfOk-from_err _ _ failed; reserved = IfOk-from_err _ _ failed }
+    record { close = IfOk-from_err _ _ failed; ends = IfOk-from_err _ _ failed; short = IfOk-from_err _ _ failed; reserved = IfOk-from_err _ _ failed; drafted = IfOk-from_err _ _ failed }
 
 pub returns-in_err-place : goal.returns-in_err-place
 returns-in_err-place c =
     let failed = c.from_residual-in_err-place.ensures.0 in
-    record { close = IfOk-from_err _ _ failed; ends = IfOk-from_err _ _ failed; short = IfOk-from_err _ _ failed; reserved = IfOk-from_err _ _ failed }
+    record { close = IfOk-from_err _ _ failed; ends = IfOk-from_err _ _ failed; short = IfOk-from_err _ _ failed; reserved = IfOk-from_err _ _ failed; drafted = IfOk-from_err _ _ failed }
 
 pub returns-in_err-guard : goal.returns-in_err-guard
 returns-in_err-guard c =
     let failed = c.from_residual-in_err-guard.ensures.0 in
-    record { close = IfOk-from_err _ _ failed; ends = IfOk-from_err _ _ failed; short = IfOk-from_err _ _ failed; reserved = IfOk-from_err _ _ failed }
+    record { close = IfOk-from_err _ _ failed; ends = IfOk-from_err _ _ failed; short = IfOk-from_err _ _ failed; reserved = IfOk-from_err _ _ failed; drafted = IfOk-from_err _ _ failed }
 
 pub returns-in_err-emit_vector : goal.returns-in_err-emit_vector
 returns-in_err-emit_vector c =
     let failed = c.from_residual-in_err-emit_vector.ensures.0 in
-    record { close = IfOk-from_err _ _ failed; ends = IfOk-from_err _ _ failed; short = IfOk-from_err _ _ failed; reserved = IfOk-from_err _ _ failed }
+    record { close = IfOk-from_err _ _ failed; ends = IfOk-from_err _ _ failed; short = IfOk-from_err _ _ failed; reserved = IfOk-from_err _ _ failed; drafted = IfOk-from_err _ _ failed }
 
 pub returns-in_err-words : goal.returns-in_err-words
 returns-in_err-words c =
     let failed = c.from_residual-in_err-words.ensures.0 in
-    record { close = IfOk-from_err _ _ failed; ends = IfOk-from_err _ _ failed; short = IfOk-from_err _ _ failed; reserved = IfOk-from_err _ _ failed }
+    record { close = IfOk-from_err _ _ failed; ends = IfOk-from_err _ _ failed; short = IfOk-from_err _ _ failed; reserved = IfOk-from_err _ _ failed; drafted = IfOk-from_err _ _ failed }

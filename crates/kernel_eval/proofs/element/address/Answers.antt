@@ -9,5 +9,5 @@ pub returns : goal.returns
 returns c =
     let base = c.word.ensures ∙ ap word (to_z-of_z w128 c.args.base c.ranges.base) in
     let number = c.word-2.ensures ∙ ap word (to_z-of_z w128 c.args.number c.ranges.number) in
-    let count = c.from.ensures ∙ c.byte_count.ensures.value in
+    let count = c.from.ensures ∙ c.bytes.ensures.value in
     ap₂ (λ a m. (a + m) % 2 ^ 64) base (ap₂ (λ n w. (n * w) % 2 ^ 64) count number) ∙ address_is c.args.ty c.args.base c.args.number

@@ -6,9 +6,9 @@ use Rattle.std.proofs.lemmas.List.{append-nil}
 use Rattle.std.proofs.Math.ListN.{drop_of_length-le}
 use Rattle.kernel_tree.specs.declared.ast.Param.{Param}
 use Rattle.kernel_tree.specs.Plain.{parameter_of, parameters_of}
+use Rattle.kernel_tree.proofs.Walks.{next_item}
 use Rattle.kernel_meaning.specs.Eval.{value_of}
 use Rattle.kernel_meaning.specs.ScalarRun as running
-use Rattle.kernel_plan.proofs.ListWalks.{next_item}
 use Rattle.kernel_eval.proofs.IterationWalks.{given_step}
 use Rattle.kernel_eval.proofs.start.argument_names.Goals as goal
 

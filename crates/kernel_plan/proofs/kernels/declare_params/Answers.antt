@@ -4,8 +4,8 @@ use Rattle.std.proofs.lemmas.Result.{IfOk-from_err}
 use Rattle.kernel_tree.specs.declared.ast.Param.{Param}
 use Rattle.kernel_tree.specs.Plain.{name_of, parameters_of}
 use Rattle.kernel_tree.specs.Typing.{declared, after_params}
+use Rattle.kernel_tree.proofs.Walks.{next_item}
 use Rattle.kernel_scope.specs.Scopes.{scope_of}
-use Rattle.kernel_plan.proofs.ListWalks.{next_item}
 use Rattle.kernel_plan.proofs.kernels.declare_params.Goals as goal
 
 pub loop-param-init : goal.loop-param-init

@@ -4,11 +4,12 @@ use Rattle.std.proofs.lemmas.Result.{IfOk-from_err}
 use Rattle.kernel_tree.specs.declared.ast.Var.{Var}
 use Rattle.kernel_tree.specs.Plain.{accumulator_of, accumulators_of}
 use Rattle.kernel_tree.specs.Typing.{after_vars}
+use Rattle.kernel_tree.proofs.Walks.{next_item}
 use Rattle.kernel_scope.specs.Scopes.{scope_of}
 use Rattle.kernel_plan.specs.Trees.{Set, tasks_of, followed}
 use Rattle.kernel_plan.specs.declared.step.Step.TheVariants as step
 use Rattle.kernel_plan.specs.Plans as plans
-use Rattle.kernel_plan.proofs.ListWalks.{next_item, vars_go_on, followed-done}
+use Rattle.kernel_plan.proofs.ListWalks.{vars_go_on, followed-done}
 use Rattle.kernel_plan.proofs.kernels.push_vars.Goals as goal
 
 pub loop-var-preserved : goal.loop-var-preserved

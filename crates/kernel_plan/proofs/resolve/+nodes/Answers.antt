@@ -9,12 +9,13 @@ use Rattle.kernel_tree.specs.declared.ops.Ty.TheVariants as ty
 use Rattle.kernel_tree.specs.Plain.{Literal, Variable, Element, Unary, Operation, Shift, Conversion, Choice, Comparison, Both, Either, Not, name_of, term_of}
 use Rattle.kernel_tree.specs.Limits.{term_depth}
 use Rattle.kernel_tree.specs.Typing.{first, own, array_type}
+use Rattle.kernel_tree.proofs.Measures.{four_1_to_0, four_2_to_1, four_3_to_2, four_2_to_left_1, four_2_to_right_1}
 use Rattle.kernel_scope.specs.Scopes.{scope_of}
 use Rattle.kernel_meaning.specs.Operators.{wrapped}
 use Rattle.kernel_plan.specs.Trees as trees
 use Rattle.kernel_plan.specs.Trees.{tree_of}
 use Rattle.kernel_plan.specs.Resolve.{slot_of, stream_tree, resolved, number_tree}
-use Rattle.kernel_plan.proofs.NodeWalks.{called, operand_called, as_whole, one_below, number_below, pair_below, left_below, right_below, condition_below, values_below, stream_read, computed_read}
+use Rattle.kernel_plan.proofs.NodeWalks.{four_3_called, operand_called, as_whole, four_3_to_first_1, four_3_to_others_2, stream_read, computed_read}
 use Rattle.kernel_plan.proofs.resolve.+nodes.Goals as goal
 
 -- ---- an expression by its kind
@@ -27,7 +28,7 @@ resolve-returns-in-Var t c =
 pub resolve-resolve_read-requires : goal.resolve-resolve_read-requires
 resolve-resolve_read-requires t c =
     let is : term_of c.args.expr.now ≡ Element (name_of c.in-Read.array) (term_of c.deref.result.now) = ap term_of c.in-Read.is ∙ ap (λ (e : Expr). Element (name_of c.in-Read.array) (term_of e)) (sym c.deref.ensures) in
-    (called t (term_of c.args.expr.now) c.decreases (Element (name_of c.in-Read.array) (term_of c.deref.result.now)) (term_depth (term_of c.deref.result.now)) is refl, tt)
+    (four_3_called t (term_of c.args.expr.now) c.decreases (Element (name_of c.in-Read.array) (term_of c.deref.result.now)) (term_depth (term_of c.deref.result.now)) is refl, tt)
 
 pub resolve-returns-in-Read : goal.resolve-returns-in-Read
 resolve-returns-in-Read t c =
@@ -50,7 +51,7 @@ resolve-returns-in_ok-operand-in-Unary t c =
 pub resolve-resolve_binary-requires : goal.resolve-resolve_binary-requires
 resolve-resolve_binary-requires t c =
     let is : term_of c.args.expr.now ≡ Operation c.in-Binary.op (term_of c.deref-in-Binary.result.now) (term_of c.deref-in-Binary-2.result.now) = ap term_of c.in-Binary.is ∙ ap₂ (λ (e f : Expr). Operation c.in-Binary.op (term_of e) (term_of f)) (sym c.deref-in-Binary.ensures) (sym c.deref-in-Binary-2.ensures) in
-    (called t (term_of c.args.expr.now) c.decreases (Operation c.in-Binary.op (term_of c.deref-in-Binary.result.now) (term_of c.deref-in-Binary-2.result.now)) (max (term_depth (term_of c.deref-in-Binary.result.now)) (term_depth (term_of c.deref-in-Binary-2.result.now))) is refl, tt)
+    (four_3_called t (term_of c.args.expr.now) c.decreases (Operation c.in-Binary.op (term_of c.deref-in-Binary.result.now) (term_of c.deref-in-Binary-2.result.now)) (max (term_depth (term_of c.deref-in-Binary.result.now)) (term_depth (term_of c.deref-in-Binary-2.result.now))) is refl, tt)
 
 pub resolve-returns-in-Binary : goal.resolve-returns-in-Binary
 resolve-returns-in-Binary t c =
@@ -86,7 +87,7 @@ resolve-returns-in_ok-operand-in-Cast t c =
 pub resolve-resolve_select-requires : goal.resolve-resolve_select-requires
 resolve-resolve_select-requires t c =
     let is : term_of c.args.expr.now ≡ Choice (term_of c.deref-in-Select.result.now) (term_of c.deref-in-Select-2.result.now) (term_of c.deref-in-Select-3.result.now) = ap term_of c.in-Select.is ∙ ap₂ (λ (e f : Expr). Choice (term_of e) (term_of f) (term_of c.in-Select.no.value)) (sym c.deref-in-Select.ensures) (sym c.deref-in-Select-2.ensures) ∙ ap (λ (e : Expr). Choice (term_of c.deref-in-Select.result.now) (term_of c.deref-in-Select-2.result.now) (term_of e)) (sym c.deref-in-Select-3.ensures) in
-    (called t (term_of c.args.expr.now) c.decreases (Choice (term_of c.deref-in-Select.result.now) (term_of c.deref-in-Select-2.result.now) (term_of c.deref-in-Select-3.result.now)) (max (term_depth (term_of c.deref-in-Select.result.now)) (max (term_depth (term_of c.deref-in-Select-2.result.now)) (term_depth (term_of c.deref-in-Select-3.result.now)))) is refl, tt)
+    (four_3_called t (term_of c.args.expr.now) c.decreases (Choice (term_of c.deref-in-Select.result.now) (term_of c.deref-in-Select-2.result.now) (term_of c.deref-in-Select-3.result.now)) (max (term_depth (term_of c.deref-in-Select.result.now)) (max (term_depth (term_of c.deref-in-Select-2.result.now)) (term_depth (term_of c.deref-in-Select-3.result.now)))) is refl, tt)
 
 pub resolve-returns-in-Select : goal.resolve-returns-in-Select
 resolve-returns-in-Select t c =
@@ -96,7 +97,7 @@ resolve-returns-in-Select t c =
 pub resolve-resolve_compared-requires : goal.resolve-resolve_compared-requires
 resolve-resolve_compared-requires t c =
     let is : term_of c.args.expr.now ≡ Comparison c.in-Compare.op (term_of c.deref-in-Compare.result.now) (term_of c.deref-in-Compare-2.result.now) = ap term_of c.in-Compare.is ∙ ap₂ (λ (e f : Expr). Comparison c.in-Compare.op (term_of e) (term_of f)) (sym c.deref-in-Compare.ensures) (sym c.deref-in-Compare-2.ensures) in
-    (called t (term_of c.args.expr.now) c.decreases (Comparison c.in-Compare.op (term_of c.deref-in-Compare.result.now) (term_of c.deref-in-Compare-2.result.now)) (max (term_depth (term_of c.deref-in-Compare.result.now)) (term_depth (term_of c.deref-in-Compare-2.result.now))) is refl, tt)
+    (four_3_called t (term_of c.args.expr.now) c.decreases (Comparison c.in-Compare.op (term_of c.deref-in-Compare.result.now) (term_of c.deref-in-Compare-2.result.now)) (max (term_depth (term_of c.deref-in-Compare.result.now)) (term_depth (term_of c.deref-in-Compare-2.result.now))) is refl, tt)
 
 pub resolve-returns-in-Compare : goal.resolve-returns-in-Compare
 resolve-returns-in-Compare t c =
@@ -106,7 +107,7 @@ resolve-returns-in-Compare t c =
 pub resolve-resolve_both-requires : goal.resolve-resolve_both-requires
 resolve-resolve_both-requires t c =
     let is : term_of c.args.expr.now ≡ Both (term_of c.deref-in-And.result.now) (term_of c.deref-in-And-2.result.now) = ap term_of c.in-And.is ∙ ap₂ (λ (e f : Expr). Both (term_of e) (term_of f)) (sym c.deref-in-And.ensures) (sym c.deref-in-And-2.ensures) in
-    (called t (term_of c.args.expr.now) c.decreases (Both (term_of c.deref-in-And.result.now) (term_of c.deref-in-And-2.result.now)) (max (term_depth (term_of c.deref-in-And.result.now)) (term_depth (term_of c.deref-in-And-2.result.now))) is refl, tt)
+    (four_3_called t (term_of c.args.expr.now) c.decreases (Both (term_of c.deref-in-And.result.now) (term_of c.deref-in-And-2.result.now)) (max (term_depth (term_of c.deref-in-And.result.now)) (term_depth (term_of c.deref-in-And-2.result.now))) is refl, tt)
 
 pub resolve-returns-in-And : goal.resolve-returns-in-And
 resolve-returns-in-And t c =
@@ -116,7 +117,7 @@ resolve-returns-in-And t c =
 pub resolve-resolve_either-requires : goal.resolve-resolve_either-requires
 resolve-resolve_either-requires t c =
     let is : term_of c.args.expr.now ≡ Either (term_of c.deref-in-Or.result.now) (term_of c.deref-in-Or-2.result.now) = ap term_of c.in-Or.is ∙ ap₂ (λ (e f : Expr). Either (term_of e) (term_of f)) (sym c.deref-in-Or.ensures) (sym c.deref-in-Or-2.ensures) in
-    (called t (term_of c.args.expr.now) c.decreases (Either (term_of c.deref-in-Or.result.now) (term_of c.deref-in-Or-2.result.now)) (max (term_depth (term_of c.deref-in-Or.result.now)) (term_depth (term_of c.deref-in-Or-2.result.now))) is refl, tt)
+    (four_3_called t (term_of c.args.expr.now) c.decreases (Either (term_of c.deref-in-Or.result.now) (term_of c.deref-in-Or-2.result.now)) (max (term_depth (term_of c.deref-in-Or.result.now)) (term_depth (term_of c.deref-in-Or-2.result.now))) is refl, tt)
 
 pub resolve-returns-in-Or : goal.resolve-returns-in-Or
 resolve-returns-in-Or t c =
@@ -139,7 +140,7 @@ resolve-returns-in_ok-operand-in-Not t c =
 -- ---- operands
 
 pub operand-resolve-requires : goal.operand-resolve-requires
-operand-resolve-requires t c = (one_below t (term_depth (term_of c.args.expr.now)) c.decreases, tt)
+operand-resolve-requires t c = (four_1_to_0 t (term_depth (term_of c.args.expr.now)) c.decreases, tt)
 
 pub operand-returns-in_err-node : goal.operand-returns-in_err-node
 operand-returns-in_err-node t c = IfOk-from_err _ _ c.from_residual.ensures.0
@@ -151,10 +152,10 @@ pub operand-returns : goal.operand-returns
 operand-returns t c = ap tree_of c.in_ok-new.ensures.ok ∙ c.in_ok-node.ensures
 
 pub operands-operand-requires : goal.operands-operand-requires
-operands-operand-requires t c = (left_below t (term_depth (term_of c.args.left.now)) (term_depth (term_of c.args.right.now)) c.decreases, tt)
+operands-operand-requires t c = (four_2_to_left_1 t (term_depth (term_of c.args.left.now)) (term_depth (term_of c.args.right.now)) c.decreases, tt)
 
 pub operands-operand-requires-2 : goal.operands-operand-requires-2
-operands-operand-requires-2 t c = (right_below t (term_depth (term_of c.args.left.now)) (term_depth (term_of c.args.right.now)) c.decreases, tt)
+operands-operand-requires-2 t c = (four_2_to_right_1 t (term_depth (term_of c.args.left.now)) (term_depth (term_of c.args.right.now)) c.decreases, tt)
 
 pub operands-returns-in_err-left : goal.operands-returns-in_err-left
 operands-returns-in_err-left t c =
@@ -172,13 +173,13 @@ operands-returns t c = record { left = c.in_ok-left.ensures; right = c.in_ok-rig
 -- ---- an element
 
 pub resolve_number-resolve-requires : goal.resolve_number-resolve-requires
-resolve_number-resolve-requires t c = (one_below t (term_depth (term_of c.args.index.now)) c.decreases, tt)
+resolve_number-resolve-requires t c = (four_1_to_0 t (term_depth (term_of c.args.index.now)) c.decreases, tt)
 
 pub resolve_read-resolve_element-requires : goal.resolve_read-resolve_element-requires
-resolve_read-resolve_element-requires t c = (pair_below t (term_depth (term_of c.args.index.now)) c.decreases, tt)
+resolve_read-resolve_element-requires t c = (four_3_to_2 t (term_depth (term_of c.args.index.now)) c.decreases, tt)
 
 pub resolve_element-resolve_number-requires : goal.resolve_element-resolve_number-requires
-resolve_element-resolve_number-requires t c = (number_below t (term_depth (term_of c.args.index.now)) c.decreases, tt)
+resolve_element-resolve_number-requires t c = (four_2_to_1 t (term_depth (term_of c.args.index.now)) c.decreases, tt)
 
 pub resolve_element-returns-in_err-resolve_number : goal.resolve_element-returns-in_err-resolve_number
 resolve_element-returns-in_err-resolve_number t c = IfOk-from_err _ _ c.from_residual.ensures.0
@@ -194,7 +195,7 @@ resolve_element-returns t c =
 -- ---- an operator and its operands
 
 pub resolve_binary-operands-requires : goal.resolve_binary-operands-requires
-resolve_binary-operands-requires t c = (pair_below t (max (term_depth (term_of c.args.left.now)) (term_depth (term_of c.args.right.now))) c.decreases, tt)
+resolve_binary-operands-requires t c = (four_3_to_2 t (max (term_depth (term_of c.args.left.now)) (term_depth (term_of c.args.right.now))) c.decreases, tt)
 
 pub resolve_binary-returns-in_err-left : goal.resolve_binary-returns-in_err-left
 resolve_binary-returns-in_err-left t c = IfOk-from_err _ _ c.from_residual.ensures.0
@@ -203,7 +204,7 @@ pub resolve_binary-returns : goal.resolve_binary-returns
 resolve_binary-returns t c = ap₂ (trees.Binary c.args.op c.args.want) c.in_ok-left.ensures.left c.in_ok-left.ensures.right
 
 pub resolve_both-operands-requires : goal.resolve_both-operands-requires
-resolve_both-operands-requires t c = (pair_below t (max (term_depth (term_of c.args.left.now)) (term_depth (term_of c.args.right.now))) c.decreases, tt)
+resolve_both-operands-requires t c = (four_3_to_2 t (max (term_depth (term_of c.args.left.now)) (term_depth (term_of c.args.right.now))) c.decreases, tt)
 
 pub resolve_both-returns-in_err-left : goal.resolve_both-returns-in_err-left
 resolve_both-returns-in_err-left t c = IfOk-from_err _ _ c.from_residual.ensures.0
@@ -212,7 +213,7 @@ pub resolve_both-returns : goal.resolve_both-returns
 resolve_both-returns t c = ap₂ (trees.And) c.in_ok-left.ensures.left c.in_ok-left.ensures.right
 
 pub resolve_either-operands-requires : goal.resolve_either-operands-requires
-resolve_either-operands-requires t c = (pair_below t (max (term_depth (term_of c.args.left.now)) (term_depth (term_of c.args.right.now))) c.decreases, tt)
+resolve_either-operands-requires t c = (four_3_to_2 t (max (term_depth (term_of c.args.left.now)) (term_depth (term_of c.args.right.now))) c.decreases, tt)
 
 pub resolve_either-returns-in_err-left : goal.resolve_either-returns-in_err-left
 resolve_either-returns-in_err-left t c = IfOk-from_err _ _ c.from_residual.ensures.0
@@ -221,7 +222,7 @@ pub resolve_either-returns : goal.resolve_either-returns
 resolve_either-returns t c = ap₂ (trees.Or) c.in_ok-left.ensures.left c.in_ok-left.ensures.right
 
 pub resolve_compared-operands-requires : goal.resolve_compared-operands-requires
-resolve_compared-operands-requires t c = (pair_below t (max (term_depth (term_of c.args.left.now)) (term_depth (term_of c.args.right.now))) c.decreases, tt)
+resolve_compared-operands-requires t c = (four_3_to_2 t (max (term_depth (term_of c.args.left.now)) (term_depth (term_of c.args.right.now))) c.decreases, tt)
 
 pub resolve_compared-returns-in_err-left : goal.resolve_compared-returns-in_err-left
 resolve_compared-returns-in_err-left t c = IfOk-from_err _ _ c.from_residual.ensures.0
@@ -231,10 +232,10 @@ resolve_compared-returns t c =
     ap₂ (trees.Compare c.args.op) (c.in_ok-left.ensures.left ∙ ap (λ o. resolved (scope_of c.args.scope.now) o (term_of c.args.left.now)) c.side_type-want.ensures) (c.in_ok-left.ensures.right ∙ ap (λ o. resolved (scope_of c.args.scope.now) o (term_of c.args.right.now)) c.side_type-want.ensures)
 
 pub resolve_select-operand-requires : goal.resolve_select-operand-requires
-resolve_select-operand-requires t c = (condition_below t (term_depth (term_of c.args.cond.now)) (term_depth (term_of c.args.yes.now)) (term_depth (term_of c.args.no.now)) c.decreases, tt)
+resolve_select-operand-requires t c = (four_3_to_first_1 t (term_depth (term_of c.args.cond.now)) (term_depth (term_of c.args.yes.now)) (term_depth (term_of c.args.no.now)) c.decreases, tt)
 
 pub resolve_select-operands-requires : goal.resolve_select-operands-requires
-resolve_select-operands-requires t c = (values_below t (term_depth (term_of c.args.cond.now)) (term_depth (term_of c.args.yes.now)) (term_depth (term_of c.args.no.now)) c.decreases, tt)
+resolve_select-operands-requires t c = (four_3_to_others_2 t (term_depth (term_of c.args.cond.now)) (term_depth (term_of c.args.yes.now)) (term_depth (term_of c.args.no.now)) c.decreases, tt)
 
 pub resolve_select-returns-in_err-cond : goal.resolve_select-returns-in_err-cond
 resolve_select-returns-in_err-cond t c = IfOk-from_err _ _ c.from_residual.ensures.0

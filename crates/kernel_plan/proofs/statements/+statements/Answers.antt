@@ -6,6 +6,9 @@ use Rattle.kernel_tree.specs.Plain.{Define, Put, Update, Choose, Nothing, Else, 
 use Rattle.kernel_tree.specs.Typing as typing
 use Rattle.kernel_tree.specs.Typing.{after_action}
 use Rattle.kernel_tree.specs.Limits.{block_depth}
+use Rattle.kernel_tree.proofs.Calls.{on_any}
+use Rattle.kernel_tree.proofs.Walks.{next_statement, no_statement-sym, after_two_blocks}
+use Rattle.kernel_tree.proofs.Measures.{four_2_to_1, four_3_to_right_2, four_statement_below, four_blocks_below}
 use Rattle.kernel_scope.specs.Scopes.{scope_of, kept}
 use Rattle.kernel_plan.specs.declared.step.Step.{Step}
 use Rattle.kernel_plan.specs.Trees.{tasks_of, followed}
@@ -13,8 +16,8 @@ use Rattle.kernel_plan.specs.Resolve as resolving
 use Rattle.kernel_scope.proofs.Growth.{kept-block}
 use Rattle.kernel_plan.proofs.SameNames.{resolved-same}
 use Rattle.kernel_plan.proofs.StepLists.{if-resolved}
-use Rattle.kernel_plan.proofs.ListWalks.{next_statement, goes_on, followed-done}
-use Rattle.kernel_plan.proofs.StatementWalks.{statement_below, if_below, if_only_below, first_below, second_below, inner_below, as_task, as_scope, on_any, no_statement, two_blocks}
+use Rattle.kernel_plan.proofs.ListWalks.{statement_goes_on, followed-done}
+use Rattle.kernel_plan.proofs.StatementWalks.{four_block_and_none_below, four_3_to_left_2, as_task, as_scope}
 use Rattle.kernel_plan.proofs.statements.+statements.Goals as goal
 
 pub resolve_block-loop-stmt-preserved : goal.resolve_block-loop-stmt-preserved
@@ -22,7 +25,7 @@ resolve_block-loop-stmt-preserved t c =
     let l = c.loop-stmt in
     let made = c.in_ok-step.ensures in
     let e = next_statement c.args.block.now l.stmt-index c.stmt-item.result c.loop-stmt-test.true c.stmt-item.is in
-    let step = goes_on (scope_of l.scope) (scope_of c.resolve_stmt.new.scope) l.steps.items c.push.new.self.items c.in_ok-step.step (action_of c.stmt-item.result) (block_of (drop (l.stmt-index + 1) c.args.block.now)) (block_of (drop l.stmt-index c.args.block.now)) e made.scope c.in_ok-push.ensures.items made.step in
+    let step = statement_goes_on (scope_of l.scope) (scope_of c.resolve_stmt.new.scope) l.steps.items c.push.new.self.items c.in_ok-step.step (action_of c.stmt-item.result) (block_of (drop (l.stmt-index + 1) c.args.block.now)) (block_of (drop l.stmt-index c.args.block.now)) e made.scope c.in_ok-push.ensures.items made.step in
     record {
       depth = omega (arith, ap block_depth e, l.invariant.depth);
       scope = step.scope ∙ l.invariant.scope;
@@ -72,7 +75,7 @@ resolve_stmt-returns-in-Update t c = record {
 }
 
 pub resolve_stmt-resolve_if-requires : goal.resolve_stmt-resolve_if-requires
-resolve_stmt-resolve_if-requires t c = (if_only_below t (action_of c.args.stmt.now) (term_of c.in-If.cond.now) (block_of c.in-If.block.now) c.decreases (sym c.in-If.ensures), tt)
+resolve_stmt-resolve_if-requires t c = (four_block_and_none_below t (action_of c.args.stmt.now) (term_of c.in-If.cond.now) (block_of c.in-If.block.now) c.decreases (sym c.in-If.ensures), tt)
 
 pub resolve_stmt-returns-in-If : goal.resolve_stmt-returns-in-If
 resolve_stmt-returns-in-If t c = record {
@@ -81,7 +84,7 @@ resolve_stmt-returns-in-If t c = record {
 }
 
 pub resolve_stmt-resolve_if-requires-in-IfElse : goal.resolve_stmt-resolve_if-requires-in-IfElse
-resolve_stmt-resolve_if-requires-in-IfElse t c = (if_below t (action_of c.args.stmt.now) (term_of c.in-IfElse.cond.now) (block_of c.in-IfElse.block.now) (block_of c.in-IfElse.other.now) c.decreases (sym c.in-IfElse.ensures), tt)
+resolve_stmt-resolve_if-requires-in-IfElse t c = (four_blocks_below t (action_of c.args.stmt.now) (term_of c.in-IfElse.cond.now) (block_of c.in-IfElse.block.now) (block_of c.in-IfElse.other.now) c.decreases (sym c.in-IfElse.ensures), tt)
 
 pub resolve_stmt-returns-in-IfElse : goal.resolve_stmt-returns-in-IfElse
 resolve_stmt-returns-in-IfElse t c = record {
@@ -140,24 +143,24 @@ pub resolve_block-resolve_stmt-requires : goal.resolve_block-resolve_stmt-requir
 resolve_block-resolve_stmt-requires t c =
     let l = c.loop-stmt in
     let e = next_statement c.args.block.now l.stmt-index c.stmt-item.result c.loop-stmt-test.true c.stmt-item.is in
-    (statement_below t (block_of c.args.block.now) (block_of (drop l.stmt-index c.args.block.now)) (block_of (drop (l.stmt-index + 1) c.args.block.now)) (action_of c.stmt-item.result) c.decreases l.invariant.depth e, tt)
+    (four_statement_below t (block_of c.args.block.now) (block_of (drop l.stmt-index c.args.block.now)) (block_of (drop (l.stmt-index + 1) c.args.block.now)) (action_of c.stmt-item.result) c.decreases l.invariant.depth e, tt)
 
 pub resolve_block-returns-clause-scope : goal.resolve_block-returns-clause-scope
 resolve_block-returns-clause-scope t c =
     let l = c.loop-stmt in
-    ap (typing.after_block (scope_of l.scope)) (no_statement c.args.block.now l.stmt-index c.loop-stmt-test.false) ∙ l.invariant.scope
+    ap (typing.after_block (scope_of l.scope)) (no_statement-sym c.args.block.now l.stmt-index c.loop-stmt-test.false) ∙ l.invariant.scope
 
 pub resolve_inner-resolve_block-requires : goal.resolve_inner-resolve_block-requires
-resolve_inner-resolve_block-requires t c = (inner_below t (block_depth (block_of c.args.block.now)) c.decreases, tt)
+resolve_inner-resolve_block-requires t c = (four_2_to_1 t (block_depth (block_of c.args.block.now)) c.decreases, tt)
 
 pub resolve_inner-returns-clause-steps : goal.resolve_inner-returns-clause-steps
 resolve_inner-returns-clause-steps t c = c.in_ok-steps.ensures.steps
 
 pub resolve_if-resolve_inner-requires : goal.resolve_if-resolve_inner-requires
-resolve_if-resolve_inner-requires t c = (first_below t (block_depth (block_of c.args.block.now)) (block_depth (block_of c.args.other.now)) c.decreases, tt)
+resolve_if-resolve_inner-requires t c = (four_3_to_left_2 t (block_depth (block_of c.args.block.now)) (block_depth (block_of c.args.other.now)) c.decreases, tt)
 
 pub resolve_if-resolve_inner-requires-2 : goal.resolve_if-resolve_inner-requires-2
-resolve_if-resolve_inner-requires-2 t c = (second_below t (block_depth (block_of c.args.block.now)) (block_depth (block_of c.args.other.now)) c.decreases, tt)
+resolve_if-resolve_inner-requires-2 t c = (four_3_to_right_2 t (block_depth (block_of c.args.block.now)) (block_depth (block_of c.args.other.now)) c.decreases, tt)
 
 pub resolve_if-returns-clause-scope : goal.resolve_if-returns-clause-scope
-resolve_if-returns-clause-scope t c = two_blocks (scope_of c.args.scope.now) (scope_of c.resolve_inner.new.scope) (scope_of c.resolve_inner-2.new.scope) (term_of c.args.cond.now) (block_of c.args.block.now) (block_of c.args.other.now) c.in_ok-yes.ensures.scope c.in_ok-no.ensures.scope
+resolve_if-returns-clause-scope t c = after_two_blocks (scope_of c.args.scope.now) (scope_of c.resolve_inner.new.scope) (scope_of c.resolve_inner-2.new.scope) (term_of c.args.cond.now) (block_of c.args.block.now) (block_of c.args.other.now) c.in_ok-yes.ensures.scope c.in_ok-no.ensures.scope

@@ -3,9 +3,10 @@ use Rattle.std.proofs.lemmas.Result.{IfOk-from_err}
 use Rattle.kernel_tree.specs.Plain.{name_of, term_of}
 use Rattle.kernel_tree.specs.Typing.{accumulator_type}
 use Rattle.std.specs.Prelude.{option_and_then}
+use Rattle.kernel_tree.proofs.Walks.{update_type}
 use Rattle.kernel_scope.specs.Scopes.{scope_of}
 use Rattle.kernel_plan.specs.Trees.{tree_of}
-use Rattle.kernel_plan.proofs.StatementWalks.{update_type, updated}
+use Rattle.kernel_plan.proofs.StatementWalks.{updated}
 use Rattle.kernel_plan.proofs.statements.resolve_update.Goals as goal
 
 pub returns-in_err-right : goal.returns-in_err-right

@@ -10,7 +10,8 @@ use Rattle.kernel_tree.specs.TextToken.{IsMark}
 use Rattle.kernel_tree.specs.Plain.{Literal, Variable, Element, Unary, Operation, Shift, Conversion, Choice, Comparison, Both, Either, Not, name_of, term_of}
 use Rattle.kernel_tree.specs.Limits.{term_depth}
 use Rattle.kernel_tree.specs.Printing.{spaced, closed, print_count, mark_of_shift, print_term, print_unary, print_binary, print_call}
-use Rattle.kernel_print.proofs.PrintWalks.{called, operator_called, as_whole, one_below, inside_below, argument_below, kind_below, left_below, right_below, first_below, second_below, condition_below, yes_below, no_below}
+use Rattle.kernel_tree.proofs.Measures.{four_1_to_0, four_2_to_0, four_2_to_1, four_3_to_2, four_2_to_left_0, four_2_to_right_0, four_2_to_left_1, four_2_to_right_1}
+use Rattle.kernel_print.proofs.PrintWalks.{four_2_called, operator_called, as_whole, four_2_to_first_1, four_2_to_second_1, four_2_to_third_1}
 use Rattle.kernel_print.proofs.expr.+terms.Goals as goal
 
 -- ---- an expression by its kind
@@ -28,7 +29,7 @@ print_expr-returns-in-Var t c =
 pub print_expr-print_read-requires : goal.print_expr-print_read-requires
 print_expr-print_read-requires t c =
     let is : term_of c.args.expr.now ≡ Element (name_of c.in-Read.array) (term_of c.deref.result.now) = ap term_of c.in-Read.is ∙ ap (λ (e : Expr). Element (name_of c.in-Read.array) (term_of e)) (sym c.deref.ensures) in
-    (called t (term_of c.args.expr.now) c.decreases (Element (name_of c.in-Read.array) (term_of c.deref.result.now)) (term_depth (term_of c.deref.result.now)) is refl, tt)
+    (four_2_called t (term_of c.args.expr.now) c.decreases (Element (name_of c.in-Read.array) (term_of c.deref.result.now)) (term_depth (term_of c.deref.result.now)) is refl, tt)
 
 pub print_expr-returns-in-Read : goal.print_expr-returns-in-Read
 print_expr-returns-in-Read t c =
@@ -58,7 +59,7 @@ print_expr-returns-in-Binary t c =
 pub print_expr-print_shift-requires : goal.print_expr-print_shift-requires
 print_expr-print_shift-requires t c =
     let is : term_of c.args.expr.now ≡ Shift c.in-Shift.left_shift (term_of c.deref-in-Shift.result.now) c.in-Shift.count = ap term_of c.in-Shift.is ∙ ap (λ (e : Expr). Shift c.in-Shift.left_shift (term_of e) c.in-Shift.count) (sym c.deref-in-Shift.ensures) in
-    (called t (term_of c.args.expr.now) c.decreases (Shift c.in-Shift.left_shift (term_of c.deref-in-Shift.result.now) c.in-Shift.count) (term_depth (term_of c.deref-in-Shift.result.now)) is refl, tt)
+    (four_2_called t (term_of c.args.expr.now) c.decreases (Shift c.in-Shift.left_shift (term_of c.deref-in-Shift.result.now) c.in-Shift.count) (term_depth (term_of c.deref-in-Shift.result.now)) is refl, tt)
 
 pub print_expr-returns-in-Shift : goal.print_expr-returns-in-Shift
 print_expr-returns-in-Shift t c =
@@ -68,7 +69,7 @@ print_expr-returns-in-Shift t c =
 pub print_expr-print_cast-requires : goal.print_expr-print_cast-requires
 print_expr-print_cast-requires t c =
     let is : term_of c.args.expr.now ≡ Conversion (term_of c.deref-in-Cast.result.now) c.in-Cast.ty = ap term_of c.in-Cast.is ∙ ap (λ (e : Expr). Conversion (term_of e) c.in-Cast.ty) (sym c.deref-in-Cast.ensures) in
-    (called t (term_of c.args.expr.now) c.decreases (Conversion (term_of c.deref-in-Cast.result.now) c.in-Cast.ty) (term_depth (term_of c.deref-in-Cast.result.now)) is refl, tt)
+    (four_2_called t (term_of c.args.expr.now) c.decreases (Conversion (term_of c.deref-in-Cast.result.now) c.in-Cast.ty) (term_depth (term_of c.deref-in-Cast.result.now)) is refl, tt)
 
 pub print_expr-returns-in-Cast : goal.print_expr-returns-in-Cast
 print_expr-returns-in-Cast t c =
@@ -78,7 +79,7 @@ print_expr-returns-in-Cast t c =
 pub print_expr-print_select-requires : goal.print_expr-print_select-requires
 print_expr-print_select-requires t c =
     let is : term_of c.args.expr.now ≡ Choice (term_of c.deref-in-Select.result.now) (term_of c.deref-in-Select-2.result.now) (term_of c.deref-in-Select-3.result.now) = ap term_of c.in-Select.is ∙ ap₂ (λ (e f : Expr). Choice (term_of e) (term_of f) (term_of c.in-Select.no.value)) (sym c.deref-in-Select.ensures) (sym c.deref-in-Select-2.ensures) ∙ ap (λ (e : Expr). Choice (term_of c.deref-in-Select.result.now) (term_of c.deref-in-Select-2.result.now) (term_of e)) (sym c.deref-in-Select-3.ensures) in
-    (called t (term_of c.args.expr.now) c.decreases (Choice (term_of c.deref-in-Select.result.now) (term_of c.deref-in-Select-2.result.now) (term_of c.deref-in-Select-3.result.now)) (max (term_depth (term_of c.deref-in-Select.result.now)) (max (term_depth (term_of c.deref-in-Select-2.result.now)) (term_depth (term_of c.deref-in-Select-3.result.now)))) is refl, tt)
+    (four_2_called t (term_of c.args.expr.now) c.decreases (Choice (term_of c.deref-in-Select.result.now) (term_of c.deref-in-Select-2.result.now) (term_of c.deref-in-Select-3.result.now)) (max (term_depth (term_of c.deref-in-Select.result.now)) (max (term_depth (term_of c.deref-in-Select-2.result.now)) (term_depth (term_of c.deref-in-Select-3.result.now)))) is refl, tt)
 
 pub print_expr-returns-in-Select : goal.print_expr-returns-in-Select
 print_expr-returns-in-Select t c =
@@ -88,7 +89,7 @@ print_expr-returns-in-Select t c =
 pub print_expr-print_compared-requires : goal.print_expr-print_compared-requires
 print_expr-print_compared-requires t c =
     let is : term_of c.args.expr.now ≡ Comparison c.in-Compare.op (term_of c.deref-in-Compare.result.now) (term_of c.deref-in-Compare-2.result.now) = ap term_of c.in-Compare.is ∙ ap₂ (λ (e f : Expr). Comparison c.in-Compare.op (term_of e) (term_of f)) (sym c.deref-in-Compare.ensures) (sym c.deref-in-Compare-2.ensures) in
-    (called t (term_of c.args.expr.now) c.decreases (Comparison c.in-Compare.op (term_of c.deref-in-Compare.result.now) (term_of c.deref-in-Compare-2.result.now)) (max (term_depth (term_of c.deref-in-Compare.result.now)) (term_depth (term_of c.deref-in-Compare-2.result.now))) is refl, tt)
+    (four_2_called t (term_of c.args.expr.now) c.decreases (Comparison c.in-Compare.op (term_of c.deref-in-Compare.result.now) (term_of c.deref-in-Compare-2.result.now)) (max (term_depth (term_of c.deref-in-Compare.result.now)) (term_depth (term_of c.deref-in-Compare-2.result.now))) is refl, tt)
 
 pub print_expr-returns-in-Compare : goal.print_expr-returns-in-Compare
 print_expr-returns-in-Compare t c =
@@ -98,7 +99,7 @@ print_expr-returns-in-Compare t c =
 pub print_expr-print_between-requires : goal.print_expr-print_between-requires
 print_expr-print_between-requires t c =
     let is : term_of c.args.expr.now ≡ Both (term_of c.deref-in-And.result.now) (term_of c.deref-in-And-2.result.now) = ap term_of c.in-And.is ∙ ap₂ (λ (e f : Expr). Both (term_of e) (term_of f)) (sym c.deref-in-And.ensures) (sym c.deref-in-And-2.ensures) in
-    (called t (term_of c.args.expr.now) c.decreases (Both (term_of c.deref-in-And.result.now) (term_of c.deref-in-And-2.result.now)) (max (term_depth (term_of c.deref-in-And.result.now)) (term_depth (term_of c.deref-in-And-2.result.now))) is refl, tt)
+    (four_2_called t (term_of c.args.expr.now) c.decreases (Both (term_of c.deref-in-And.result.now) (term_of c.deref-in-And-2.result.now)) (max (term_depth (term_of c.deref-in-And.result.now)) (term_depth (term_of c.deref-in-And-2.result.now))) is refl, tt)
 
 pub print_expr-returns-in-And : goal.print_expr-returns-in-And
 print_expr-returns-in-And t c =
@@ -108,7 +109,7 @@ print_expr-returns-in-And t c =
 pub print_expr-print_between-requires-in-Or : goal.print_expr-print_between-requires-in-Or
 print_expr-print_between-requires-in-Or t c =
     let is : term_of c.args.expr.now ≡ Either (term_of c.deref-in-Or.result.now) (term_of c.deref-in-Or-2.result.now) = ap term_of c.in-Or.is ∙ ap₂ (λ (e f : Expr). Either (term_of e) (term_of f)) (sym c.deref-in-Or.ensures) (sym c.deref-in-Or-2.ensures) in
-    (called t (term_of c.args.expr.now) c.decreases (Either (term_of c.deref-in-Or.result.now) (term_of c.deref-in-Or-2.result.now)) (max (term_depth (term_of c.deref-in-Or.result.now)) (term_depth (term_of c.deref-in-Or-2.result.now))) is refl, tt)
+    (four_2_called t (term_of c.args.expr.now) c.decreases (Either (term_of c.deref-in-Or.result.now) (term_of c.deref-in-Or-2.result.now)) (max (term_depth (term_of c.deref-in-Or.result.now)) (term_depth (term_of c.deref-in-Or-2.result.now))) is refl, tt)
 
 pub print_expr-returns-in-Or : goal.print_expr-returns-in-Or
 print_expr-returns-in-Or t c =
@@ -118,7 +119,7 @@ print_expr-returns-in-Or t c =
 pub print_expr-print_signed-requires : goal.print_expr-print_signed-requires
 print_expr-print_signed-requires t c =
     let is : term_of c.args.expr.now ≡ Not (term_of c.deref-in-Not.result.now) = ap term_of c.in-Not.is ∙ ap (λ (e : Expr). Not (term_of e)) (sym c.deref-in-Not.ensures) in
-    (called t (term_of c.args.expr.now) c.decreases (Not (term_of c.deref-in-Not.result.now)) (term_depth (term_of c.deref-in-Not.result.now)) is refl, tt)
+    (four_2_called t (term_of c.args.expr.now) c.decreases (Not (term_of c.deref-in-Not.result.now)) (term_depth (term_of c.deref-in-Not.result.now)) is refl, tt)
 
 pub print_expr-returns-in-Not : goal.print_expr-returns-in-Not
 print_expr-returns-in-Not t c =
@@ -128,64 +129,64 @@ print_expr-returns-in-Not t c =
 -- ---- operands
 
 pub print_argument-print_expr-requires : goal.print_argument-print_expr-requires
-print_argument-print_expr-requires t c = (one_below t (term_depth (term_of c.args.arg.now)) c.decreases, tt)
+print_argument-print_expr-requires t c = (four_1_to_0 t (term_depth (term_of c.args.arg.now)) c.decreases, tt)
 
 pub print_read-print_argument-requires : goal.print_read-print_argument-requires
-print_read-print_argument-requires t c = (argument_below t (term_depth (term_of c.args.index.now)) c.decreases, tt)
+print_read-print_argument-requires t c = (four_2_to_1 t (term_depth (term_of c.args.index.now)) c.decreases, tt)
 
 pub print_signed-print_expr-requires : goal.print_signed-print_expr-requires
-print_signed-print_expr-requires t c = (inside_below t (term_depth (term_of c.args.arg.now)) c.decreases, tt)
+print_signed-print_expr-requires t c = (four_2_to_0 t (term_depth (term_of c.args.arg.now)) c.decreases, tt)
 
 pub print_absolute-print_argument-requires : goal.print_absolute-print_argument-requires
-print_absolute-print_argument-requires t c = (argument_below t (term_depth (term_of c.args.arg.now)) c.decreases, tt)
+print_absolute-print_argument-requires t c = (four_2_to_1 t (term_depth (term_of c.args.arg.now)) c.decreases, tt)
 
 pub print_unary-print_signed-requires : goal.print_unary-print_signed-requires
-print_unary-print_signed-requires t c = (kind_below t (term_depth (term_of c.args.arg.now)) c.decreases, tt)
+print_unary-print_signed-requires t c = (four_3_to_2 t (term_depth (term_of c.args.arg.now)) c.decreases, tt)
 
 pub print_unary-print_signed-requires-in-Flip : goal.print_unary-print_signed-requires-in-Flip
-print_unary-print_signed-requires-in-Flip t c = (kind_below t (term_depth (term_of c.args.arg.now)) c.decreases, tt)
+print_unary-print_signed-requires-in-Flip t c = (four_3_to_2 t (term_depth (term_of c.args.arg.now)) c.decreases, tt)
 
 pub print_unary-print_absolute-requires : goal.print_unary-print_absolute-requires
-print_unary-print_absolute-requires t c = (kind_below t (term_depth (term_of c.args.arg.now)) c.decreases, tt)
+print_unary-print_absolute-requires t c = (four_3_to_2 t (term_depth (term_of c.args.arg.now)) c.decreases, tt)
 
 pub print_binary-print_between-requires : goal.print_binary-print_between-requires
-print_binary-print_between-requires t c = (kind_below t (max (term_depth (term_of c.args.left.now)) (term_depth (term_of c.args.right.now))) c.decreases, tt)
+print_binary-print_between-requires t c = (four_3_to_2 t (max (term_depth (term_of c.args.left.now)) (term_depth (term_of c.args.right.now))) c.decreases, tt)
 
 pub print_binary-print_call-requires : goal.print_binary-print_call-requires
-print_binary-print_call-requires t c = (kind_below t (max (term_depth (term_of c.args.left.now)) (term_depth (term_of c.args.right.now))) c.decreases, tt)
+print_binary-print_call-requires t c = (four_3_to_2 t (max (term_depth (term_of c.args.left.now)) (term_depth (term_of c.args.right.now))) c.decreases, tt)
 
 pub print_between-print_expr-requires : goal.print_between-print_expr-requires
-print_between-print_expr-requires t c = (left_below t (term_depth (term_of c.args.left.now)) (term_depth (term_of c.args.right.now)) c.decreases, tt)
+print_between-print_expr-requires t c = (four_2_to_left_0 t (term_depth (term_of c.args.left.now)) (term_depth (term_of c.args.right.now)) c.decreases, tt)
 
 pub print_between-print_expr-requires-2 : goal.print_between-print_expr-requires-2
-print_between-print_expr-requires-2 t c = (right_below t (term_depth (term_of c.args.left.now)) (term_depth (term_of c.args.right.now)) c.decreases, tt)
+print_between-print_expr-requires-2 t c = (four_2_to_right_0 t (term_depth (term_of c.args.left.now)) (term_depth (term_of c.args.right.now)) c.decreases, tt)
 
 pub print_compared-print_expr-requires : goal.print_compared-print_expr-requires
-print_compared-print_expr-requires t c = (left_below t (term_depth (term_of c.args.left.now)) (term_depth (term_of c.args.right.now)) c.decreases, tt)
+print_compared-print_expr-requires t c = (four_2_to_left_0 t (term_depth (term_of c.args.left.now)) (term_depth (term_of c.args.right.now)) c.decreases, tt)
 
 pub print_compared-print_expr-requires-2 : goal.print_compared-print_expr-requires-2
-print_compared-print_expr-requires-2 t c = (right_below t (term_depth (term_of c.args.left.now)) (term_depth (term_of c.args.right.now)) c.decreases, tt)
+print_compared-print_expr-requires-2 t c = (four_2_to_right_0 t (term_depth (term_of c.args.left.now)) (term_depth (term_of c.args.right.now)) c.decreases, tt)
 
 pub print_call-print_argument-requires : goal.print_call-print_argument-requires
-print_call-print_argument-requires t c = (first_below t (term_depth (term_of c.args.left.now)) (term_depth (term_of c.args.right.now)) c.decreases, tt)
+print_call-print_argument-requires t c = (four_2_to_left_1 t (term_depth (term_of c.args.left.now)) (term_depth (term_of c.args.right.now)) c.decreases, tt)
 
 pub print_call-print_argument-requires-2 : goal.print_call-print_argument-requires-2
-print_call-print_argument-requires-2 t c = (second_below t (term_depth (term_of c.args.left.now)) (term_depth (term_of c.args.right.now)) c.decreases, tt)
+print_call-print_argument-requires-2 t c = (four_2_to_right_1 t (term_depth (term_of c.args.left.now)) (term_depth (term_of c.args.right.now)) c.decreases, tt)
 
 pub print_shift-print_expr-requires : goal.print_shift-print_expr-requires
-print_shift-print_expr-requires t c = (inside_below t (term_depth (term_of c.args.arg.now)) c.decreases, tt)
+print_shift-print_expr-requires t c = (four_2_to_0 t (term_depth (term_of c.args.arg.now)) c.decreases, tt)
 
 pub print_cast-print_expr-requires : goal.print_cast-print_expr-requires
-print_cast-print_expr-requires t c = (inside_below t (term_depth (term_of c.args.arg.now)) c.decreases, tt)
+print_cast-print_expr-requires t c = (four_2_to_0 t (term_depth (term_of c.args.arg.now)) c.decreases, tt)
 
 pub print_select-print_argument-requires : goal.print_select-print_argument-requires
-print_select-print_argument-requires t c = (condition_below t (term_depth (term_of c.args.cond.now)) (term_depth (term_of c.args.yes.now)) (term_depth (term_of c.args.no.now)) c.decreases, tt)
+print_select-print_argument-requires t c = (four_2_to_first_1 t (term_depth (term_of c.args.cond.now)) (term_depth (term_of c.args.yes.now)) (term_depth (term_of c.args.no.now)) c.decreases, tt)
 
 pub print_select-print_argument-requires-2 : goal.print_select-print_argument-requires-2
-print_select-print_argument-requires-2 t c = (yes_below t (term_depth (term_of c.args.cond.now)) (term_depth (term_of c.args.yes.now)) (term_depth (term_of c.args.no.now)) c.decreases, tt)
+print_select-print_argument-requires-2 t c = (four_2_to_second_1 t (term_depth (term_of c.args.cond.now)) (term_depth (term_of c.args.yes.now)) (term_depth (term_of c.args.no.now)) c.decreases, tt)
 
 pub print_select-print_argument-requires-3 : goal.print_select-print_argument-requires-3
-print_select-print_argument-requires-3 t c = (no_below t (term_depth (term_of c.args.cond.now)) (term_depth (term_of c.args.yes.now)) (term_depth (term_of c.args.no.now)) c.decreases, tt)
+print_select-print_argument-requires-3 t c = (four_2_to_third_1 t (term_depth (term_of c.args.cond.now)) (term_depth (term_of c.args.yes.now)) (term_depth (term_of c.args.no.now)) c.decreases, tt)
 
 -- ---- a call that failed owes nothing
 

@@ -5,7 +5,7 @@ use Rattle.std.proofs.lemmas.Result.{IfOk-from_err}
 use Rattle.kernel_tree.specs.declared.ast.Param.{Param}
 use Rattle.kernel_tree.specs.Plain.{parameters_of}
 use Rattle.kernel_tree.specs.Printing.{spaced, print_others}
-use Rattle.kernel_print.proofs.BlockWalks.{next_item}
+use Rattle.kernel_tree.proofs.Walks.{next_item}
 use Rattle.kernel_print.proofs.parts.put_others.Goals as goal
 
 pub loop-param-init : goal.loop-param-init

@@ -5,7 +5,7 @@ use Rattle.std.proofs.lemmas.Result.{IfOk-from_err}
 use Rattle.kernel_tree.specs.declared.ast.Var.{Var}
 use Rattle.kernel_tree.specs.Plain.{accumulators_of}
 use Rattle.kernel_tree.specs.Printing.{spaced, print_vars}
-use Rattle.kernel_print.proofs.BlockWalks.{next_item}
+use Rattle.kernel_tree.proofs.Walks.{next_item}
 use Rattle.kernel_print.proofs.parts.put_vars.Goals as goal
 
 pub loop-var-init : goal.loop-var-init

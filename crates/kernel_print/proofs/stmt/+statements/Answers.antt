@@ -6,8 +6,10 @@ use Rattle.kernel_tree.specs.Plain.{Action, Define, Put, Update, Choose, Leave, 
 use Rattle.kernel_tree.specs.Limits.{action_depth, block_depth}
 use Rattle.kernel_tree.specs.Printing.{spaced, print_action, print_block}
 use Rattle.kernel_tree.proofs.StatementLists.{if-is, otherwise_of}
+use Rattle.kernel_tree.proofs.Walks.{next_statement, no_statement-sym}
+use Rattle.kernel_tree.proofs.Measures.{three_2_to_1, three_statement_below}
 use Rattle.kernel_print.proofs.PrintWalks.{as_statement}
-use Rattle.kernel_print.proofs.BlockWalks.{next_statement, no_statement, statement_below, less_deep, inner_below}
+use Rattle.kernel_print.proofs.BlockWalks.{less_deep}
 use Rattle.kernel_print.proofs.stmt.+statements.Goals as goal
 
 pub print_stmt-print_then-requires : goal.print_stmt-print_then-requires
@@ -75,10 +77,10 @@ print_statements-returns-in_err-print_stmt t c = IfOk-from_err _ _ c.from_residu
 -- ---- blocks
 
 pub print_then-print_statements-requires : goal.print_then-print_statements-requires
-print_then-print_statements-requires t c = (inner_below t (block_depth (block_of c.args.block.now)) c.decreases, tt)
+print_then-print_statements-requires t c = (three_2_to_1 t (block_depth (block_of c.args.block.now)) c.decreases, tt)
 
 pub print_else-print_statements-requires : goal.print_else-print_statements-requires
-print_else-print_statements-requires t c = (inner_below t (block_depth (block_of c.args.block.now)) c.decreases, tt)
+print_else-print_statements-requires t c = (three_2_to_1 t (block_depth (block_of c.args.block.now)) c.decreases, tt)
 
 pub print_then-returns : goal.print_then-returns
 print_then-returns t c = IfOk-weaker c.print_statements.result _ _ (λ _ h rest. h rest ∙ c.in_ok-print_before.ensures _ ∙ c.in_ok-put_mark.ensures _) c.print_statements.ensures
@@ -96,7 +98,7 @@ print_statements-print_stmt-requires t c =
     let more = block_of (drop (l.stmt-index + 1) c.args.block.now) in
     let a = action_of c.stmt-item.result in
     let e = next_statement c.args.block.now l.stmt-index c.stmt-item.result c.loop-stmt-test.true c.stmt-item.is in
-    (statement_below t (block_of c.args.block.now) x more a c.decreases l.invariant.depth e, tt)
+    (three_statement_below t (block_of c.args.block.now) x more a c.decreases l.invariant.depth e, tt)
 
 pub print_statements-loop-stmt-preserved : goal.print_statements-loop-stmt-preserved
 print_statements-loop-stmt-preserved t c =
@@ -113,5 +115,5 @@ print_statements-loop-stmt-preserved t c =
 pub print_statements-returns : goal.print_statements-returns
 print_statements-returns t c =
     let l = c.loop-stmt in
-    let end = no_statement c.args.block.now l.stmt-index c.loop-stmt-test.false in
+    let end = no_statement-sym c.args.block.now l.stmt-index c.loop-stmt-test.false in
     IfOk-weaker c.put_mark.result _ _ (λ _ h rest. h rest ∙ ap (λ (b : Block). string_bytes l.out ++ spaced (print_block b rest)) end ∙ l.invariant.text rest) c.put_mark.ensures

@@ -9,7 +9,7 @@ use Rattle.kernel_tree.specs.Grammar.{beginning_of_mark}
 use Rattle.expression_syntax.specs.Reading.{mark_at}
 use Rattle.kernel_tree.specs.Plain.{words_of, word_of}
 use Rattle.kernel_syntax.specs.Statements.{Statements, statement_by, block_at, choose_by}
-use Rattle.kernel_syntax.proofs.Blocks.{Follows, begins, unbegun, starts, closes, fails_inside, takes, block-none, block-some}
+use Rattle.kernel_syntax.proofs.Blocks.{Follows, block_begins_with_mark, unbegun, block_follows, closes, fails_inside, takes, block-none, block-some}
 use Rattle.expression_syntax.proofs.Chain.{fails_on, missed_on}
 use Rattle.kernel_syntax.proofs.Shorter.{statement_short}
 use Rattle.kernel_syntax.proofs.statement.+block.Goals as goal
@@ -25,7 +25,7 @@ pub block-more-init : goal.block-more-init
 block-more-init t c =
     let words = words_of c.args.tokens.now in
     let inner = statement_by c.args.whole (block_at false (c.args.room - 1)) in
-    let first : Follows inner (block_at c.args.whole c.args.room words) [] words = subst (λ (w : Statements). Follows inner w [] words) (sym (block-some c.args.whole c.args.room words (omega arith))) (starts inner words) in
+    let first : Follows inner (block_at c.args.whole c.args.room words) [] words = subst (λ (w : Statements). Follows inner w [] words) (sym (block-some c.args.whole c.args.room words (omega arith))) (block_follows inner words) in
     (omega arith, subst (λ (s : List Stmt). Follows inner (block_at c.args.whole c.args.room words) s words) (sym c.new-stmts.ensures.items) first)
 
 pub block-returns-in-Some : goal.block-returns-in-Some
@@ -85,19 +85,19 @@ pub statement-returns-in-Some-Definition : goal.statement-returns-in-Some-Defini
 statement-returns-in-Some-Definition t c =
     let front : mark_at (words_of c.args.tokens.now) ≡ Some (c.in-Mark.mark, words_of (following c.args.tokens.now)) = grind (arith, common_steps) in
     let kind : beginning_of_mark c.in-Mark.mark ≡ Some beginning.Definition = grind (arith, common_steps) in
-    rw (begins c.args.whole _ (words_of c.args.tokens.now) c.in-Mark.mark _ _ front kind) c.definition.ensures
+    rw (block_begins_with_mark c.args.whole _ (words_of c.args.tokens.now) c.in-Mark.mark _ _ front kind) c.definition.ensures
 
 pub statement-returns-in-Some-Choice : goal.statement-returns-in-Some-Choice
 statement-returns-in-Some-Choice t c =
     let front : mark_at (words_of c.args.tokens.now) ≡ Some (c.in-Mark.mark, words_of (following c.args.tokens.now)) = grind (arith, common_steps) in
     let kind : beginning_of_mark c.in-Mark.mark ≡ Some beginning.Choice = grind (arith, common_steps) in
-    rw (begins c.args.whole _ (words_of c.args.tokens.now) c.in-Mark.mark _ _ front kind) c.choice.ensures
+    rw (block_begins_with_mark c.args.whole _ (words_of c.args.tokens.now) c.in-Mark.mark _ _ front kind) c.choice.ensures
 
 pub statement-returns-in-Some-Leaving : goal.statement-returns-in-Some-Leaving
 statement-returns-in-Some-Leaving t c =
     let front : mark_at (words_of c.args.tokens.now) ≡ Some (c.in-Mark.mark, words_of (following c.args.tokens.now)) = grind (arith, common_steps) in
     let kind : beginning_of_mark c.in-Mark.mark ≡ Some beginning.Leaving = grind (arith, common_steps) in
-    rw (begins c.args.whole _ (words_of c.args.tokens.now) c.in-Mark.mark _ _ front kind) c.leaving.ensures
+    rw (block_begins_with_mark c.args.whole _ (words_of c.args.tokens.now) c.in-Mark.mark _ _ front kind) c.leaving.ensures
 
 pub statement-returns-in-None : goal.statement-returns-in-None
 statement-returns-in-None t c =

@@ -2,8 +2,9 @@ use Rattle.std.proofs.Common.{ap}
 use Rattle.std.proofs.lemmas.Result.{IfOk-equal}
 use Rattle.kernel_tree.specs.Plain.{name_of}
 use Rattle.kernel_tree.specs.Typing.{declared}
+use Rattle.kernel_tree.proofs.Calls.{on_any}
 use Rattle.kernel_scope.specs.Scopes.{scope_of}
-use Rattle.kernel_types.proofs.PartWalks.{on_any, param_found}
+use Rattle.kernel_types.proofs.PartWalks.{param_found}
 use Rattle.kernel_types.proofs.kernels.walk_param.Goals as goal
 
 pub returns : goal.returns

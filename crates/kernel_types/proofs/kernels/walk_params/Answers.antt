@@ -1,9 +1,10 @@
 use Rattle.std.proofs.Common.{◌+◌, ap, ◌∙◌, arith, drop, refl}
 use Rattle.kernel_tree.specs.Plain.{parameter_of, parameters_of}
 use Rattle.kernel_scope.specs.Scopes.{scope_of}
-use Rattle.kernel_types.proofs.ListWalks.{next_item, params_go_on}
+use Rattle.kernel_types.proofs.ListWalks.{params_go_on}
 use Rattle.std.proofs.lemmas.Result.{IfOk-from_err}
-use Rattle.kernel_types.proofs.PartWalks.{no_param, params_end}
+use Rattle.kernel_tree.proofs.Walks.{next_item, no_param}
+use Rattle.kernel_types.proofs.PartWalks.{params_end}
 use Rattle.kernel_types.proofs.kernels.walk_params.Goals as goal
 
 pub loop-param-preserved : goal.loop-param-preserved

@@ -5,9 +5,10 @@ use Rattle.kernel_tree.specs.declared.fault.Found.{Found}
 use Rattle.kernel_tree.specs.Plain.{parameters_of, accumulators_of, program_of}
 use Rattle.kernel_tree.specs.Items.{for_loop_size}
 use Rattle.kernel_tree.specs.Typing.{Scope, after_params, after_vars, after_for_loop, param_scope, var_scope, params_faults, sooner, least, params_types, vars_types, for_loop_types, answer_types, types_of}
+use Rattle.kernel_tree.proofs.Walks.{var_scope-index}
 use Rattle.kernel_scope.specs.Scopes.{scope_of}
 use Rattle.kernel_types.specs.Parts.{Adds}
-use Rattle.kernel_types.proofs.KernelWalks.{count_params, vars_index, vars_outside, vars_room, for_loop_room, answer_room, vars_count, whole, params_room}
+use Rattle.kernel_types.proofs.KernelWalks.{count_params, vars_outside, vars_room, for_loop_room, answer_room, vars_count, whole, params_room}
 use Rattle.kernel_types.proofs.TypeLists.{then_types}
 use Rattle.kernel_types.proofs.kernels.walk_parts.Goals as goal
 
@@ -50,7 +51,7 @@ walk_for_loop-requires-clause-index c =
     let s1 : scope_of c.walk_params.new.scope ≡ param_scope k = c.in_ok-walk_params.ensures.scope ∙ ap₂ after_params s0 d1 in
     let d2 = ap accumulators_of c.deref-2.ensures.value in
     let s2 : scope_of c.walk_vars.new.scope ≡ var_scope k = c.in_ok-walk_vars.ensures.scope ∙ ap₂ after_vars s1 d2 in
-    vars_index k (scope_of c.walk_vars.new.scope) s2
+    var_scope-index k (scope_of c.walk_vars.new.scope) s2
 
 pub walk_answer-requires : goal.walk_answer-requires
 walk_answer-requires c =

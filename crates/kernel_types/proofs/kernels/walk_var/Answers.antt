@@ -3,8 +3,9 @@ use Rattle.kernel_types.proofs.TypeLists.{then_types}
 use Rattle.std.proofs.Common.{arith}
 use Rattle.kernel_tree.specs.Items.{term_size}
 use Rattle.kernel_tree.specs.Plain.{term_of, accumulator_of}
+use Rattle.kernel_tree.proofs.Calls.{on_any}
 use Rattle.kernel_scope.specs.Scopes.{scope_of}
-use Rattle.kernel_types.proofs.PartWalks.{on_any, var_found}
+use Rattle.kernel_types.proofs.PartWalks.{var_found}
 use Rattle.kernel_types.proofs.OperandWalks.{past_item}
 use Rattle.kernel_types.proofs.kernels.walk_var.Goals as goal
 

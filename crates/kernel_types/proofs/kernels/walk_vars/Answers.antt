@@ -1,9 +1,10 @@
 use Rattle.std.proofs.Common.{◌+◌, ap, ◌∙◌, drop, refl}
 use Rattle.kernel_tree.specs.Plain.{accumulator_of, accumulators_of}
 use Rattle.kernel_scope.specs.Scopes.{scope_of}
-use Rattle.kernel_types.proofs.ListWalks.{next_item, vars_go_on}
+use Rattle.kernel_types.proofs.ListWalks.{vars_go_on}
 use Rattle.std.proofs.lemmas.Result.{IfOk-from_err}
-use Rattle.kernel_types.proofs.PartWalks.{var_room, no_var, vars_end}
+use Rattle.kernel_tree.proofs.Walks.{next_item, no_var}
+use Rattle.kernel_types.proofs.PartWalks.{var_room, vars_end}
 use Rattle.kernel_types.proofs.kernels.walk_vars.Goals as goal
 
 pub loop-var-preserved : goal.loop-var-preserved

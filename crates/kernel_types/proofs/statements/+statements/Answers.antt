@@ -4,14 +4,16 @@ use Rattle.kernel_tree.specs.Plain.{Define, Put, Update, Choose, Leave, Nothing,
 use Rattle.kernel_tree.specs.Limits.{block_depth}
 use Rattle.kernel_scope.specs.Scopes.{scope_of, kept}
 use Rattle.kernel_scope.proofs.Growth.{kept-block}
-use Rattle.kernel_types.proofs.ListWalks.{next_statement, goes_on}
-use Rattle.kernel_types.proofs.ChoiceWalks.{one_found, one_types, two_scope, two_next, two_found, two_types}
+use Rattle.kernel_types.proofs.ListWalks.{statement_notes_go_on}
+use Rattle.kernel_types.proofs.ChoiceWalks.{one_found, one_types, two_next, two_found, two_types}
 use Rattle.kernel_types.proofs.KindWalks.{acted, acted_if, action_room}
-use Rattle.kernel_types.proofs.BlockWalks.{if_below, if_else_below, statement_below, statement_room, no_statement, block_end}
+use Rattle.kernel_types.proofs.BlockWalks.{four_only_block_below, block_end}
 use Rattle.kernel_types.proofs.TypeLists.{then_types}
 use Rattle.kernel_types.proofs.OperandWalks.{one_end, past_item, block_next}
 use Rattle.kernel_types.proofs.LeastFault.{sooner-none}
 use Rattle.kernel_tree.specs.Items.{term_size, block_size}
+use Rattle.kernel_tree.proofs.Walks.{next_statement, no_statement, statement_room, after_two_blocks}
+use Rattle.kernel_tree.proofs.Measures.{four_statement_below, four_blocks_below}
 use Rattle.kernel_types.proofs.statements.+statements.Goals as goal
 
 pub walk_block-loop-stmt-preserved : goal.walk_block-loop-stmt-preserved
@@ -19,7 +21,7 @@ walk_block-loop-stmt-preserved t c =
     let l = c.loop-stmt in
     let made = c.in_ok-walk_stmt.ensures in
     let e = next_statement c.args.block.now l.stmt-index c.stmt-item.result c.loop-stmt-test.true c.stmt-item.is in
-    let step = goes_on (scope_of l.scope) (scope_of c.walk_stmt.new.scope) l.notes c.walk_stmt.new.notes (action_of c.stmt-item.result) (block_of (drop (l.stmt-index + 1) c.args.block.now)) (block_of (drop l.stmt-index c.args.block.now)) e made.scope made.next made.found made.types in
+    let step = statement_notes_go_on (scope_of l.scope) (scope_of c.walk_stmt.new.scope) l.notes c.walk_stmt.new.notes (action_of c.stmt-item.result) (block_of (drop (l.stmt-index + 1) c.args.block.now)) (block_of (drop l.stmt-index c.args.block.now)) e made.scope made.next made.found made.types in
     record {
       depth = omega (arith, ap block_depth e, l.invariant.depth);
       scope = step.scope ∙ l.invariant.scope;
@@ -41,7 +43,7 @@ pub walk_if-returns-clause-types : goal.walk_if-returns-clause-types
 walk_if-returns-clause-types t c = IfOk-weaker c.walk_inner.result _ _ (λ _ h. one_types (scope_of c.args.scope.now) (term_of c.args.cond.now) (block_of c.args.block.now) c.walk_marked.ensures.types h) c.walk_inner.ensures.types
 
 pub walk_if_else-returns-clause-scope : goal.walk_if_else-returns-clause-scope
-walk_if_else-returns-clause-scope t c = IfOk-weaker c.walk_inner-2.result _ _ (λ _ h. two_scope (scope_of c.args.scope.now) (scope_of c.walk_inner.new.scope) (scope_of c.walk_inner-2.new.scope) (term_of c.args.cond.now) (block_of c.args.block.now) (block_of c.args.other.now) c.in_ok-walk_inner.ensures.scope h) c.walk_inner-2.ensures.scope
+walk_if_else-returns-clause-scope t c = IfOk-weaker c.walk_inner-2.result _ _ (λ _ h. after_two_blocks (scope_of c.args.scope.now) (scope_of c.walk_inner.new.scope) (scope_of c.walk_inner-2.new.scope) (term_of c.args.cond.now) (block_of c.args.block.now) (block_of c.args.other.now) c.in_ok-walk_inner.ensures.scope h) c.walk_inner-2.ensures.scope
 
 pub walk_if_else-returns-clause-next : goal.walk_if_else-returns-clause-next
 walk_if_else-returns-clause-next t c = IfOk-weaker c.walk_inner-2.result _ _ (λ _ h. two_next (scope_of c.args.scope.now) (scope_of c.walk_inner.new.scope) c.args.notes.now.next c.walk_marked.new.notes.next c.walk_inner.new.notes.next c.walk_inner-2.new.notes.next (term_of c.args.cond.now) (block_of c.args.block.now) (block_of c.args.other.now) c.in_ok-walk_inner.ensures.scope c.walk_marked.ensures.next c.in_ok-walk_inner.ensures.next h) c.walk_inner-2.ensures.next
@@ -101,7 +103,7 @@ walk_stmt-returns-in-Update t c =
 
 pub walk_stmt-walk_if-requires : goal.walk_stmt-walk_if-requires
 walk_stmt-walk_if-requires t c =
-    (if_below t (action_of c.args.stmt.now) (term_of c.in-If.cond.now) (block_of c.in-If.block.now) c.decreases (sym c.in-If.ensures), action_room (scope_of c.args.scope.now).index c.args.notes.now.next (action_of c.args.stmt.now) (Choose (term_of c.in-If.cond.now) (block_of c.in-If.block.now) Nothing) (sym c.in-If.ensures) c.requires)
+    (four_only_block_below t (action_of c.args.stmt.now) (term_of c.in-If.cond.now) (block_of c.in-If.block.now) c.decreases (sym c.in-If.ensures), action_room (scope_of c.args.scope.now).index c.args.notes.now.next (action_of c.args.stmt.now) (Choose (term_of c.in-If.cond.now) (block_of c.in-If.block.now) Nothing) (sym c.in-If.ensures) c.requires)
 
 pub walk_stmt-returns-in-If : goal.walk_stmt-returns-in-If
 walk_stmt-returns-in-If t c =
@@ -110,7 +112,7 @@ walk_stmt-returns-in-If t c =
 
 pub walk_stmt-walk_if_else-requires : goal.walk_stmt-walk_if_else-requires
 walk_stmt-walk_if_else-requires t c =
-    (if_else_below t (action_of c.args.stmt.now) (term_of c.in-IfElse.cond.now) (block_of c.in-IfElse.block.now) (block_of c.in-IfElse.other.now) c.decreases (sym c.in-IfElse.ensures), action_room (scope_of c.args.scope.now).index c.args.notes.now.next (action_of c.args.stmt.now) (Choose (term_of c.in-IfElse.cond.now) (block_of c.in-IfElse.block.now) (Else (block_of c.in-IfElse.other.now))) (sym c.in-IfElse.ensures) c.requires)
+    (four_blocks_below t (action_of c.args.stmt.now) (term_of c.in-IfElse.cond.now) (block_of c.in-IfElse.block.now) (block_of c.in-IfElse.other.now) c.decreases (sym c.in-IfElse.ensures), action_room (scope_of c.args.scope.now).index c.args.notes.now.next (action_of c.args.stmt.now) (Choose (term_of c.in-IfElse.cond.now) (block_of c.in-IfElse.block.now) (Else (block_of c.in-IfElse.other.now))) (sym c.in-IfElse.ensures) c.requires)
 
 pub walk_stmt-returns-in-IfElse : goal.walk_stmt-returns-in-IfElse
 walk_stmt-returns-in-IfElse t c =
@@ -155,7 +157,7 @@ walk_block-walk_stmt-requires t c =
     let more = block_of (drop (l.stmt-index + 1) c.args.block.now) in
     let a = action_of c.stmt-item.result in
     let e = next_statement c.args.block.now l.stmt-index c.stmt-item.result c.loop-stmt-test.true c.stmt-item.is in
-    (statement_below t (block_of c.args.block.now) x more a c.decreases l.invariant.depth e, statement_room (scope_of l.scope).index (scope_of c.args.scope.now).index (block_of c.args.block.now) x more a c.args.notes.now.next l.notes.next e l.invariant.next c.requires)
+    (four_statement_below t (block_of c.args.block.now) x more a c.decreases l.invariant.depth e, statement_room (scope_of l.scope).index (scope_of c.args.scope.now).index (block_of c.args.block.now) x more a c.args.notes.now.next l.notes.next e l.invariant.next c.requires)
 
 pub walk_block-loop-stmt-smaller : goal.walk_block-loop-stmt-smaller
 walk_block-loop-stmt-smaller t c = omega arith

@@ -4,8 +4,9 @@ use Rattle.std.proofs.Common.{arith, ap, ◌∙◌}
 use Rattle.kernel_tree.specs.Plain.{name_of, term_of}
 use Rattle.kernel_tree.specs.Items.{term_size}
 use Rattle.kernel_tree.specs.Typing.{first, defined}
+use Rattle.kernel_tree.proofs.Calls.{on_any}
 use Rattle.kernel_scope.specs.Scopes.{scope_of}
-use Rattle.kernel_types.proofs.PartWalks.{on_any, let_found}
+use Rattle.kernel_types.proofs.PartWalks.{let_found}
 use Rattle.kernel_types.proofs.OperandWalks.{past_item}
 use Rattle.kernel_types.proofs.statements.walk_let.Goals as goal
 

@@ -10,12 +10,13 @@ use Rattle.kernel_tree.specs.Items as items
 use Rattle.kernel_tree.specs.Items.{term_size, index_items}
 use Rattle.kernel_tree.specs.Limits.{term_depth}
 use Rattle.kernel_tree.specs.Typing as typing
+use Rattle.kernel_tree.proofs.Walks.{smaller_room}
 use Rattle.kernel_scope.specs.Scopes.{scope_of}
 use Rattle.kernel_types.specs.Parts.{role_of}
 use Rattle.kernel_types.proofs.LeastFault.{part_and_item, sooner-none, then_item, two_then_item, three_then_item, both_rules}
 use Rattle.kernel_types.proofs.TypeLists.{then_types}
 use Rattle.kernel_types.proofs.KindWalks.{called, read_called, has_room, walked, computed_items, streamed, computed}
-use Rattle.kernel_types.proofs.OperandWalks.{one_below, left_below, right_below, middle_below, last_below, one_room, one_end, past_item, two_first, two_second, two_end, two_next, either_first, either_mark, either_second, either_end, either_next, three_first, three_second, three_third, three_end, three_next}
+use Rattle.kernel_types.proofs.OperandWalks.{three_1_to_0, three_1_to_left_0, three_1_to_right_0, middle_below, last_below, one_end, past_item, two_first, two_second, two_end, two_next, either_first, either_mark, either_second, either_end, either_next, three_first, three_second, three_third, three_end, three_next}
 use Rattle.kernel_types.proofs.terms.+terms.Goals as goal
 
 pub walk_read-returns-clause-found : goal.walk_read-returns-clause-found
@@ -161,7 +162,7 @@ pub walk_not-returns-clause-types : goal.walk_not-returns-clause-types
 walk_not-returns-clause-types t c = then_types c.walk_expr.ensures.types c.end.ensures.types
 
 pub walk_unary-walk_expr-requires : goal.walk_unary-walk_expr-requires
-walk_unary-walk_expr-requires t c = (one_below t (term_depth (term_of c.args.arg.now)) c.decreases, one_room c.args.notes.now.next (term_size (scope_of c.args.scope.now).index (term_of c.args.arg.now)) c.requires)
+walk_unary-walk_expr-requires t c = (three_1_to_0 t (term_depth (term_of c.args.arg.now)) c.decreases, smaller_room c.args.notes.now.next (term_size (scope_of c.args.scope.now).index (term_of c.args.arg.now)) c.requires)
 
 pub walk_unary-end-requires : goal.walk_unary-end-requires
 walk_unary-end-requires t c = one_end c.args.notes.now.next (term_size (scope_of c.args.scope.now).index (term_of c.args.arg.now)) c.walk_expr.new.notes.next c.requires c.walk_expr.ensures.next
@@ -170,10 +171,10 @@ pub walk_unary-returns-clause-next : goal.walk_unary-returns-clause-next
 walk_unary-returns-clause-next t c = past_item c.args.notes.now.next c.walk_expr.new.notes.next c.end.new.notes.next (term_size (scope_of c.args.scope.now).index (term_of c.args.arg.now)) c.walk_expr.ensures.next c.end.ensures.next
 
 pub walk_binary-walk_expr-requires : goal.walk_binary-walk_expr-requires
-walk_binary-walk_expr-requires t c = (left_below t (term_depth (term_of c.args.left.now)) (term_depth (term_of c.args.right.now)) c.decreases, two_first c.args.notes.now.next (term_size (scope_of c.args.scope.now).index (term_of c.args.left.now)) (term_size (scope_of c.args.scope.now).index (term_of c.args.right.now)) c.requires)
+walk_binary-walk_expr-requires t c = (three_1_to_left_0 t (term_depth (term_of c.args.left.now)) (term_depth (term_of c.args.right.now)) c.decreases, two_first c.args.notes.now.next (term_size (scope_of c.args.scope.now).index (term_of c.args.left.now)) (term_size (scope_of c.args.scope.now).index (term_of c.args.right.now)) c.requires)
 
 pub walk_binary-walk_expr-requires-2 : goal.walk_binary-walk_expr-requires-2
-walk_binary-walk_expr-requires-2 t c = (right_below t (term_depth (term_of c.args.left.now)) (term_depth (term_of c.args.right.now)) c.decreases, two_second c.args.notes.now.next (term_size (scope_of c.args.scope.now).index (term_of c.args.left.now)) (term_size (scope_of c.args.scope.now).index (term_of c.args.right.now)) c.requires c.walk_expr.new.notes.next c.walk_expr.ensures.next)
+walk_binary-walk_expr-requires-2 t c = (three_1_to_right_0 t (term_depth (term_of c.args.left.now)) (term_depth (term_of c.args.right.now)) c.decreases, two_second c.args.notes.now.next (term_size (scope_of c.args.scope.now).index (term_of c.args.left.now)) (term_size (scope_of c.args.scope.now).index (term_of c.args.right.now)) c.requires c.walk_expr.new.notes.next c.walk_expr.ensures.next)
 
 pub walk_binary-end-requires : goal.walk_binary-end-requires
 walk_binary-end-requires t c = two_end c.args.notes.now.next (term_size (scope_of c.args.scope.now).index (term_of c.args.left.now)) (term_size (scope_of c.args.scope.now).index (term_of c.args.right.now)) c.requires c.walk_expr.new.notes.next c.walk_expr-2.new.notes.next c.walk_expr.ensures.next c.walk_expr-2.ensures.next
@@ -182,7 +183,7 @@ pub walk_binary-returns-clause-next : goal.walk_binary-returns-clause-next
 walk_binary-returns-clause-next t c = two_next c.args.notes.now.next (term_size (scope_of c.args.scope.now).index (term_of c.args.left.now)) (term_size (scope_of c.args.scope.now).index (term_of c.args.right.now)) c.walk_expr.new.notes.next c.walk_expr-2.new.notes.next c.end.new.notes.next c.walk_expr.ensures.next c.walk_expr-2.ensures.next c.end.ensures.next
 
 pub walk_shift-walk_expr-requires : goal.walk_shift-walk_expr-requires
-walk_shift-walk_expr-requires t c = (one_below t (term_depth (term_of c.args.arg.now)) c.decreases, one_room c.args.notes.now.next (term_size (scope_of c.args.scope.now).index (term_of c.args.arg.now)) c.requires)
+walk_shift-walk_expr-requires t c = (three_1_to_0 t (term_depth (term_of c.args.arg.now)) c.decreases, smaller_room c.args.notes.now.next (term_size (scope_of c.args.scope.now).index (term_of c.args.arg.now)) c.requires)
 
 pub walk_shift-end_shift-requires : goal.walk_shift-end_shift-requires
 walk_shift-end_shift-requires t c = one_end c.args.notes.now.next (term_size (scope_of c.args.scope.now).index (term_of c.args.arg.now)) c.walk_expr.new.notes.next c.requires c.walk_expr.ensures.next
@@ -191,7 +192,7 @@ pub walk_shift-returns-clause-next : goal.walk_shift-returns-clause-next
 walk_shift-returns-clause-next t c = past_item c.args.notes.now.next c.walk_expr.new.notes.next c.end_shift.new.notes.next (term_size (scope_of c.args.scope.now).index (term_of c.args.arg.now)) c.walk_expr.ensures.next c.end_shift.ensures.next
 
 pub walk_cast-walk_expr-requires : goal.walk_cast-walk_expr-requires
-walk_cast-walk_expr-requires t c = (one_below t (term_depth (term_of c.args.arg.now)) c.decreases, one_room c.args.notes.now.next (term_size (scope_of c.args.scope.now).index (term_of c.args.arg.now)) c.requires)
+walk_cast-walk_expr-requires t c = (three_1_to_0 t (term_depth (term_of c.args.arg.now)) c.decreases, smaller_room c.args.notes.now.next (term_size (scope_of c.args.scope.now).index (term_of c.args.arg.now)) c.requires)
 
 pub walk_cast-end-requires : goal.walk_cast-end-requires
 walk_cast-end-requires t c = one_end c.args.notes.now.next (term_size (scope_of c.args.scope.now).index (term_of c.args.arg.now)) c.walk_expr.new.notes.next c.requires c.walk_expr.ensures.next
@@ -206,7 +207,7 @@ pub walk_select-walk_expr-requires-2 : goal.walk_select-walk_expr-requires-2
 walk_select-walk_expr-requires-2 t c = (last_below t (term_depth (term_of c.args.cond.now)) (term_depth (term_of c.args.yes.now)) (term_depth (term_of c.args.no.now)) c.decreases, three_second c.args.notes.now.next (term_size (scope_of c.args.scope.now).index (term_of c.args.yes.now)) (term_size (scope_of c.args.scope.now).index (term_of c.args.no.now)) (term_size (scope_of c.args.scope.now).index (term_of c.args.cond.now)) c.requires c.walk_expr.new.notes.next c.walk_expr.ensures.next)
 
 pub walk_select-walk_expr-requires-3 : goal.walk_select-walk_expr-requires-3
-walk_select-walk_expr-requires-3 t c = (left_below t (term_depth (term_of c.args.cond.now)) (max (term_depth (term_of c.args.yes.now)) (term_depth (term_of c.args.no.now))) c.decreases, three_third c.args.notes.now.next (term_size (scope_of c.args.scope.now).index (term_of c.args.yes.now)) (term_size (scope_of c.args.scope.now).index (term_of c.args.no.now)) (term_size (scope_of c.args.scope.now).index (term_of c.args.cond.now)) c.requires c.walk_expr.new.notes.next c.walk_expr-2.new.notes.next c.walk_expr.ensures.next c.walk_expr-2.ensures.next)
+walk_select-walk_expr-requires-3 t c = (three_1_to_left_0 t (term_depth (term_of c.args.cond.now)) (max (term_depth (term_of c.args.yes.now)) (term_depth (term_of c.args.no.now))) c.decreases, three_third c.args.notes.now.next (term_size (scope_of c.args.scope.now).index (term_of c.args.yes.now)) (term_size (scope_of c.args.scope.now).index (term_of c.args.no.now)) (term_size (scope_of c.args.scope.now).index (term_of c.args.cond.now)) c.requires c.walk_expr.new.notes.next c.walk_expr-2.new.notes.next c.walk_expr.ensures.next c.walk_expr-2.ensures.next)
 
 pub walk_select-end-requires : goal.walk_select-end-requires
 walk_select-end-requires t c = three_end c.args.notes.now.next (term_size (scope_of c.args.scope.now).index (term_of c.args.yes.now)) (term_size (scope_of c.args.scope.now).index (term_of c.args.no.now)) (term_size (scope_of c.args.scope.now).index (term_of c.args.cond.now)) c.requires c.walk_expr.new.notes.next c.walk_expr-2.new.notes.next c.walk_expr-3.new.notes.next c.walk_expr.ensures.next c.walk_expr-2.ensures.next c.walk_expr-3.ensures.next
@@ -215,10 +216,10 @@ pub walk_select-returns-clause-next : goal.walk_select-returns-clause-next
 walk_select-returns-clause-next t c = three_next c.args.notes.now.next (term_size (scope_of c.args.scope.now).index (term_of c.args.yes.now)) (term_size (scope_of c.args.scope.now).index (term_of c.args.no.now)) (term_size (scope_of c.args.scope.now).index (term_of c.args.cond.now)) c.walk_expr.new.notes.next c.walk_expr-2.new.notes.next c.walk_expr-3.new.notes.next c.end.new.notes.next c.walk_expr.ensures.next c.walk_expr-2.ensures.next c.walk_expr-3.ensures.next c.end.ensures.next
 
 pub walk_compare-walk_expr-requires : goal.walk_compare-walk_expr-requires
-walk_compare-walk_expr-requires t c = (left_below t (term_depth (term_of c.args.left.now)) (term_depth (term_of c.args.right.now)) c.decreases, two_first c.args.notes.now.next (term_size (scope_of c.args.scope.now).index (term_of c.args.left.now)) (term_size (scope_of c.args.scope.now).index (term_of c.args.right.now)) c.requires)
+walk_compare-walk_expr-requires t c = (three_1_to_left_0 t (term_depth (term_of c.args.left.now)) (term_depth (term_of c.args.right.now)) c.decreases, two_first c.args.notes.now.next (term_size (scope_of c.args.scope.now).index (term_of c.args.left.now)) (term_size (scope_of c.args.scope.now).index (term_of c.args.right.now)) c.requires)
 
 pub walk_compare-walk_expr-requires-2 : goal.walk_compare-walk_expr-requires-2
-walk_compare-walk_expr-requires-2 t c = (right_below t (term_depth (term_of c.args.left.now)) (term_depth (term_of c.args.right.now)) c.decreases, two_second c.args.notes.now.next (term_size (scope_of c.args.scope.now).index (term_of c.args.left.now)) (term_size (scope_of c.args.scope.now).index (term_of c.args.right.now)) c.requires c.walk_expr.new.notes.next c.walk_expr.ensures.next)
+walk_compare-walk_expr-requires-2 t c = (three_1_to_right_0 t (term_depth (term_of c.args.left.now)) (term_depth (term_of c.args.right.now)) c.decreases, two_second c.args.notes.now.next (term_size (scope_of c.args.scope.now).index (term_of c.args.left.now)) (term_size (scope_of c.args.scope.now).index (term_of c.args.right.now)) c.requires c.walk_expr.new.notes.next c.walk_expr.ensures.next)
 
 pub walk_compare-end-requires : goal.walk_compare-end-requires
 walk_compare-end-requires t c = two_end c.args.notes.now.next (term_size (scope_of c.args.scope.now).index (term_of c.args.left.now)) (term_size (scope_of c.args.scope.now).index (term_of c.args.right.now)) c.requires c.walk_expr.new.notes.next c.walk_expr-2.new.notes.next c.walk_expr.ensures.next c.walk_expr-2.ensures.next
@@ -227,10 +228,10 @@ pub walk_compare-returns-clause-next : goal.walk_compare-returns-clause-next
 walk_compare-returns-clause-next t c = two_next c.args.notes.now.next (term_size (scope_of c.args.scope.now).index (term_of c.args.left.now)) (term_size (scope_of c.args.scope.now).index (term_of c.args.right.now)) c.walk_expr.new.notes.next c.walk_expr-2.new.notes.next c.end.new.notes.next c.walk_expr.ensures.next c.walk_expr-2.ensures.next c.end.ensures.next
 
 pub walk_and-walk_expr-requires : goal.walk_and-walk_expr-requires
-walk_and-walk_expr-requires t c = (left_below t (term_depth (term_of c.args.left.now)) (term_depth (term_of c.args.right.now)) c.decreases, two_first c.args.notes.now.next (term_size (scope_of c.args.scope.now).index (term_of c.args.left.now)) (term_size (scope_of c.args.scope.now).index (term_of c.args.right.now)) c.requires)
+walk_and-walk_expr-requires t c = (three_1_to_left_0 t (term_depth (term_of c.args.left.now)) (term_depth (term_of c.args.right.now)) c.decreases, two_first c.args.notes.now.next (term_size (scope_of c.args.scope.now).index (term_of c.args.left.now)) (term_size (scope_of c.args.scope.now).index (term_of c.args.right.now)) c.requires)
 
 pub walk_and-walk_expr-requires-2 : goal.walk_and-walk_expr-requires-2
-walk_and-walk_expr-requires-2 t c = (right_below t (term_depth (term_of c.args.left.now)) (term_depth (term_of c.args.right.now)) c.decreases, two_second c.args.notes.now.next (term_size (scope_of c.args.scope.now).index (term_of c.args.left.now)) (term_size (scope_of c.args.scope.now).index (term_of c.args.right.now)) c.requires c.walk_expr.new.notes.next c.walk_expr.ensures.next)
+walk_and-walk_expr-requires-2 t c = (three_1_to_right_0 t (term_depth (term_of c.args.left.now)) (term_depth (term_of c.args.right.now)) c.decreases, two_second c.args.notes.now.next (term_size (scope_of c.args.scope.now).index (term_of c.args.left.now)) (term_size (scope_of c.args.scope.now).index (term_of c.args.right.now)) c.requires c.walk_expr.new.notes.next c.walk_expr.ensures.next)
 
 pub walk_and-end-requires : goal.walk_and-end-requires
 walk_and-end-requires t c = two_end c.args.notes.now.next (term_size (scope_of c.args.scope.now).index (term_of c.args.left.now)) (term_size (scope_of c.args.scope.now).index (term_of c.args.right.now)) c.requires c.walk_expr.new.notes.next c.walk_expr-2.new.notes.next c.walk_expr.ensures.next c.walk_expr-2.ensures.next
@@ -239,10 +240,10 @@ pub walk_and-returns-clause-next : goal.walk_and-returns-clause-next
 walk_and-returns-clause-next t c = two_next c.args.notes.now.next (term_size (scope_of c.args.scope.now).index (term_of c.args.left.now)) (term_size (scope_of c.args.scope.now).index (term_of c.args.right.now)) c.walk_expr.new.notes.next c.walk_expr-2.new.notes.next c.end.new.notes.next c.walk_expr.ensures.next c.walk_expr-2.ensures.next c.end.ensures.next
 
 pub walk_or-walk_expr-requires : goal.walk_or-walk_expr-requires
-walk_or-walk_expr-requires t c = (left_below t (term_depth (term_of c.args.left.now)) (term_depth (term_of c.args.right.now)) c.decreases, either_first c.args.notes.now.next (term_size (scope_of c.args.scope.now).index (term_of c.args.left.now)) (term_size (scope_of c.args.scope.now).index (term_of c.args.right.now)) c.requires)
+walk_or-walk_expr-requires t c = (three_1_to_left_0 t (term_depth (term_of c.args.left.now)) (term_depth (term_of c.args.right.now)) c.decreases, either_first c.args.notes.now.next (term_size (scope_of c.args.scope.now).index (term_of c.args.left.now)) (term_size (scope_of c.args.scope.now).index (term_of c.args.right.now)) c.requires)
 
 pub walk_or-walk_expr-requires-2 : goal.walk_or-walk_expr-requires-2
-walk_or-walk_expr-requires-2 t c = (right_below t (term_depth (term_of c.args.left.now)) (term_depth (term_of c.args.right.now)) c.decreases, either_second c.args.notes.now.next (term_size (scope_of c.args.scope.now).index (term_of c.args.left.now)) (term_size (scope_of c.args.scope.now).index (term_of c.args.right.now)) c.requires c.walk_expr.new.notes.next c.end.new.notes.next c.walk_expr.ensures.next c.end.ensures.next)
+walk_or-walk_expr-requires-2 t c = (three_1_to_right_0 t (term_depth (term_of c.args.left.now)) (term_depth (term_of c.args.right.now)) c.decreases, either_second c.args.notes.now.next (term_size (scope_of c.args.scope.now).index (term_of c.args.left.now)) (term_size (scope_of c.args.scope.now).index (term_of c.args.right.now)) c.requires c.walk_expr.new.notes.next c.end.new.notes.next c.walk_expr.ensures.next c.end.ensures.next)
 
 pub walk_or-end-requires : goal.walk_or-end-requires
 walk_or-end-requires t c = either_mark c.args.notes.now.next (term_size (scope_of c.args.scope.now).index (term_of c.args.left.now)) (term_size (scope_of c.args.scope.now).index (term_of c.args.right.now)) c.requires c.walk_expr.new.notes.next c.walk_expr.ensures.next
@@ -254,7 +255,7 @@ pub walk_or-returns-clause-next : goal.walk_or-returns-clause-next
 walk_or-returns-clause-next t c = either_next c.args.notes.now.next (term_size (scope_of c.args.scope.now).index (term_of c.args.left.now)) (term_size (scope_of c.args.scope.now).index (term_of c.args.right.now)) c.walk_expr.new.notes.next c.end.new.notes.next c.walk_expr-2.new.notes.next c.end-2.new.notes.next c.walk_expr.ensures.next c.end.ensures.next c.walk_expr-2.ensures.next c.end-2.ensures.next
 
 pub walk_not-walk_expr-requires : goal.walk_not-walk_expr-requires
-walk_not-walk_expr-requires t c = (one_below t (term_depth (term_of c.args.arg.now)) c.decreases, one_room c.args.notes.now.next (term_size (scope_of c.args.scope.now).index (term_of c.args.arg.now)) c.requires)
+walk_not-walk_expr-requires t c = (three_1_to_0 t (term_depth (term_of c.args.arg.now)) c.decreases, smaller_room c.args.notes.now.next (term_size (scope_of c.args.scope.now).index (term_of c.args.arg.now)) c.requires)
 
 pub walk_not-end-requires : goal.walk_not-end-requires
 walk_not-end-requires t c = one_end c.args.notes.now.next (term_size (scope_of c.args.scope.now).index (term_of c.args.arg.now)) c.walk_expr.new.notes.next c.requires c.walk_expr.ensures.next

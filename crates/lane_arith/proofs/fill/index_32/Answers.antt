@@ -5,7 +5,7 @@ use Rattle.guest_types.specs.declared.length.Width.TheVariants.{S}
 use Rattle.guest_types.specs.Lanes.{index_at}
 use Rattle.lane_blocks.proofs.Lanes.{lanes-ext, lanes-zip, lanes-splat, lanes-small, lanes-to_bytes}
 use Rattle.lane_blocks.proofs.Masks.{lanes-places}
-use Rattle.lane_arith.proofs.Filled.{elements-mod, counted}
+use Rattle.lane_arith.proofs.Filled.{elements-mod, ramp_residue}
 use Rattle.lane_arith.proofs.fill.index_32.Goals as goal
 
 pub returns : goal.returns
@@ -18,5 +18,5 @@ returns c =
     let lanes =
     lanes-ext (λ e. index_at from by e % m)
     (lanes-zip (λ x y. (x + y) % m) (lanes-zip (λ x y. x * y % m) (lanes-places 8) (lanes-splat 8 low_by)) (lanes-splat 8 low_from))
-    (λ e l. ap₂ (λ b f. (e * b % m + f) % m) (and_mask by 32) (and_mask from 32) ∙ counted m from by e) in
+    (λ e l. ap₂ (λ b f. (e * b % m + f) % m) (and_mask by 32) (and_mask from 32) ∙ ramp_residue m from by e) in
     lanes-to_bytes 4 m refl lanes (lanes-small m lanes (λ e l. mod-lt (from + e * by) (omega arith))) ∙ elements-mod S (index_at from by) 8

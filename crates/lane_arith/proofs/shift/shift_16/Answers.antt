@@ -6,7 +6,7 @@ use Rattle.guest_types.specs.Elements.{at}
 use Rattle.guest_types.specs.Lanes.{ShiftFits, shift_at}
 use Rattle.lane_blocks.proofs.Lanes.{IsLanes, lanes-is, lanes-ext, lanes-wide, lanes-zip, lanes-splat, lanes-select, lanes-to_bytes}
 use Rattle.lane_blocks.proofs.Masks.{element-small}
-use Rattle.lane_arith.proofs.Shifted.{by-shift, two-steps, filled}
+use Rattle.lane_arith.proofs.Shifted.{by-shift, two-steps, shifted_with_fill}
 use Rattle.lane_arith.proofs.shift.shift_16.Goals as goal
 use Rattle.lane_arith.proofs.shift.shift_16.Goals.{in-Lsl, in-Lsr, in-Asr}
 
@@ -32,6 +32,6 @@ returns c =
           let sign = lanes-select w16 ltb x (lanes-splat 16 (m / 2)) (lanes-splat 16 0) (lanes-splat 16 fill) in
           by-shift H a count w.in-Asr.is
           (lanes-ext (shift_at Asr H a count) (lanes-is w.outcome-is (lanes-zip (λ x y. (x + y) % m) low sign))
-          (λ e l. filled H (at H a e) count top w.shifted_down.result fill (element-small H a e sa) w.max-top.ensures fits.0 fits.1 w.shifted_down.ensures refl))
+          (λ e l. shifted_with_fill H (at H a e) count top w.shifted_down.result fill (element-small H a e sa) w.max-top.ensures fits.0 fits.1 w.shifted_down.ensures refl))
     ] in
     lanes-to_bytes 2 m refl lanes (below_from_Fits w16 c.match-op.outcome c.match-op.auto.outcome.1)

@@ -6,7 +6,7 @@ use Rattle.guest_types.specs.Elements.{at}
 use Rattle.guest_types.specs.Lanes.{ShiftFits, shift_at}
 use Rattle.lane_blocks.proofs.Lanes.{IsLanes, lanes-is, lanes-ext, lanes-wide, lanes-zip, lanes-splat, lanes-select, lanes-to_bytes}
 use Rattle.lane_blocks.proofs.Masks.{element-small}
-use Rattle.lane_arith.proofs.Shifted.{by-shift, two-steps, filled}
+use Rattle.lane_arith.proofs.Shifted.{by-shift, two-steps, shifted_with_fill}
 use Rattle.lane_arith.proofs.shift.shift_64.Goals as goal
 use Rattle.lane_arith.proofs.shift.shift_64.Goals.{in-Lsl, in-Lsr, in-Asr}
 
@@ -32,6 +32,6 @@ returns c =
           let sign = lanes-select w64 ltb x (lanes-splat 4 (m / 2)) (lanes-splat 4 0) (lanes-splat 4 fill) in
           by-shift D a count w.in-Asr.is
           (lanes-ext (shift_at Asr D a count) (lanes-is w.outcome-is (lanes-zip (λ x y. (x + y) % m) low sign))
-          (λ e l. filled D (at D a e) count top w.shifted_down.result fill (element-small D a e sa) w.max-top.ensures fits.0 fits.1 w.shifted_down.ensures refl))
+          (λ e l. shifted_with_fill D (at D a e) count top w.shifted_down.result fill (element-small D a e sa) w.max-top.ensures fits.0 fits.1 w.shifted_down.ensures refl))
     ] in
     lanes-to_bytes 8 m refl lanes (below_from_Fits w64 c.match-op.outcome c.match-op.auto.outcome.1)

@@ -6,7 +6,7 @@ use Rattle.guest_types.specs.Elements.{at}
 use Rattle.guest_types.specs.Lanes.{ShiftFits, shift_at}
 use Rattle.lane_blocks.proofs.Lanes.{IsLanes, lanes-is, lanes-ext, lanes-bytes, lanes-zip, lanes-splat, lanes-select, lanes-elements}
 use Rattle.lane_blocks.proofs.Masks.{element-small}
-use Rattle.lane_arith.proofs.Shifted.{by-shift, two-steps, filled}
+use Rattle.lane_arith.proofs.Shifted.{by-shift, two-steps, shifted_with_fill}
 use Rattle.lane_arith.proofs.shift.shift_8.Goals as goal
 use Rattle.lane_arith.proofs.shift.shift_8.Goals.{in-Lsl, in-Lsr, in-Asr}
 
@@ -32,6 +32,6 @@ returns c =
           let sign = lanes-select w8 ltb x (lanes-splat 32 (m / 2)) (lanes-splat 32 0) (lanes-splat 32 fill) in
           by-shift B a count w.in-Asr.is
           (lanes-ext (shift_at Asr B a count) (lanes-is w.result-is (lanes-zip (λ x y. (x + y) % m) low sign))
-          (λ e l. filled B (at B a e) count top w.shifted_down.result fill (element-small B a e sa) w.max-top.ensures fits.0 fits.1 w.shifted_down.ensures refl))
+          (λ e l. shifted_with_fill B (at B a e) count top w.shifted_down.result fill (element-small B a e sa) w.max-top.ensures fits.0 fits.1 w.shifted_down.ensures refl))
     ] in
     lanes-elements lanes (below_from_Fits w8 c.match-op.result c.match-op.auto.result.1)

@@ -1,8 +1,9 @@
 use Rattle.std.proofs.Common.{[], ◌∷◌, sym, ap, ◌∙◌}
+use Rattle.guest_types.proofs.Errors.{on_error}
 use Rattle.sve_code.specs.Table.{z_add, z_sub, z_and, z_orr, z_eor, m_mul}
 use Rattle.lane_emit.specs.Stretch.{word}
 use Rattle.lane_emit.specs.LaneCode.{size_of, z_settle, merged, binary_code, binary_leaves}
-use Rattle.lane_emit.proofs.Appended.{on_error, adds_as}
+use Rattle.lane_emit.proofs.Appended.{adds_as}
 use Rattle.lane_emit.proofs.code.combine.Goals as goal
 
 pub returns-in_err-settled_sum-in-Add : goal.returns-in_err-settled_sum-in-Add

@@ -1,16 +1,17 @@
 use Rattle.std.proofs.Common.{◌≡◌, ℕ, ◌<◌, [], ◌∷◌, ◌⊎◌, inl, inr, sym, ap, ◌∙◌, subst}
 use Rattle.guest_types.specs.declared.length.Width.{Width}
 use Rattle.guest_types.specs.Length.{width_bits}
+use Rattle.guest_types.proofs.Errors.{on_error}
 use Rattle.kernel_tree.specs.declared.ops.Ty.{Ty}
 use Rattle.kernel_tree.specs.declared.ops.Ty.TheVariants as ty
 use Rattle.kernel_tree.specs.Wrap.{bits_of}
 use Rattle.lane_emit.specs.LaneCode.{extension, z_copy}
-use Rattle.lane_emit.proofs.Appended.{on_error, adds_as, adds_word, adds_last}
+use Rattle.lane_emit.proofs.Appended.{adds_as, adds_word, adds_last}
 use Rattle.lane_emit.proofs.code.extension.Goals as goal
 
-copied : (t : Ty) (w : Width) (d a : ℕ) → (t ≡ ty.I64 ⊎ t ≡ ty.U64) → z_copy d a [] ≡ extension t w d a
-copied t w d a (inl e) = ap (λ u. extension u w d a) (sym e)
-copied t w d a (inr e) = ap (λ u. extension u w d a) (sym e)
+extension_of_64_bits : (t : Ty) (w : Width) (d a : ℕ) → (t ≡ ty.I64 ⊎ t ≡ ty.U64) → z_copy d a [] ≡ extension t w d a
+extension_of_64_bits t w d a (inl e) = ap (λ u. extension u w d a) (sym e)
+extension_of_64_bits t w d a (inr e) = ap (λ u. extension u w d a) (sym e)
 
 pub extend_byte-requires : goal.extend_byte-requires
 extend_byte-requires c = subst (λ t. bits_of t < width_bits c.args.width) c.in-I8.is c.requires
@@ -79,4 +80,4 @@ pub returns-in_ok-z_copy-in-I64 : goal.returns-in_ok-z_copy-in-I64
 returns-in_ok-z_copy-in-I64 c =
     let d = c.args.d.number in
     let a = c.args.a.number in
-    adds_as c.args.words.now.items c.z_copy.new.words.items (z_copy d a []) _ (copied c.args.ty c.args.width d a c.in-I64.is) (adds_last c.args.words.now.items c.z_copy.new.words.items (z_copy d a) c.in_ok-z_copy-in-I64.ensures)
+    adds_as c.args.words.now.items c.z_copy.new.words.items (z_copy d a []) _ (extension_of_64_bits c.args.ty c.args.width d a c.in-I64.is) (adds_last c.args.words.now.items c.z_copy.new.words.items (z_copy d a) c.in_ok-z_copy-in-I64.ensures)

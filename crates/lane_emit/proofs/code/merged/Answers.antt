@@ -1,9 +1,10 @@
 use Rattle.std.proofs.Common.{◌++◌, ◌∷◌, ap, ◌∙◌}
 use Rattle.std.proofs.lemmas.Result.{on_ok_weaker}
+use Rattle.guest_types.proofs.Errors.{on_error}
 use Rattle.sve_code.specs.View.{instruction_view, merging_name}
 use Rattle.lane_emit.specs.LaneCode.{z_copy, z_settle}
 use Rattle.lane_emit.specs.View.{words_of}
-use Rattle.lane_emit.proofs.Appended.{on_error, adds_as, merged_exchanged, merged_copied}
+use Rattle.lane_emit.proofs.Appended.{adds_as, merged_exchanged, merged_copied}
 use Rattle.lane_emit.proofs.code.merged.Goals as goal
 
 pub returns-in_err-z_copy : goal.returns-in_err-z_copy

@@ -1,5 +1,6 @@
 use Rattle.std.proofs.lemmas.Result.{on_ok_weaker}
-use Rattle.lane_emit.proofs.Appended.{on_error, adds_after}
+use Rattle.guest_types.proofs.Errors.{on_error}
+use Rattle.lane_emit.proofs.Appended.{adds_after}
 use Rattle.lane_emit.proofs.code.settled.Goals as goal
 
 pub returns-in_err-push : goal.returns-in_err-push

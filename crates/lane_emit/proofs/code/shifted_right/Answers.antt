@@ -2,10 +2,11 @@ use Rattle.std.proofs.Common.{ℕ, Bool, List, [], ◌∷◌, ◌-◌, ◌*◌, 
 use Rattle.std.proofs.lemmas.Result.{on_ok_weaker}
 use Rattle.guest_types.specs.declared.length.Width.{Width}
 use Rattle.guest_types.specs.Length.{width_bits}
+use Rattle.guest_types.proofs.Errors.{on_error}
 use Rattle.kernel_tree.specs.declared.ops.Ty.{Ty}
 use Rattle.lane_emit.specs.Stretch.{VectorInstruction}
 use Rattle.lane_emit.specs.LaneCode.{z_copy, shift_word, right_by, right_name}
-use Rattle.lane_emit.proofs.Appended.{on_error, adds_as, adds_word, adds_last}
+use Rattle.lane_emit.proofs.Appended.{adds_as, adds_word, adds_last}
 use Rattle.lane_emit.proofs.code.shifted_right.Goals as goal
 
 -- a copy, or the shift itself

@@ -1,4 +1,5 @@
-use Rattle.lane_emit.proofs.Appended.{on_error, no_copy, one_copy}
+use Rattle.guest_types.proofs.Errors.{on_error}
+use Rattle.lane_emit.proofs.Appended.{no_copy, one_copy}
 use Rattle.lane_emit.proofs.code.z_copy.Goals as goal
 
 pub returns-then-d-a : goal.returns-then-d-a

@@ -1,10 +1,11 @@
 use Rattle.std.proofs.Common.{◌≡◌, Some, rules, sym, ap, ◌∙◌}
+use Rattle.guest_types.proofs.Errors.{on_error}
 use Rattle.loop_form.specs.LoopItems as ops
 use Rattle.loop_form.specs.LoopView.{op_of}
 use Rattle.lane_emit.specs.LaneCode.{unary_code, binary_code}
 use Rattle.lane_emit.specs.ItemCode.{value_code}
 use Rattle.lane_emit.specs.RegistersView.{registers_of}
-use Rattle.lane_emit.proofs.Appended.{on_error, adds_as}
+use Rattle.lane_emit.proofs.Appended.{adds_as}
 use Rattle.lane_emit.proofs.emit.emit_operator.Goals as goal
 
 pub returns-in_err-apply-in-Unary-default-Some-default : goal.returns-in_err-apply-in-Unary-default-Some-default

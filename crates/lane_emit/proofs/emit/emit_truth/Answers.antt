@@ -1,4 +1,5 @@
 use Rattle.std.proofs.Common.{◌≡◌, Some, rules, [], ◌∷◌, sym, ap, ◌∙◌}
+use Rattle.guest_types.proofs.Errors.{on_error}
 use Rattle.sve_code.specs.Table.{p_and, p_bic, p_orr}
 use Rattle.loop_form.specs.LoopItems as ops
 use Rattle.loop_form.specs.LoopView.{op_of}
@@ -6,7 +7,7 @@ use Rattle.lane_emit.specs.Stretch.{word}
 use Rattle.lane_emit.specs.LaneCode.{test_code}
 use Rattle.lane_emit.specs.ItemCode.{truth_code}
 use Rattle.lane_emit.specs.RegistersView.{registers_of}
-use Rattle.lane_emit.proofs.Appended.{on_error, adds_word}
+use Rattle.lane_emit.proofs.Appended.{adds_word}
 use Rattle.lane_emit.proofs.emit.emit_truth.Goals as goal
 
 pub returns-in_err-push-in-Compare-default-Some-default-default : goal.returns-in_err-push-in-Compare-default-Some-default-default

@@ -1,4 +1,5 @@
 use Rattle.std.proofs.Common.{◌≡◌, Some, rules, [], ◌∷◌, sym, ap, ◌∙◌, ⊎_elim}
+use Rattle.guest_types.proofs.Errors.{on_error}
 use Rattle.sve_code.specs.Table.{sel}
 use Rattle.loop_form.specs.LoopItems as ops
 use Rattle.loop_form.specs.LoopView.{op_of}
@@ -6,7 +7,7 @@ use Rattle.lane_emit.specs.Stretch.{word}
 use Rattle.lane_emit.specs.LaneCode.{size_of, cast_code, z_copy}
 use Rattle.lane_emit.specs.ItemCode.{value_code, is_operator}
 use Rattle.lane_emit.specs.RegistersView.{registers_of}
-use Rattle.lane_emit.proofs.Appended.{on_error, adds_as, adds_word, adds_last}
+use Rattle.lane_emit.proofs.Appended.{adds_as, adds_word, adds_last}
 use Rattle.lane_emit.proofs.emit.emit_value.Goals as goal
 
 pub emit_operator-requires : goal.emit_operator-requires

@@ -7,11 +7,11 @@ use Rattle.loop_form.specs.Needs as needs
 use Rattle.lane_emit.specs.LoopRegisters.{is_same}
 use Rattle.lane_emit.proofs.held_place.is_same.Goals as goal
 
-no_scalar : (x : List ℕ) (v : Held) → ((y : Bor (List ℕ)) → v ≡ held.Scalar y → ⊥) → false ≡ is_same (needs.Scalar x) (view_of v)
-no_scalar x (held.Scalar y) other = absurd (other y refl)
-no_scalar x (held.Constant t n) other = refl
-no_scalar x held.Index other = refl
-no_scalar x (held.Accumulating y) other = refl
+other_than_scalar : (x : List ℕ) (v : Held) → ((y : Bor (List ℕ)) → v ≡ held.Scalar y → ⊥) → false ≡ is_same (needs.Scalar x) (view_of v)
+other_than_scalar x (held.Scalar y) other = absurd (other y refl)
+other_than_scalar x (held.Constant t n) other = refl
+other_than_scalar x held.Index other = refl
+other_than_scalar x (held.Accumulating y) other = refl
 
 no_constant : (s : Option Ty) (m : ℤ) (v : Held) → ((t : Option Ty) (n : ℤ) → v ≡ held.Constant t n → ⊥) → false ≡ is_same (needs.Constant s m) (view_of v)
 no_constant s m (held.Scalar y) other = refl
@@ -19,11 +19,11 @@ no_constant s m (held.Constant t n) other = absurd (other t n refl)
 no_constant s m held.Index other = refl
 no_constant s m (held.Accumulating y) other = refl
 
-no_index : (v : Held) → (v ≡ held.Index → ⊥) → false ≡ is_same needs.Index (view_of v)
-no_index (held.Scalar y) other = refl
-no_index (held.Constant t n) other = refl
-no_index held.Index other = absurd (other refl)
-no_index (held.Accumulating y) other = refl
+other_than_index : (v : Held) → (v ≡ held.Index → ⊥) → false ≡ is_same needs.Index (view_of v)
+other_than_index (held.Scalar y) other = refl
+other_than_index (held.Constant t n) other = refl
+other_than_index held.Index other = absurd (other refl)
+other_than_index (held.Accumulating y) other = refl
 
 no_accumulator : (x : List ℕ) (v : Held) → ((y : Bor (List ℕ)) → v ≡ held.Accumulating y → ⊥) → false ≡ is_same (needs.Accumulating x) (view_of v)
 no_accumulator x (held.Scalar y) other = refl
@@ -50,13 +50,13 @@ returns-in-Accumulating-Accumulating c =
     c.eq-in-Accumulating-Accumulating.ensures ∙ (λ i. is_same (view_of (v i)) (view_of (u i)))
 
 pub returns-in_default : goal.returns-in_default
-returns-in_default c = no_scalar c.in_default.field-0-0.now c.args.wanted c.in_default.not-Scalar-1 ∙ ap (λ v. is_same (view_of v) (view_of c.args.wanted)) (sym c.in_default.is-0)
+returns-in_default c = other_than_scalar c.in_default.field-0-0.now c.args.wanted c.in_default.not-Scalar-1 ∙ ap (λ v. is_same (view_of v) (view_of c.args.wanted)) (sym c.in_default.is-0)
 
 pub returns-in_default-2 : goal.returns-in_default-2
 returns-in_default-2 c = no_constant c.in_default.field-0-0 c.in_default.field-1-0 c.args.wanted c.in_default.not-Constant-1 ∙ ap (λ v. is_same (view_of v) (view_of c.args.wanted)) (sym c.in_default.is-0)
 
 pub returns-in_default-3 : goal.returns-in_default-3
-returns-in_default-3 c = no_index c.args.wanted c.in_default.not-Index-1 ∙ ap (λ v. is_same (view_of v) (view_of c.args.wanted)) (sym c.in_default.is-0)
+returns-in_default-3 c = other_than_index c.args.wanted c.in_default.not-Index-1 ∙ ap (λ v. is_same (view_of v) (view_of c.args.wanted)) (sym c.in_default.is-0)
 
 pub returns-in_default-4 : goal.returns-in_default-4
 returns-in_default-4 c = no_accumulator c.in_default.field-0-0.now c.args.wanted c.in_default.not-Accumulating-1 ∙ ap (λ v. is_same (view_of v) (view_of c.args.wanted)) (sym c.in_default.is-0)

@@ -7,8 +7,9 @@ use Rattle.kernel_scope.specs.Scopes.{scope_of}
 use Rattle.scalar_words.specs.View.{looses_of}
 use Rattle.loop_code.specs.Loosening.{with_array, action_arrays, block_arrays}
 use Rattle.guest_types.proofs.Errors.{on_error}
-use Rattle.loop_code.proofs.StatementWalks.{next_statement, arrays_one, arrays_two, arrays_on}
-use Rattle.loop_code.proofs.WalkParts.{no_statement, statement_below, less_deep, same_depth, if_below, first_below, second_below}
+use Rattle.kernel_tree.proofs.Walks.{next_statement, no_statement}
+use Rattle.loop_code.proofs.StatementWalks.{arrays_one, arrays_two, arrays_on}
+use Rattle.loop_code.proofs.WalkParts.{two_statement_below, less_deep, same_depth, two_only_block_below, two_first_block_below, two_second_block_below}
 use Rattle.loop_code.proofs.arrays.+statements.Goals as goal
 
 -- ---- a statement by its kind
@@ -18,7 +19,7 @@ add_stmt-returns-in_err-add_term-in-If t c = on_error _ _ c.from_residual.ensure
 
 pub add_stmt-add_block-requires : goal.add_stmt-add_block-requires
 add_stmt-add_block-requires t c =
-    (if_below t (action_of c.args.stmt.now) (term_of c.in-If.cond.now) (block_of c.in-If.block.now) c.decreases (sym c.parts.ensures ∙ ap part_action c.in-If.is), tt)
+    (two_only_block_below t (action_of c.args.stmt.now) (term_of c.in-If.cond.now) (block_of c.in-If.block.now) c.decreases (sym c.parts.ensures ∙ ap part_action c.in-If.is), tt)
 
 pub add_stmt-returns-in_ok-add_term-in-If : goal.add_stmt-returns-in_ok-add_term-in-If
 add_stmt-returns-in_ok-add_term-in-If t c =
@@ -30,14 +31,14 @@ add_stmt-returns-in_err-add_term-in-IfElse t c = on_error _ _ c.from_residual-in
 
 pub add_stmt-add_block-requires-in-IfElse : goal.add_stmt-add_block-requires-in-IfElse
 add_stmt-add_block-requires-in-IfElse t c =
-    (first_below t (action_of c.args.stmt.now) (term_of c.in-IfElse.cond.now) (block_of c.in-IfElse.block.now) (block_of c.in-IfElse.other.now) c.decreases (sym c.parts.ensures ∙ ap part_action c.in-IfElse.is), tt)
+    (two_first_block_below t (action_of c.args.stmt.now) (term_of c.in-IfElse.cond.now) (block_of c.in-IfElse.block.now) (block_of c.in-IfElse.other.now) c.decreases (sym c.parts.ensures ∙ ap part_action c.in-IfElse.is), tt)
 
 pub add_stmt-returns-in_err-add_block-in-IfElse : goal.add_stmt-returns-in_err-add_block-in-IfElse
 add_stmt-returns-in_err-add_block-in-IfElse t c = on_error _ _ c.from_residual-in_err-add_block-in-IfElse.ensures.0
 
 pub add_stmt-add_block-requires-in-IfElse-2 : goal.add_stmt-add_block-requires-in-IfElse-2
 add_stmt-add_block-requires-in-IfElse-2 t c =
-    (second_below t (action_of c.args.stmt.now) (term_of c.in-IfElse.cond.now) (block_of c.in-IfElse.block.now) (block_of c.in-IfElse.other.now) c.decreases (sym c.parts.ensures ∙ ap part_action c.in-IfElse.is), tt)
+    (two_second_block_below t (action_of c.args.stmt.now) (term_of c.in-IfElse.cond.now) (block_of c.in-IfElse.block.now) (block_of c.in-IfElse.other.now) c.decreases (sym c.parts.ensures ∙ ap part_action c.in-IfElse.is), tt)
 
 pub add_stmt-returns-in_ok-add_block-in-IfElse : goal.add_stmt-returns-in_ok-add_block-in-IfElse
 add_stmt-returns-in_ok-add_block-in-IfElse t c =
@@ -62,7 +63,7 @@ pub add_block-add_stmt-requires : goal.add_block-add_stmt-requires
 add_block-add_stmt-requires t c =
     let l = c.loop-stmt in
     let e = next_statement c.args.block.now l.stmt-index c.stmt-item.result c.loop-stmt-test.true c.stmt-item.is in
-    (statement_below t (block_of c.args.block.now) (block_of (drop l.stmt-index c.args.block.now)) (block_of (drop (l.stmt-index + 1) c.args.block.now)) (action_of c.stmt-item.result) c.decreases l.invariant.depth e, tt)
+    (two_statement_below t (block_of c.args.block.now) (block_of (drop l.stmt-index c.args.block.now)) (block_of (drop (l.stmt-index + 1) c.args.block.now)) (action_of c.stmt-item.result) c.decreases l.invariant.depth e, tt)
 
 pub add_block-loop-stmt-preserved : goal.add_block-loop-stmt-preserved
 add_block-loop-stmt-preserved t c =

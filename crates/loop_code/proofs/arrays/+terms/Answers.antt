@@ -11,8 +11,8 @@ use Rattle.scalar_words.specs.View.{looses_of}
 use Rattle.loop_code.specs.Loosening.{with_array, term_arrays}
 use Rattle.loop_code.proofs.ArrayWalk.{element_streamed, element_computed}
 use Rattle.guest_types.proofs.Errors.{on_error}
-use Rattle.loop_code.proofs.TermWalks.{one_operand, two_operands, one_below, two_below, element_below, cond_below, choice_below, no_operand}
-use Rattle.loop_code.proofs.WalkParts.{left_below, right_below, index_below}
+use Rattle.value_code.proofs.TermWalks.{step_left, step_right, step_down}
+use Rattle.loop_code.proofs.TermWalks.{one_operand, two_operands, two_one_operand_below, two_below, element_below, cond_below, choice_below, no_operand}
 use Rattle.loop_code.proofs.arrays.+terms.Goals as goal
 
 -- ---- an expression by its kind
@@ -69,7 +69,7 @@ add_term-returns-in-Binary t c =
 
 pub add_term-add_term-requires-in-Unary : goal.add_term-add_term-requires-in-Unary
 add_term-add_term-requires-in-Unary t c = (
-  one_below t (term_of c.args.expr.now) (term_of c.in-Unary.arg.value) (term_of c.deref-in-Unary.result.now) c.decreases
+  two_one_operand_below t (term_of c.args.expr.now) (term_of c.in-Unary.arg.value) (term_of c.deref-in-Unary.result.now) c.decreases
       (one_operand c.args.expr.now c.in-Unary.arg c.in-Unary.is) (ap term_of c.deref-in-Unary.ensures),
   tt,
 )
@@ -87,7 +87,7 @@ add_term-returns-in_default t c =
 -- ---- an element, by the word of its index
 
 pub add_element-add_term-requires : goal.add_element-add_term-requires
-add_element-add_term-requires t c = (index_below t (term_depth (term_of c.args.index.now)) c.decreases, tt)
+add_element-add_term-requires t c = (step_down t (term_depth (term_of c.args.index.now)) c.decreases, tt)
 
 pub add_element-returns-in-Some : goal.add_element-returns-in-Some
 add_element-returns-in-Some t c =
@@ -100,13 +100,13 @@ add_element-returns-in-None t c =
 -- ---- two operands
 
 pub add_both-add_term-requires : goal.add_both-add_term-requires
-add_both-add_term-requires t c = (left_below t (term_depth (term_of c.args.left.now)) (term_depth (term_of c.args.right.now)) c.decreases, tt)
+add_both-add_term-requires t c = (step_left t (term_depth (term_of c.args.left.now)) (term_depth (term_of c.args.right.now)) c.decreases, tt)
 
 pub add_both-returns-in_err-add_term : goal.add_both-returns-in_err-add_term
 add_both-returns-in_err-add_term t c = on_error _ _ c.from_residual.ensures.0
 
 pub add_both-add_term-requires-2 : goal.add_both-add_term-requires-2
-add_both-add_term-requires-2 t c = (right_below t (term_depth (term_of c.args.left.now)) (term_depth (term_of c.args.right.now)) c.decreases, tt)
+add_both-add_term-requires-2 t c = (step_right t (term_depth (term_of c.args.left.now)) (term_depth (term_of c.args.right.now)) c.decreases, tt)
 
 pub add_both-returns : goal.add_both-returns
 add_both-returns t c = on_ok_weaker c.add_term-2.result (λ p. p ∙ ap (term_arrays (scope_of c.args.scope.now) (term_of c.args.right.now)) c.in_ok-add_term.ensures) c.add_term-2.ensures

@@ -10,8 +10,10 @@ use Rattle.kernel_scope.proofs.Growth.{kept-block}
 use Rattle.scalar_words.specs.View.{looses_of}
 use Rattle.loop_code.specs.Loosening.{covers_block}
 use Rattle.guest_types.proofs.Errors.{on_error}
-use Rattle.loop_code.proofs.StatementWalks.{next_statement, covers_one, covers_two}
-use Rattle.loop_code.proofs.WalkParts.{no_statement, less_deep, same_depth, inner_statement_below, inner_if_below, inner_first_below, inner_second_below, inner_below, and_true, covers_on, after_as, covers_as}
+use Rattle.kernel_tree.proofs.Walks.{next_statement, no_statement}
+use Rattle.kernel_tree.proofs.Measures.{three_2_to_1, three_statement_below}
+use Rattle.loop_code.proofs.StatementWalks.{covers_one, covers_two}
+use Rattle.loop_code.proofs.WalkParts.{less_deep, same_depth, three_only_block_below, three_first_block_below, three_second_block_below, and_true, covers_on, after_as, covers_as}
 use Rattle.loop_code.proofs.loosening.+statements.Goals as goal
 use Rattle.loop_code.proofs.loosening.+statements.Goals.{covers_block-then-covered, covers_block-else-covered}
 
@@ -19,7 +21,7 @@ use Rattle.loop_code.proofs.loosening.+statements.Goals.{covers_block-then-cover
 
 pub covers_stmt-covers_inner-requires : goal.covers_stmt-covers_inner-requires
 covers_stmt-covers_inner-requires t c =
-    (inner_if_below t (action_of c.args.stmt.now) (term_of c.in-If.cond.now) (block_of c.in-If.block.now) c.decreases (sym c.parts.ensures ∙ ap part_action c.in-If.is), tt)
+    (three_only_block_below t (action_of c.args.stmt.now) (term_of c.in-If.cond.now) (block_of c.in-If.block.now) c.decreases (sym c.parts.ensures ∙ ap part_action c.in-If.is), tt)
 
 pub covers_stmt-returns-in-If : goal.covers_stmt-returns-in-If
 covers_stmt-returns-in-If t c = record {
@@ -31,11 +33,11 @@ covers_stmt-returns-in-If t c = record {
 
 pub covers_stmt-covers_inner-requires-in-IfElse : goal.covers_stmt-covers_inner-requires-in-IfElse
 covers_stmt-covers_inner-requires-in-IfElse t c =
-    (inner_first_below t (action_of c.args.stmt.now) (term_of c.in-IfElse.cond.now) (block_of c.in-IfElse.block.now) (block_of c.in-IfElse.other.now) c.decreases (sym c.parts.ensures ∙ ap part_action c.in-IfElse.is), tt)
+    (three_first_block_below t (action_of c.args.stmt.now) (term_of c.in-IfElse.cond.now) (block_of c.in-IfElse.block.now) (block_of c.in-IfElse.other.now) c.decreases (sym c.parts.ensures ∙ ap part_action c.in-IfElse.is), tt)
 
 pub covers_stmt-covers_inner-requires-in-IfElse-2 : goal.covers_stmt-covers_inner-requires-in-IfElse-2
 covers_stmt-covers_inner-requires-in-IfElse-2 t c =
-    (inner_second_below t (action_of c.args.stmt.now) (term_of c.in-IfElse.cond.now) (block_of c.in-IfElse.block.now) (block_of c.in-IfElse.other.now) c.decreases (sym c.parts.ensures ∙ ap part_action c.in-IfElse.is), tt)
+    (three_second_block_below t (action_of c.args.stmt.now) (term_of c.in-IfElse.cond.now) (block_of c.in-IfElse.block.now) (block_of c.in-IfElse.other.now) c.decreases (sym c.parts.ensures ∙ ap part_action c.in-IfElse.is), tt)
 
 pub covers_stmt-returns-in_err-first-in-IfElse : goal.covers_stmt-returns-in_err-first-in-IfElse
 covers_stmt-returns-in_err-first-in-IfElse t c =
@@ -88,7 +90,7 @@ covers_stmt-returns-in-Break t c =
 -- ---- a block whose names are visible no more
 
 pub covers_inner-covers_block-requires : goal.covers_inner-covers_block-requires
-covers_inner-covers_block-requires t c = (inner_below t (block_depth (block_of c.args.block.now)) c.decreases, tt)
+covers_inner-covers_block-requires t c = (three_2_to_1 t (block_depth (block_of c.args.block.now)) c.decreases, tt)
 
 pub covers_inner-returns-in_err-covered : goal.covers_inner-returns-in_err-covered
 covers_inner-returns-in_err-covered t c =
@@ -113,7 +115,7 @@ pub covers_block-covers_stmt-requires : goal.covers_block-covers_stmt-requires
 covers_block-covers_stmt-requires t c =
     let l = c.loop-stmt in
     let e = next_statement c.args.block.now l.stmt-index c.stmt-item.result c.loop-stmt-test.true c.stmt-item.is in
-    (inner_statement_below t (block_of c.args.block.now) (block_of (drop l.stmt-index c.args.block.now)) (block_of (drop (l.stmt-index + 1) c.args.block.now)) (action_of c.stmt-item.result) c.decreases l.invariant.depth e, tt)
+    (three_statement_below t (block_of c.args.block.now) (block_of (drop l.stmt-index c.args.block.now)) (block_of (drop (l.stmt-index + 1) c.args.block.now)) (action_of c.stmt-item.result) c.decreases l.invariant.depth e, tt)
 
 pub covers_block-loop-stmt-preserved : goal.covers_block-loop-stmt-preserved
 covers_block-loop-stmt-preserved t c =

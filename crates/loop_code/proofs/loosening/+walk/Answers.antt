@@ -7,15 +7,16 @@ use Rattle.kernel_scope.specs.Scopes.{scope_of, in_body}
 use Rattle.scalar_words.specs.View.{looses_of}
 use Rattle.loop_code.specs.Loosening.{loosen_action, loosen_block}
 use Rattle.guest_types.proofs.Errors.{on_error}
-use Rattle.loop_code.proofs.StatementWalks.{next_statement, loosen_two, loosen_on}
-use Rattle.loop_code.proofs.WalkParts.{no_statement, statement_below, less_deep, same_depth, if_below, first_below, second_below, loosen_other, loosen_as}
+use Rattle.kernel_tree.proofs.Walks.{next_statement, no_statement}
+use Rattle.loop_code.proofs.StatementWalks.{loosen_two, loosen_on}
+use Rattle.loop_code.proofs.WalkParts.{two_statement_below, less_deep, same_depth, two_only_block_below, two_first_block_below, two_second_block_below, loosen_other, loosen_as}
 use Rattle.loop_code.proofs.loosening.+walk.Goals as goal
 
 -- ---- a statement by its kind
 
 pub loosen_stmt-loosen_block-requires : goal.loosen_stmt-loosen_block-requires
 loosen_stmt-loosen_block-requires t c =
-    (if_below t (action_of c.args.stmt.now) (term_of c.in-If.cond.now) (block_of c.in-If.block.now) c.decreases (sym c.parts.ensures ∙ ap part_action c.in-If.is), tt)
+    (two_only_block_below t (action_of c.args.stmt.now) (term_of c.in-If.cond.now) (block_of c.in-If.block.now) c.decreases (sym c.parts.ensures ∙ ap part_action c.in-If.is), tt)
 
 pub loosen_stmt-returns-in-If : goal.loosen_stmt-returns-in-If
 loosen_stmt-returns-in-If t c = record {
@@ -25,11 +26,11 @@ loosen_stmt-returns-in-If t c = record {
 
 pub loosen_stmt-loosen_block-requires-in-IfElse : goal.loosen_stmt-loosen_block-requires-in-IfElse
 loosen_stmt-loosen_block-requires-in-IfElse t c =
-    (first_below t (action_of c.args.stmt.now) (term_of c.in-IfElse.cond.now) (block_of c.in-IfElse.block.now) (block_of c.in-IfElse.other.now) c.decreases (sym c.parts.ensures ∙ ap part_action c.in-IfElse.is), tt)
+    (two_first_block_below t (action_of c.args.stmt.now) (term_of c.in-IfElse.cond.now) (block_of c.in-IfElse.block.now) (block_of c.in-IfElse.other.now) c.decreases (sym c.parts.ensures ∙ ap part_action c.in-IfElse.is), tt)
 
 pub loosen_stmt-loosen_block-requires-in-IfElse-2 : goal.loosen_stmt-loosen_block-requires-in-IfElse-2
 loosen_stmt-loosen_block-requires-in-IfElse-2 t c =
-    (second_below t (action_of c.args.stmt.now) (term_of c.in-IfElse.cond.now) (block_of c.in-IfElse.block.now) (block_of c.in-IfElse.other.now) c.decreases (sym c.parts.ensures ∙ ap part_action c.in-IfElse.is), tt)
+    (two_second_block_below t (action_of c.args.stmt.now) (term_of c.in-IfElse.cond.now) (block_of c.in-IfElse.block.now) (block_of c.in-IfElse.other.now) c.decreases (sym c.parts.ensures ∙ ap part_action c.in-IfElse.is), tt)
 
 pub loosen_stmt-returns-in_err-loosen_block-in-IfElse : goal.loosen_stmt-returns-in_err-loosen_block-in-IfElse
 loosen_stmt-returns-in_err-loosen_block-in-IfElse t c =
@@ -67,7 +68,7 @@ pub loosen_block-loosen_stmt-requires : goal.loosen_block-loosen_stmt-requires
 loosen_block-loosen_stmt-requires t c =
     let l = c.loop-stmt in
     let e = next_statement c.args.block.now l.stmt-index c.stmt-item.result c.loop-stmt-test.true c.stmt-item.is in
-    (statement_below t (block_of c.args.block.now) (block_of (drop l.stmt-index c.args.block.now)) (block_of (drop (l.stmt-index + 1) c.args.block.now)) (action_of c.stmt-item.result) c.decreases l.invariant.depth e, tt)
+    (two_statement_below t (block_of c.args.block.now) (block_of (drop l.stmt-index c.args.block.now)) (block_of (drop (l.stmt-index + 1) c.args.block.now)) (action_of c.stmt-item.result) c.decreases l.invariant.depth e, tt)
 
 pub loosen_block-loop-stmt-preserved : goal.loosen_block-loop-stmt-preserved
 loosen_block-loop-stmt-preserved t c =

@@ -2,9 +2,9 @@ use Rattle.std.proofs.Common.{ap, ◌∙◌}
 use Rattle.std.specs.Prelude.{option_map, option_and_then}
 use Rattle.kernel_tree.specs.Plain.{name_of, term_of}
 use Rattle.kernel_tree.specs.Typing.{accumulator_type}
+use Rattle.kernel_tree.proofs.Walks.{update_type}
 use Rattle.kernel_scope.specs.Scopes.{scope_of}
 use Rattle.scalar_words.specs.View.{form_of, looses_of}
-use Rattle.loop_code.proofs.Emission.{update_type}
 use Rattle.loop_code.proofs.LooseSteps.{covers_update_not}
 use Rattle.loop_code.proofs.StatementWalks.{covers_update_is}
 use Rattle.loop_code.proofs.loosening.covers_update.Goals as goal

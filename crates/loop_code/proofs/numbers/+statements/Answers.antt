@@ -9,8 +9,9 @@ use Rattle.scalar_words.specs.View.{constants_of, homes_of}
 use Rattle.value_code.specs.HeldNumbers.{hold_element}
 use Rattle.loop_code.specs.LoopNumbers.{hold_action, hold_block}
 use Rattle.guest_types.proofs.Errors.{on_error}
-use Rattle.loop_code.proofs.StatementWalks.{next_statement, hold_one, hold_two, hold_on}
-use Rattle.loop_code.proofs.WalkParts.{no_statement, statement_below, less_deep, same_depth, if_below, first_below, second_below}
+use Rattle.kernel_tree.proofs.Walks.{next_statement, no_statement}
+use Rattle.loop_code.proofs.StatementWalks.{hold_one, hold_two, hold_on}
+use Rattle.loop_code.proofs.WalkParts.{two_statement_below, less_deep, same_depth, two_only_block_below, two_first_block_below, two_second_block_below}
 use Rattle.loop_code.proofs.numbers.+statements.Goals as goal
 
 -- ---- a statement by its kind
@@ -20,7 +21,7 @@ hold_stmt-returns-in_err-hold_term-in-If t c = on_error _ _ c.from_residual.ensu
 
 pub hold_stmt-hold_block-requires : goal.hold_stmt-hold_block-requires
 hold_stmt-hold_block-requires t c =
-    (if_below t (action_of c.args.stmt.now) (term_of c.in-If.cond.now) (block_of c.in-If.block.now) c.decreases (sym c.parts.ensures ∙ ap part_action c.in-If.is), c.requires)
+    (two_only_block_below t (action_of c.args.stmt.now) (term_of c.in-If.cond.now) (block_of c.in-If.block.now) c.decreases (sym c.parts.ensures ∙ ap part_action c.in-If.is), c.requires)
 
 pub hold_stmt-returns-in_ok-hold_term-in-If : goal.hold_stmt-returns-in_ok-hold_term-in-If
 hold_stmt-returns-in_ok-hold_term-in-If t c =
@@ -32,14 +33,14 @@ hold_stmt-returns-in_err-hold_term-in-IfElse t c = on_error _ _ c.from_residual-
 
 pub hold_stmt-hold_block-requires-in-IfElse : goal.hold_stmt-hold_block-requires-in-IfElse
 hold_stmt-hold_block-requires-in-IfElse t c =
-    (first_below t (action_of c.args.stmt.now) (term_of c.in-IfElse.cond.now) (block_of c.in-IfElse.block.now) (block_of c.in-IfElse.other.now) c.decreases (sym c.parts.ensures ∙ ap part_action c.in-IfElse.is), c.requires)
+    (two_first_block_below t (action_of c.args.stmt.now) (term_of c.in-IfElse.cond.now) (block_of c.in-IfElse.block.now) (block_of c.in-IfElse.other.now) c.decreases (sym c.parts.ensures ∙ ap part_action c.in-IfElse.is), c.requires)
 
 pub hold_stmt-returns-in_err-hold_block-in-IfElse : goal.hold_stmt-returns-in_err-hold_block-in-IfElse
 hold_stmt-returns-in_err-hold_block-in-IfElse t c = on_error _ _ c.from_residual-in_err-hold_block-in-IfElse.ensures.0
 
 pub hold_stmt-hold_block-requires-in-IfElse-2 : goal.hold_stmt-hold_block-requires-in-IfElse-2
 hold_stmt-hold_block-requires-in-IfElse-2 t c =
-    (second_below t (action_of c.args.stmt.now) (term_of c.in-IfElse.cond.now) (block_of c.in-IfElse.block.now) (block_of c.in-IfElse.other.now) c.decreases (sym c.parts.ensures ∙ ap part_action c.in-IfElse.is), c.requires)
+    (two_second_block_below t (action_of c.args.stmt.now) (term_of c.in-IfElse.cond.now) (block_of c.in-IfElse.block.now) (block_of c.in-IfElse.other.now) c.decreases (sym c.parts.ensures ∙ ap part_action c.in-IfElse.is), c.requires)
 
 pub hold_stmt-returns-in_ok-hold_block-in-IfElse : goal.hold_stmt-returns-in_ok-hold_block-in-IfElse
 hold_stmt-returns-in_ok-hold_block-in-IfElse t c =
@@ -86,7 +87,7 @@ pub hold_block-hold_stmt-requires : goal.hold_block-hold_stmt-requires
 hold_block-hold_stmt-requires t c =
     let l = c.loop-stmt in
     let e = next_statement c.args.block.now l.stmt-index c.stmt-item.result c.loop-stmt-test.true c.stmt-item.is in
-    (statement_below t (block_of c.args.block.now) (block_of (drop l.stmt-index c.args.block.now)) (block_of (drop (l.stmt-index + 1) c.args.block.now)) (action_of c.stmt-item.result) c.decreases l.invariant.depth e, c.requires)
+    (two_statement_below t (block_of c.args.block.now) (block_of (drop l.stmt-index c.args.block.now)) (block_of (drop (l.stmt-index + 1) c.args.block.now)) (action_of c.stmt-item.result) c.decreases l.invariant.depth e, c.requires)
 
 pub hold_block-loop-stmt-preserved : goal.hold_block-loop-stmt-preserved
 hold_block-loop-stmt-preserved t c =

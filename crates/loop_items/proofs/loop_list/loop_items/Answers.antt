@@ -7,7 +7,7 @@ use Rattle.loop_form.specs.LoopItems.{block_items}
 use Rattle.loop_form.specs.LoopView.{view, env_of, scope_of}
 use Rattle.loop_form.specs.View.{program}
 use Rattle.loop_items.specs.declared.listed.Listed.{Listed}
-use Rattle.loop_items.proofs.WholeLoops.{params_counted, vars_listed, started, found, body_fits, body_near, not_found, loop_listed, nothing_listed}
+use Rattle.loop_items.proofs.WholeLoops.{params_counted, vars_listed, started, loop_is_program_loop, body_fits, body_near, no_loop_of_no_body, loop_listed, nothing_listed}
 use Rattle.loop_items.proofs.loop_list.loop_items.Goals.{in-Some+in_ok-names, in_default}
 use Rattle.loop_items.proofs.loop_list.loop_items.Goals as goal
 
@@ -22,11 +22,11 @@ returns c = elim c.match-tree.branch [
       let start = w.len.result + w.vars_size_of.result in
       let short = ap (λ (l : Listed). l.short) (sym w.listed-is) ∙ c.if-listed.false in
       ap (λ (l : Listed). view l.items.items) w.listed-is
-      ∙ loop_listed k old (view w.list_block.new.listed.items.items) (ap view c.new.ensures.items) (for_loop_of w.in-Some.for_loop) names start (found c.args.kernel.now tree c.kernel-tree.ensures w.in-Some.for_loop w.in-Some.is) w.in_ok-names.ensures
+      ∙ loop_listed k old (view w.list_block.new.listed.items.items) (ap view c.new.ensures.items) (for_loop_of w.in-Some.for_loop) names start (loop_is_program_loop c.args.kernel.now tree c.kernel-tree.ensures w.in-Some.for_loop w.in-Some.is) w.in_ok-names.ensures
       (started c.args.kernel.now tree c.kernel-tree.ensures w.len.result w.vars_size_of.result w.deref.result.now w.len.ensures w.vars_size_of.ensures w.deref.ensures.value)
       (λ taken rest. w.list_block.ensures.items short taken rest ∙ ap (λ (b : List Stmt). old ++ block_items (scope_of (loop_index k) names taken) None (start + 1) (env_of names) (block_of b) rest) w.deref-in-Some.ensures.value)
   | in_default w ↦
-      nothing_listed (program c.args.kernel.now) (view c.new.result.items) (view c.match-tree.listed.items.items) (ap view c.new.ensures.items) (not_found c.args.kernel.now c.kernel-tree.result.now c.kernel-tree.ensures w.in_default.is) (ap (λ (l : Listed). view l.items.items) w.listed-is)
+      nothing_listed (program c.args.kernel.now) (view c.new.result.items) (view c.match-tree.listed.items.items) (ap view c.new.ensures.items) (no_loop_of_no_body c.args.kernel.now c.kernel-tree.result.now c.kernel-tree.ensures w.in_default.is) (ap (λ (l : Listed). view l.items.items) w.listed-is)
 ]
 
 pub returns-then-listed : goal.returns-then-listed

@@ -8,13 +8,14 @@ use Rattle.loop_form.specs.LoopView.{view, env_of, scope_of}
 use Rattle.loop_form.specs.Near.{NearAction, NearBlock}
 use Rattle.loop_form.specs.View.{program}
 use Rattle.std.proofs.lemmas.List.{take_all}
-use Rattle.loop_items.proofs.StatementAppends.{opened, empty, kept_names, action_as, condition_as, if_made, if_else_made, block_made}
+use Rattle.kernel_tree.proofs.Walks.{opened, empty_below_one}
+use Rattle.loop_items.proofs.StatementAppends.{kept_names, action_as, condition_as, if_made, if_else_made, block_made}
 use Rattle.loop_items.proofs.loop_statements.+loop_statements.Goals as goal
 
 -- ---- the statements of a block
 
 pub list_block-returns-in_default : goal.list_block-returns-in_default
-list_block-returns-in_default t c = record { names = take_all (length c.args.names.now.items) c.args.names.now.items (omega arith); kept = λ short. short; items = λ short taken rest. ap (λ b. (view c.args.listed.now.items.items) ++ block_items (scope_of (loop_index (program c.args.kernel.now)) c.args.names.now.items taken) c.args.mask c.args.from (env_of c.args.names.now.items) (block_of b) rest) (sym (empty c.args.block.now c.in_default.len_below)) }
+list_block-returns-in_default t c = record { names = take_all (length c.args.names.now.items) c.args.names.now.items (omega arith); kept = λ short. short; items = λ short taken rest. ap (λ b. (view c.args.listed.now.items.items) ++ block_items (scope_of (loop_index (program c.args.kernel.now)) c.args.names.now.items taken) c.args.mask c.args.from (env_of c.args.names.now.items) (block_of b) rest) (sym (empty_below_one c.args.block.now c.in_default.len_below)) }
 
 pub list_block-list_stmt-requires : goal.list_block-list_stmt-requires
 list_block-list_stmt-requires t c =

@@ -2,11 +2,11 @@ use Rattle.std.proofs.Common.{◌+◌, ◌++◌, length, drop, ap, sym, ◌∙�
 use Rattle.std.specs.Prelude.{filter_map}
 use Rattle.arrayvec.specs.ArrayVec.{ArrayVec}
 use Rattle.kernel_tree.specs.Items.{loop_index}
+use Rattle.kernel_tree.proofs.Walks.{next_item}
 use Rattle.loop_form.specs.declared.stream.Stream.{Stream}
 use Rattle.loop_form.specs.Near.{AreNear}
 use Rattle.loop_form.specs.Streams.{stream_of}
 use Rattle.loop_form.specs.View.{program, entry_of, entries_view}
-use Rattle.loop_form.proofs.LoopLists.{next-entry}
 use Rattle.loop_lists.proofs.Steps.{one_mapped, none_mapped, all_mapped}
 use Rattle.loop_lists.proofs.access.streams_among.Goals.{in-Some, in_default}
 use Rattle.loop_lists.proofs.access.streams_among.Goals as goal
@@ -20,7 +20,7 @@ loop-entry-preserved c =
     let e = c.entry-item.result in
     let lt = c.loop-entry-test.true in
     let at = c.entry-item.is in
-    let near = (subst (AreNear (loop_index k)) (ap entries_view (next-entry es i e lt at)) l.invariant.near).1 in
+    let near = (subst (AreNear (loop_index k)) (ap entries_view (next_item es i e lt at)) l.invariant.near).1 in
     elim c.match-stream.branch [
       | in-Some w ↦
           let same = ap (λ (v : ArrayVec Stream). length v.items) w.streams-is in
@@ -55,4 +55,4 @@ loop-entry-init c =
 pub stream-requires : goal.stream-requires
 stream-requires c =
     let l = c.loop-entry in
-    (subst (AreNear (loop_index (program c.args.kernel.now))) (ap entries_view (next-entry c.args.entries.now l.entry-index c.entry-item.result c.loop-entry-test.true c.entry-item.is)) l.invariant.near).0
+    (subst (AreNear (loop_index (program c.args.kernel.now))) (ap entries_view (next_item c.args.entries.now l.entry-index c.entry-item.result c.loop-entry-test.true c.entry-item.is)) l.invariant.near).0

@@ -4,7 +4,7 @@ use Rattle.kernel_tree.specs.Plain.{returned_of}
 use Rattle.kernel_tree.specs.Items.{loop_index, answer_size}
 use Rattle.loop_form.specs.Entries.{answer_entries}
 use Rattle.loop_form.specs.View.{program, entries_view}
-use Rattle.loop_lists.proofs.Lists.{same}
+use Rattle.loop_lists.proofs.Lists.{append_of_empty}
 use Rattle.loop_lists.proofs.entry_list.list_answer.Goals as goal
 
 pub list_ended-requires-clause-following : goal.list_ended-requires-clause-following
@@ -25,7 +25,7 @@ returns-in-Some-clause-len c =
     omega (arith, size, c.list_ended.ensures.len)
 
 pub returns-in_default-clause-items : goal.returns-in_default-clause-items
-returns-in_default-clause-items c = same _ _ (ap (λ o. answer_entries (program c.args.kernel.now) c.args.from (option_map returned_of o)) c.in_default.is)
+returns-in_default-clause-items c = append_of_empty _ _ (ap (λ o. answer_entries (program c.args.kernel.now) c.args.from (option_map returned_of o)) c.in_default.is)
 
 pub returns-in_default-clause-len : goal.returns-in_default-clause-len
 returns-in_default-clause-len c =

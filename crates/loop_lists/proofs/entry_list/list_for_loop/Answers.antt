@@ -6,7 +6,7 @@ use Rattle.kernel_tree.specs.Items.{index_of, block_size, for_loop_size}
 use Rattle.loop_form.specs.declared.item.ItemKind.TheVariants as kind
 use Rattle.loop_form.specs.Entries.{IsPlain, entry, block_entries, for_loop_entries}
 use Rattle.loop_form.specs.View.{program, entries_view}
-use Rattle.loop_lists.proofs.Lists.{same}
+use Rattle.loop_lists.proofs.Lists.{append_of_empty}
 use Rattle.loop_lists.proofs.Steps.{two_parts}
 use Rattle.loop_lists.proofs.entry_list.list_for_loop.Goals as goal
 
@@ -46,7 +46,7 @@ returns-in-Some-clause-len c =
     omega (arith, size, block, c.put.ensures.len, c.list_block.ensures.len)
 
 pub returns-in_default-clause-items : goal.returns-in_default-clause-items
-returns-in_default-clause-items c = same _ _ (ap (λ o. for_loop_entries (program c.args.kernel.now) c.args.from (option_map for_loop_of o)) c.in_default.is)
+returns-in_default-clause-items c = append_of_empty _ _ (ap (λ o. for_loop_entries (program c.args.kernel.now) c.args.from (option_map for_loop_of o)) c.in_default.is)
 
 pub returns-in_default-clause-len : goal.returns-in_default-clause-len
 returns-in_default-clause-len c =

@@ -2,10 +2,9 @@ use Rattle.std.proofs.Common.{List, ◌++◌, ap, sym, ◌∙◌, arith, append-
 use Rattle.std.proofs.lemmas.List.{drop_all}
 use Rattle.kernel_tree.specs.declared.ast.Param.{Param}
 use Rattle.kernel_tree.specs.Plain.{parameters_of}
+use Rattle.kernel_tree.proofs.Walks.{next_item, listed_one_on}
 use Rattle.loop_form.specs.Entries.{params_entries}
 use Rattle.loop_form.specs.View.{program, entries_view}
-use Rattle.loop_form.proofs.LoopLists.{next-entry}
-use Rattle.loop_lists.proofs.Steps.{one_more}
 use Rattle.loop_lists.proofs.entry_list.list_params.Goals as goal
 
 pub loop-param-preserved : goal.loop-param-preserved
@@ -16,8 +15,8 @@ loop-param-preserved c =
     record {
       item = omega (arith, inv.item);
       len = omega (arith, inv.len, c.put.ensures.len);
-      items = one_more (entries_view l.entries.items) (entries_view c.put.new.entries.items) _ _ _ _ c.put.ensures.items
-          (ap (λ (ps : List Param). params_entries k l.item (parameters_of ps)) (next-entry c.args.params.now l._param-index c._param-item.result c.loop-param-test.true c._param-item.is)) inv.items;
+      items = listed_one_on (entries_view l.entries.items) (entries_view c.put.new.entries.items) _ _ _ _ c.put.ensures.items
+          (ap (λ (ps : List Param). params_entries k l.item (parameters_of ps)) (next_item c.args.params.now l._param-index c._param-item.result c.loop-param-test.true c._param-item.is)) inv.items;
     }
 
 pub returns : goal.returns

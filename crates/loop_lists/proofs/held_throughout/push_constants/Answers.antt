@@ -1,11 +1,11 @@
 use Rattle.std.proofs.Common.{◌+◌, List, [], ◌∷◌, ◌++◌, take, drop, sym, ap, ◌∙◌, arith, append_assoc, append-nil}
 use Rattle.std.proofs.lemmas.List.{map-append, take_more, drop_all, length-take-le}
 use Rattle.std.proofs.lemmas.Result.{IfOk-from_err}
+use Rattle.kernel_tree.proofs.Walks.{next_item}
 use Rattle.loop_form.specs.declared.entry.Entry.{Entry}
 use Rattle.loop_form.specs.HeldView.{view}
 use Rattle.loop_form.specs.Needs.{new_constant, constants}
 use Rattle.loop_form.specs.View.{content_of, entry_of, entries_view}
-use Rattle.loop_form.proofs.LoopLists.{next-entry}
 use Rattle.loop_lists.proofs.held_throughout.push_constants.Goals as goal
 
 pub slice_bounds-push_new-end : goal.slice_bounds-push_new-end
@@ -31,7 +31,7 @@ loop-entry-preserved c =
           ap (λ h. h ++ constants (entries_view (take (i + 1) es)) rest) (c.in_ok-push_new.ensures ∙ ap (λ n. old ++ new_constant (entries_view (take n es)) x.ty (content_of x.content)) l.invariant.place)
           ∙ append_assoc old (new_constant (entries_view (take i es)) x.ty (content_of x.content)) (constants (entries_view (take (i + 1) es)) rest)
           ∙ ap (λ b. old ++ (new_constant (entries_view (take i es)) x.ty (content_of x.content) ++ constants b rest)) before
-          ∙ sym (ap (λ (ys : List Entry). old ++ constants (entries_view (take i es)) (entries_view ys)) (next-entry es i x c.loop-entry-test.true c.entry-item.is))
+          ∙ sym (ap (λ (ys : List Entry). old ++ constants (entries_view (take i es)) (entries_view ys)) (next_item es i x c.loop-entry-test.true c.entry-item.is))
           ∙ l.invariant.held;
     }
 

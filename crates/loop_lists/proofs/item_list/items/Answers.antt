@@ -1,8 +1,9 @@
 use Rattle.std.proofs.Common.{◌+◌, ◌++◌, map, drop, refl, ap}
 use Rattle.std.proofs.lemmas.Result.{IfOk-from_err}
+use Rattle.kernel_tree.proofs.Walks.{next_item}
 use Rattle.loop_form.specs.Listing.{item_of}
 use Rattle.loop_form.specs.View.{entry_of, entries_view}
-use Rattle.loop_form.proofs.LoopLists.{next-entry, one-more}
+use Rattle.loop_form.proofs.LoopLists.{one-more}
 use Rattle.loop_lists.proofs.Loops.{all_put}
 use Rattle.loop_lists.proofs.item_list.items.Goals as goal
 
@@ -10,7 +11,7 @@ pub loop-entry-preserved : goal.loop-entry-preserved
 loop-entry-preserved c =
     let l = c.loop-entry in
     let all = c.args.all.now in
-    let e = next-entry all l.entry-index c.entry-item.result c.loop-entry-test.true c.entry-item.is in
+    let e = next_item all l.entry-index c.entry-item.result c.loop-entry-test.true c.entry-item.is in
     one-more entry_of (item_of (entries_view all)) (drop (l.entry-index + 1) all) (drop l.entry-index all) c.entry-item.result c.push.new.self.items l.items.items (map (item_of (entries_view all)) (entries_view all)) c.item.result e c.in_ok-push.ensures.items c.item.ensures l.invariant
 
 pub loop-entry-init : goal.loop-entry-init

@@ -1,11 +1,11 @@
 use Rattle.std.proofs.Common.{◌≡◌, ℕ, ◌∙◌, ap, ◌++◌, [], ◌∷◌, arith}
 use Rattle.std.proofs.Math.ListN.{replicate}
 use Rattle.std.proofs.lemmas.Result.{IfOk-from_err}
-use Rattle.loop_form.proofs.IntervalLaws.{replicate-more}
+use Rattle.std.proofs.lemmas.List.{replicate_more}
 use Rattle.loop_lists.proofs.values.whole_intervals.Goals as goal
 
 pub loop-made-preserved : goal.loop-made-preserved
-loop-made-preserved c = c.in_ok-push.ensures.items ∙ ap (λ l. l ++ record { from = 0; last_use = c.args.size } ∷ []) c.loop-made.invariant ∙ replicate-more c.loop-made._made (record { from = 0; last_use = c.args.size })
+loop-made-preserved c = c.in_ok-push.ensures.items ∙ ap (λ l. l ++ record { from = 0; last_use = c.args.size } ∷ []) c.loop-made.invariant ∙ replicate_more c.loop-made._made (record { from = 0; last_use = c.args.size })
 
 pub returns-in_err-push : goal.returns-in_err-push
 returns-in_err-push c = IfOk-from_err c.from_residual.result _ c.from_residual.ensures.0

@@ -1,18 +1,19 @@
 use Rattle.std.proofs.Common.{◌+◌, ◌-◌, ◌++◌, ◌∙◌, length, take, drop, ap, arith}
 use Rattle.kernel_tree.specs.Plain.{accumulators_of}
 use Rattle.kernel_tree.specs.Items.{loop_index, vars_size}
+use Rattle.kernel_tree.proofs.Walks.{opened, empty_below_one}
 use Rattle.loop_form.specs.Entries.{vars_entries}
 use Rattle.loop_form.specs.View.{program, entries_view}
-use Rattle.loop_lists.proofs.Lists.{opened, empty, same, followed}
+use Rattle.loop_lists.proofs.Lists.{append_of_empty, followed}
 use Rattle.loop_lists.proofs.walk.+list_vars.Goals as goal
 
 pub returns-in_default-clause-items : goal.returns-in_default-clause-items
 returns-in_default-clause-items t c =
-    same _ _ (ap (λ vs. vars_entries (program c.args.kernel.now) c.args.from (accumulators_of vs)) (empty c.args.vars.now c.in_default.len_below))
+    append_of_empty _ _ (ap (λ vs. vars_entries (program c.args.kernel.now) c.args.from (accumulators_of vs)) (empty_below_one c.args.vars.now c.in_default.len_below))
 
 pub returns-in_default-clause-len : goal.returns-in_default-clause-len
 returns-in_default-clause-len t c =
-    let none = ap (λ vs. vars_size (loop_index (program c.args.kernel.now)) (accumulators_of vs)) (empty c.args.vars.now c.in_default.len_below) in
+    let none = ap (λ vs. vars_size (loop_index (program c.args.kernel.now)) (accumulators_of vs)) (empty_below_one c.args.vars.now c.in_default.len_below) in
     omega (arith, none)
 
 pub slice_bounds-rest-count : goal.slice_bounds-rest-count

@@ -3,9 +3,10 @@ use Rattle.arrayvec.specs.ArrayVec.{array_vec_len}
 use Rattle.kernel_tree.specs.Plain.{Define, Put, Update, Choose, Leave, Nothing, Else, name_of, term_of, action_of, block_of}
 use Rattle.kernel_tree.specs.Parts.{part_action}
 use Rattle.kernel_tree.specs.Items.{loop_index, action_size, block_size}
+use Rattle.kernel_tree.proofs.Walks.{opened, empty_below_one}
 use Rattle.loop_form.specs.Entries.{action_entries, block_entries}
 use Rattle.loop_form.specs.View.{program, entries_view}
-use Rattle.loop_lists.proofs.Lists.{opened, empty, same}
+use Rattle.loop_lists.proofs.Lists.{append_of_empty}
 use Rattle.loop_lists.proofs.Steps.{two_parts}
 use Rattle.loop_lists.proofs.StatementWalks.{statement_listed, statement_counted, then_listed, if_listed, if_else_listed}
 use Rattle.loop_lists.proofs.walk.+statements.Goals as goal
@@ -13,11 +14,11 @@ use Rattle.loop_lists.proofs.walk.+statements.Goals as goal
 -- ---- the statements of a block
 
 pub list_block-returns-in_default-clause-items : goal.list_block-returns-in_default-clause-items
-list_block-returns-in_default-clause-items t c = same _ _ (ap (λ b. block_entries (program c.args.kernel.now) c.args.from (block_of b)) (empty c.args.block.now c.in_default.len_below))
+list_block-returns-in_default-clause-items t c = append_of_empty _ _ (ap (λ b. block_entries (program c.args.kernel.now) c.args.from (block_of b)) (empty_below_one c.args.block.now c.in_default.len_below))
 
 pub list_block-returns-in_default-clause-len : goal.list_block-returns-in_default-clause-len
 list_block-returns-in_default-clause-len t c =
-    let none = ap (λ b. block_size (loop_index (program c.args.kernel.now)) (block_of b)) (empty c.args.block.now c.in_default.len_below) in
+    let none = ap (λ b. block_size (loop_index (program c.args.kernel.now)) (block_of b)) (empty_below_one c.args.block.now c.in_default.len_below) in
     omega (arith, none)
 
 pub list_block-slice_bounds-rest-count : goal.list_block-slice_bounds-rest-count

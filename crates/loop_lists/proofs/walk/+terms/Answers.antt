@@ -7,7 +7,7 @@ use Rattle.kernel_tree.specs.Limits.{term_depth}
 use Rattle.std.specs.Prelude.{max}
 use Rattle.loop_form.specs.Entries.{IsRead, IsPlain, term_entries}
 use Rattle.loop_form.specs.View.{program, entries_view}
-use Rattle.loop_lists.proofs.Walks.{called, has_place, listed, counted, computed, streamed, stream_read, computed_read, one_operand, two_operands, either_listed, choice_listed}
+use Rattle.loop_lists.proofs.Walks.{called, has_place, entries_of_same_term, size_of_same_term, computed, streamed, stream_read, computed_read, one_operand, two_operands, either_listed, choice_listed}
 use Rattle.loop_lists.proofs.walk.+terms.Goals as goal
 
 -- ---- an expression by its kind
@@ -20,7 +20,7 @@ list_expr-put-requires t c =
 pub list_expr-returns-in-Lit-clause-len : goal.list_expr-returns-in-Lit-clause-len
 list_expr-returns-in-Lit-clause-len t c =
     let is : term_of c.args.expr.now ≡ Literal c.in-Lit.value = ap term_of c.in-Lit.is in
-    counted (loop_index (program c.args.kernel.now)) (Literal c.in-Lit.value) (term_of c.args.expr.now) (array_vec_len c.args.entries.now) (array_vec_len c.put.new.entries) c.put.ensures.len is
+    size_of_same_term (loop_index (program c.args.kernel.now)) (Literal c.in-Lit.value) (term_of c.args.expr.now) (array_vec_len c.args.entries.now) (array_vec_len c.put.new.entries) c.put.ensures.len is
 
 pub list_expr-put-requires-in-Var : goal.list_expr-put-requires-in-Var
 list_expr-put-requires-in-Var t c =
@@ -30,12 +30,12 @@ list_expr-put-requires-in-Var t c =
 pub list_expr-returns-in-Var-clause-items : goal.list_expr-returns-in-Var-clause-items
 list_expr-returns-in-Var-clause-items t c =
     let is : term_of c.args.expr.now ≡ Variable c.text.result.now = ap term_of c.in-Var.is ∙ ap Variable (sym c.text.ensures) in
-    listed (program c.args.kernel.now) c.args.from c.args.last_use (Variable c.text.result.now) (term_of c.args.expr.now) (entries_view c.args.entries.now.items) (entries_view c.put-in-Var.new.entries.items) c.put-in-Var.ensures.items is
+    entries_of_same_term (program c.args.kernel.now) c.args.from c.args.last_use (Variable c.text.result.now) (term_of c.args.expr.now) (entries_view c.args.entries.now.items) (entries_view c.put-in-Var.new.entries.items) c.put-in-Var.ensures.items is
 
 pub list_expr-returns-in-Var-clause-len : goal.list_expr-returns-in-Var-clause-len
 list_expr-returns-in-Var-clause-len t c =
     let is : term_of c.args.expr.now ≡ Variable c.text.result.now = ap term_of c.in-Var.is ∙ ap Variable (sym c.text.ensures) in
-    counted (loop_index (program c.args.kernel.now)) (Variable c.text.result.now) (term_of c.args.expr.now) (array_vec_len c.args.entries.now) (array_vec_len c.put-in-Var.new.entries) c.put-in-Var.ensures.len is
+    size_of_same_term (loop_index (program c.args.kernel.now)) (Variable c.text.result.now) (term_of c.args.expr.now) (array_vec_len c.args.entries.now) (array_vec_len c.put-in-Var.new.entries) c.put-in-Var.ensures.len is
 
 pub list_expr-list_read-requires : goal.list_expr-list_read-requires
 list_expr-list_read-requires t c =
@@ -45,12 +45,12 @@ list_expr-list_read-requires t c =
 pub list_expr-returns-in-Read-clause-items : goal.list_expr-returns-in-Read-clause-items
 list_expr-returns-in-Read-clause-items t c =
     let is : term_of c.args.expr.now ≡ Element (name_of c.in-Read.array) (term_of c.deref.result.now) = ap term_of c.in-Read.is ∙ ap (λ (e : Expr). Element (name_of c.in-Read.array) (term_of e)) (sym c.deref.ensures) in
-    listed (program c.args.kernel.now) c.args.from c.args.last_use (Element (name_of c.in-Read.array) (term_of c.deref.result.now)) (term_of c.args.expr.now) (entries_view c.args.entries.now.items) (entries_view c.list_read.new.entries.items) c.list_read.ensures.items is
+    entries_of_same_term (program c.args.kernel.now) c.args.from c.args.last_use (Element (name_of c.in-Read.array) (term_of c.deref.result.now)) (term_of c.args.expr.now) (entries_view c.args.entries.now.items) (entries_view c.list_read.new.entries.items) c.list_read.ensures.items is
 
 pub list_expr-returns-in-Read-clause-len : goal.list_expr-returns-in-Read-clause-len
 list_expr-returns-in-Read-clause-len t c =
     let is : term_of c.args.expr.now ≡ Element (name_of c.in-Read.array) (term_of c.deref.result.now) = ap term_of c.in-Read.is ∙ ap (λ (e : Expr). Element (name_of c.in-Read.array) (term_of e)) (sym c.deref.ensures) in
-    counted (loop_index (program c.args.kernel.now)) (Element (name_of c.in-Read.array) (term_of c.deref.result.now)) (term_of c.args.expr.now) (array_vec_len c.args.entries.now) (array_vec_len c.list_read.new.entries) c.list_read.ensures.len is
+    size_of_same_term (loop_index (program c.args.kernel.now)) (Element (name_of c.in-Read.array) (term_of c.deref.result.now)) (term_of c.args.expr.now) (array_vec_len c.args.entries.now) (array_vec_len c.list_read.new.entries) c.list_read.ensures.len is
 
 pub list_expr-list_one-requires : goal.list_expr-list_one-requires
 list_expr-list_one-requires t c =
@@ -60,12 +60,12 @@ list_expr-list_one-requires t c =
 pub list_expr-returns-in-Unary-clause-items : goal.list_expr-returns-in-Unary-clause-items
 list_expr-returns-in-Unary-clause-items t c =
     let is : term_of c.args.expr.now ≡ Unary c.in-Unary.op (term_of c.deref-in-Unary.result.now) = ap term_of c.in-Unary.is ∙ ap (λ (e : Expr). Unary c.in-Unary.op (term_of e)) (sym c.deref-in-Unary.ensures) in
-    listed (program c.args.kernel.now) c.args.from c.args.last_use (Unary c.in-Unary.op (term_of c.deref-in-Unary.result.now)) (term_of c.args.expr.now) (entries_view c.args.entries.now.items) (entries_view c.list_one.new.entries.items) c.list_one.ensures.items is
+    entries_of_same_term (program c.args.kernel.now) c.args.from c.args.last_use (Unary c.in-Unary.op (term_of c.deref-in-Unary.result.now)) (term_of c.args.expr.now) (entries_view c.args.entries.now.items) (entries_view c.list_one.new.entries.items) c.list_one.ensures.items is
 
 pub list_expr-returns-in-Unary-clause-len : goal.list_expr-returns-in-Unary-clause-len
 list_expr-returns-in-Unary-clause-len t c =
     let is : term_of c.args.expr.now ≡ Unary c.in-Unary.op (term_of c.deref-in-Unary.result.now) = ap term_of c.in-Unary.is ∙ ap (λ (e : Expr). Unary c.in-Unary.op (term_of e)) (sym c.deref-in-Unary.ensures) in
-    counted (loop_index (program c.args.kernel.now)) (Unary c.in-Unary.op (term_of c.deref-in-Unary.result.now)) (term_of c.args.expr.now) (array_vec_len c.args.entries.now) (array_vec_len c.list_one.new.entries) c.list_one.ensures.len is
+    size_of_same_term (loop_index (program c.args.kernel.now)) (Unary c.in-Unary.op (term_of c.deref-in-Unary.result.now)) (term_of c.args.expr.now) (array_vec_len c.args.entries.now) (array_vec_len c.list_one.new.entries) c.list_one.ensures.len is
 
 pub list_expr-list_two-requires : goal.list_expr-list_two-requires
 list_expr-list_two-requires t c =
@@ -75,12 +75,12 @@ list_expr-list_two-requires t c =
 pub list_expr-returns-in-Binary-clause-items : goal.list_expr-returns-in-Binary-clause-items
 list_expr-returns-in-Binary-clause-items t c =
     let is : term_of c.args.expr.now ≡ Operation c.in-Binary.op (term_of c.deref-in-Binary.result.now) (term_of c.deref-in-Binary-2.result.now) = ap term_of c.in-Binary.is ∙ ap₂ (λ (e f : Expr). Operation c.in-Binary.op (term_of e) (term_of f)) (sym c.deref-in-Binary.ensures) (sym c.deref-in-Binary-2.ensures) in
-    listed (program c.args.kernel.now) c.args.from c.args.last_use (Operation c.in-Binary.op (term_of c.deref-in-Binary.result.now) (term_of c.deref-in-Binary-2.result.now)) (term_of c.args.expr.now) (entries_view c.args.entries.now.items) (entries_view c.list_two.new.entries.items) c.list_two.ensures.items is
+    entries_of_same_term (program c.args.kernel.now) c.args.from c.args.last_use (Operation c.in-Binary.op (term_of c.deref-in-Binary.result.now) (term_of c.deref-in-Binary-2.result.now)) (term_of c.args.expr.now) (entries_view c.args.entries.now.items) (entries_view c.list_two.new.entries.items) c.list_two.ensures.items is
 
 pub list_expr-returns-in-Binary-clause-len : goal.list_expr-returns-in-Binary-clause-len
 list_expr-returns-in-Binary-clause-len t c =
     let is : term_of c.args.expr.now ≡ Operation c.in-Binary.op (term_of c.deref-in-Binary.result.now) (term_of c.deref-in-Binary-2.result.now) = ap term_of c.in-Binary.is ∙ ap₂ (λ (e f : Expr). Operation c.in-Binary.op (term_of e) (term_of f)) (sym c.deref-in-Binary.ensures) (sym c.deref-in-Binary-2.ensures) in
-    counted (loop_index (program c.args.kernel.now)) (Operation c.in-Binary.op (term_of c.deref-in-Binary.result.now) (term_of c.deref-in-Binary-2.result.now)) (term_of c.args.expr.now) (array_vec_len c.args.entries.now) (array_vec_len c.list_two.new.entries) c.list_two.ensures.len is
+    size_of_same_term (loop_index (program c.args.kernel.now)) (Operation c.in-Binary.op (term_of c.deref-in-Binary.result.now) (term_of c.deref-in-Binary-2.result.now)) (term_of c.args.expr.now) (array_vec_len c.args.entries.now) (array_vec_len c.list_two.new.entries) c.list_two.ensures.len is
 
 pub list_expr-list_one-requires-in-Shift : goal.list_expr-list_one-requires-in-Shift
 list_expr-list_one-requires-in-Shift t c =
@@ -90,12 +90,12 @@ list_expr-list_one-requires-in-Shift t c =
 pub list_expr-returns-in-Shift-clause-items : goal.list_expr-returns-in-Shift-clause-items
 list_expr-returns-in-Shift-clause-items t c =
     let is : term_of c.args.expr.now ≡ Shift c.in-Shift.left_shift (term_of c.deref-in-Shift.result.now) c.in-Shift.count = ap term_of c.in-Shift.is ∙ ap (λ (e : Expr). Shift c.in-Shift.left_shift (term_of e) c.in-Shift.count) (sym c.deref-in-Shift.ensures) in
-    listed (program c.args.kernel.now) c.args.from c.args.last_use (Shift c.in-Shift.left_shift (term_of c.deref-in-Shift.result.now) c.in-Shift.count) (term_of c.args.expr.now) (entries_view c.args.entries.now.items) (entries_view c.list_one-in-Shift.new.entries.items) c.list_one-in-Shift.ensures.items is
+    entries_of_same_term (program c.args.kernel.now) c.args.from c.args.last_use (Shift c.in-Shift.left_shift (term_of c.deref-in-Shift.result.now) c.in-Shift.count) (term_of c.args.expr.now) (entries_view c.args.entries.now.items) (entries_view c.list_one-in-Shift.new.entries.items) c.list_one-in-Shift.ensures.items is
 
 pub list_expr-returns-in-Shift-clause-len : goal.list_expr-returns-in-Shift-clause-len
 list_expr-returns-in-Shift-clause-len t c =
     let is : term_of c.args.expr.now ≡ Shift c.in-Shift.left_shift (term_of c.deref-in-Shift.result.now) c.in-Shift.count = ap term_of c.in-Shift.is ∙ ap (λ (e : Expr). Shift c.in-Shift.left_shift (term_of e) c.in-Shift.count) (sym c.deref-in-Shift.ensures) in
-    counted (loop_index (program c.args.kernel.now)) (Shift c.in-Shift.left_shift (term_of c.deref-in-Shift.result.now) c.in-Shift.count) (term_of c.args.expr.now) (array_vec_len c.args.entries.now) (array_vec_len c.list_one-in-Shift.new.entries) c.list_one-in-Shift.ensures.len is
+    size_of_same_term (loop_index (program c.args.kernel.now)) (Shift c.in-Shift.left_shift (term_of c.deref-in-Shift.result.now) c.in-Shift.count) (term_of c.args.expr.now) (array_vec_len c.args.entries.now) (array_vec_len c.list_one-in-Shift.new.entries) c.list_one-in-Shift.ensures.len is
 
 pub list_expr-list_one-requires-in-Cast : goal.list_expr-list_one-requires-in-Cast
 list_expr-list_one-requires-in-Cast t c =
@@ -105,12 +105,12 @@ list_expr-list_one-requires-in-Cast t c =
 pub list_expr-returns-in-Cast-clause-items : goal.list_expr-returns-in-Cast-clause-items
 list_expr-returns-in-Cast-clause-items t c =
     let is : term_of c.args.expr.now ≡ Conversion (term_of c.deref-in-Cast.result.now) c.in-Cast.ty = ap term_of c.in-Cast.is ∙ ap (λ (e : Expr). Conversion (term_of e) c.in-Cast.ty) (sym c.deref-in-Cast.ensures) in
-    listed (program c.args.kernel.now) c.args.from c.args.last_use (Conversion (term_of c.deref-in-Cast.result.now) c.in-Cast.ty) (term_of c.args.expr.now) (entries_view c.args.entries.now.items) (entries_view c.list_one-in-Cast.new.entries.items) c.list_one-in-Cast.ensures.items is
+    entries_of_same_term (program c.args.kernel.now) c.args.from c.args.last_use (Conversion (term_of c.deref-in-Cast.result.now) c.in-Cast.ty) (term_of c.args.expr.now) (entries_view c.args.entries.now.items) (entries_view c.list_one-in-Cast.new.entries.items) c.list_one-in-Cast.ensures.items is
 
 pub list_expr-returns-in-Cast-clause-len : goal.list_expr-returns-in-Cast-clause-len
 list_expr-returns-in-Cast-clause-len t c =
     let is : term_of c.args.expr.now ≡ Conversion (term_of c.deref-in-Cast.result.now) c.in-Cast.ty = ap term_of c.in-Cast.is ∙ ap (λ (e : Expr). Conversion (term_of e) c.in-Cast.ty) (sym c.deref-in-Cast.ensures) in
-    counted (loop_index (program c.args.kernel.now)) (Conversion (term_of c.deref-in-Cast.result.now) c.in-Cast.ty) (term_of c.args.expr.now) (array_vec_len c.args.entries.now) (array_vec_len c.list_one-in-Cast.new.entries) c.list_one-in-Cast.ensures.len is
+    size_of_same_term (loop_index (program c.args.kernel.now)) (Conversion (term_of c.deref-in-Cast.result.now) c.in-Cast.ty) (term_of c.args.expr.now) (array_vec_len c.args.entries.now) (array_vec_len c.list_one-in-Cast.new.entries) c.list_one-in-Cast.ensures.len is
 
 pub list_expr-list_select-requires : goal.list_expr-list_select-requires
 list_expr-list_select-requires t c =
@@ -120,12 +120,12 @@ list_expr-list_select-requires t c =
 pub list_expr-returns-in-Select-clause-items : goal.list_expr-returns-in-Select-clause-items
 list_expr-returns-in-Select-clause-items t c =
     let is : term_of c.args.expr.now ≡ Choice (term_of c.deref-in-Select-3.result.now) (term_of c.deref-in-Select.result.now) (term_of c.deref-in-Select-2.result.now) = ap term_of c.in-Select.is ∙ ap₂ (λ (e f : Expr). Choice (term_of c.in-Select.cond.value) (term_of e) (term_of f)) (sym c.deref-in-Select.ensures) (sym c.deref-in-Select-2.ensures) ∙ ap (λ (e : Expr). Choice (term_of e) (term_of c.deref-in-Select.result.now) (term_of c.deref-in-Select-2.result.now)) (sym c.deref-in-Select-3.ensures) in
-    listed (program c.args.kernel.now) c.args.from c.args.last_use (Choice (term_of c.deref-in-Select-3.result.now) (term_of c.deref-in-Select.result.now) (term_of c.deref-in-Select-2.result.now)) (term_of c.args.expr.now) (entries_view c.args.entries.now.items) (entries_view c.list_select.new.entries.items) c.list_select.ensures.items is
+    entries_of_same_term (program c.args.kernel.now) c.args.from c.args.last_use (Choice (term_of c.deref-in-Select-3.result.now) (term_of c.deref-in-Select.result.now) (term_of c.deref-in-Select-2.result.now)) (term_of c.args.expr.now) (entries_view c.args.entries.now.items) (entries_view c.list_select.new.entries.items) c.list_select.ensures.items is
 
 pub list_expr-returns-in-Select-clause-len : goal.list_expr-returns-in-Select-clause-len
 list_expr-returns-in-Select-clause-len t c =
     let is : term_of c.args.expr.now ≡ Choice (term_of c.deref-in-Select-3.result.now) (term_of c.deref-in-Select.result.now) (term_of c.deref-in-Select-2.result.now) = ap term_of c.in-Select.is ∙ ap₂ (λ (e f : Expr). Choice (term_of c.in-Select.cond.value) (term_of e) (term_of f)) (sym c.deref-in-Select.ensures) (sym c.deref-in-Select-2.ensures) ∙ ap (λ (e : Expr). Choice (term_of e) (term_of c.deref-in-Select.result.now) (term_of c.deref-in-Select-2.result.now)) (sym c.deref-in-Select-3.ensures) in
-    counted (loop_index (program c.args.kernel.now)) (Choice (term_of c.deref-in-Select-3.result.now) (term_of c.deref-in-Select.result.now) (term_of c.deref-in-Select-2.result.now)) (term_of c.args.expr.now) (array_vec_len c.args.entries.now) (array_vec_len c.list_select.new.entries) c.list_select.ensures.len is
+    size_of_same_term (loop_index (program c.args.kernel.now)) (Choice (term_of c.deref-in-Select-3.result.now) (term_of c.deref-in-Select.result.now) (term_of c.deref-in-Select-2.result.now)) (term_of c.args.expr.now) (array_vec_len c.args.entries.now) (array_vec_len c.list_select.new.entries) c.list_select.ensures.len is
 
 pub list_expr-list_two-requires-in-Compare : goal.list_expr-list_two-requires-in-Compare
 list_expr-list_two-requires-in-Compare t c =
@@ -135,12 +135,12 @@ list_expr-list_two-requires-in-Compare t c =
 pub list_expr-returns-in-Compare-clause-items : goal.list_expr-returns-in-Compare-clause-items
 list_expr-returns-in-Compare-clause-items t c =
     let is : term_of c.args.expr.now ≡ Comparison c.in-Compare.op (term_of c.deref-in-Compare.result.now) (term_of c.deref-in-Compare-2.result.now) = ap term_of c.in-Compare.is ∙ ap₂ (λ (e f : Expr). Comparison c.in-Compare.op (term_of e) (term_of f)) (sym c.deref-in-Compare.ensures) (sym c.deref-in-Compare-2.ensures) in
-    listed (program c.args.kernel.now) c.args.from c.args.last_use (Comparison c.in-Compare.op (term_of c.deref-in-Compare.result.now) (term_of c.deref-in-Compare-2.result.now)) (term_of c.args.expr.now) (entries_view c.args.entries.now.items) (entries_view c.list_two-in-Compare.new.entries.items) c.list_two-in-Compare.ensures.items is
+    entries_of_same_term (program c.args.kernel.now) c.args.from c.args.last_use (Comparison c.in-Compare.op (term_of c.deref-in-Compare.result.now) (term_of c.deref-in-Compare-2.result.now)) (term_of c.args.expr.now) (entries_view c.args.entries.now.items) (entries_view c.list_two-in-Compare.new.entries.items) c.list_two-in-Compare.ensures.items is
 
 pub list_expr-returns-in-Compare-clause-len : goal.list_expr-returns-in-Compare-clause-len
 list_expr-returns-in-Compare-clause-len t c =
     let is : term_of c.args.expr.now ≡ Comparison c.in-Compare.op (term_of c.deref-in-Compare.result.now) (term_of c.deref-in-Compare-2.result.now) = ap term_of c.in-Compare.is ∙ ap₂ (λ (e f : Expr). Comparison c.in-Compare.op (term_of e) (term_of f)) (sym c.deref-in-Compare.ensures) (sym c.deref-in-Compare-2.ensures) in
-    counted (loop_index (program c.args.kernel.now)) (Comparison c.in-Compare.op (term_of c.deref-in-Compare.result.now) (term_of c.deref-in-Compare-2.result.now)) (term_of c.args.expr.now) (array_vec_len c.args.entries.now) (array_vec_len c.list_two-in-Compare.new.entries) c.list_two-in-Compare.ensures.len is
+    size_of_same_term (loop_index (program c.args.kernel.now)) (Comparison c.in-Compare.op (term_of c.deref-in-Compare.result.now) (term_of c.deref-in-Compare-2.result.now)) (term_of c.args.expr.now) (array_vec_len c.args.entries.now) (array_vec_len c.list_two-in-Compare.new.entries) c.list_two-in-Compare.ensures.len is
 
 pub list_expr-list_two-requires-in-And : goal.list_expr-list_two-requires-in-And
 list_expr-list_two-requires-in-And t c =
@@ -150,12 +150,12 @@ list_expr-list_two-requires-in-And t c =
 pub list_expr-returns-in-And-clause-items : goal.list_expr-returns-in-And-clause-items
 list_expr-returns-in-And-clause-items t c =
     let is : term_of c.args.expr.now ≡ Both (term_of c.deref-in-And.result.now) (term_of c.deref-in-And-2.result.now) = ap term_of c.in-And.is ∙ ap₂ (λ (e f : Expr). Both (term_of e) (term_of f)) (sym c.deref-in-And.ensures) (sym c.deref-in-And-2.ensures) in
-    listed (program c.args.kernel.now) c.args.from c.args.last_use (Both (term_of c.deref-in-And.result.now) (term_of c.deref-in-And-2.result.now)) (term_of c.args.expr.now) (entries_view c.args.entries.now.items) (entries_view c.list_two-in-And.new.entries.items) c.list_two-in-And.ensures.items is
+    entries_of_same_term (program c.args.kernel.now) c.args.from c.args.last_use (Both (term_of c.deref-in-And.result.now) (term_of c.deref-in-And-2.result.now)) (term_of c.args.expr.now) (entries_view c.args.entries.now.items) (entries_view c.list_two-in-And.new.entries.items) c.list_two-in-And.ensures.items is
 
 pub list_expr-returns-in-And-clause-len : goal.list_expr-returns-in-And-clause-len
 list_expr-returns-in-And-clause-len t c =
     let is : term_of c.args.expr.now ≡ Both (term_of c.deref-in-And.result.now) (term_of c.deref-in-And-2.result.now) = ap term_of c.in-And.is ∙ ap₂ (λ (e f : Expr). Both (term_of e) (term_of f)) (sym c.deref-in-And.ensures) (sym c.deref-in-And-2.ensures) in
-    counted (loop_index (program c.args.kernel.now)) (Both (term_of c.deref-in-And.result.now) (term_of c.deref-in-And-2.result.now)) (term_of c.args.expr.now) (array_vec_len c.args.entries.now) (array_vec_len c.list_two-in-And.new.entries) c.list_two-in-And.ensures.len is
+    size_of_same_term (loop_index (program c.args.kernel.now)) (Both (term_of c.deref-in-And.result.now) (term_of c.deref-in-And-2.result.now)) (term_of c.args.expr.now) (array_vec_len c.args.entries.now) (array_vec_len c.list_two-in-And.new.entries) c.list_two-in-And.ensures.len is
 
 pub list_expr-list_or-requires : goal.list_expr-list_or-requires
 list_expr-list_or-requires t c =
@@ -165,12 +165,12 @@ list_expr-list_or-requires t c =
 pub list_expr-returns-in-Or-clause-items : goal.list_expr-returns-in-Or-clause-items
 list_expr-returns-in-Or-clause-items t c =
     let is : term_of c.args.expr.now ≡ Either (term_of c.deref-in-Or.result.now) (term_of c.deref-in-Or-2.result.now) = ap term_of c.in-Or.is ∙ ap₂ (λ (e f : Expr). Either (term_of e) (term_of f)) (sym c.deref-in-Or.ensures) (sym c.deref-in-Or-2.ensures) in
-    listed (program c.args.kernel.now) c.args.from c.args.last_use (Either (term_of c.deref-in-Or.result.now) (term_of c.deref-in-Or-2.result.now)) (term_of c.args.expr.now) (entries_view c.args.entries.now.items) (entries_view c.list_or.new.entries.items) c.list_or.ensures.items is
+    entries_of_same_term (program c.args.kernel.now) c.args.from c.args.last_use (Either (term_of c.deref-in-Or.result.now) (term_of c.deref-in-Or-2.result.now)) (term_of c.args.expr.now) (entries_view c.args.entries.now.items) (entries_view c.list_or.new.entries.items) c.list_or.ensures.items is
 
 pub list_expr-returns-in-Or-clause-len : goal.list_expr-returns-in-Or-clause-len
 list_expr-returns-in-Or-clause-len t c =
     let is : term_of c.args.expr.now ≡ Either (term_of c.deref-in-Or.result.now) (term_of c.deref-in-Or-2.result.now) = ap term_of c.in-Or.is ∙ ap₂ (λ (e f : Expr). Either (term_of e) (term_of f)) (sym c.deref-in-Or.ensures) (sym c.deref-in-Or-2.ensures) in
-    counted (loop_index (program c.args.kernel.now)) (Either (term_of c.deref-in-Or.result.now) (term_of c.deref-in-Or-2.result.now)) (term_of c.args.expr.now) (array_vec_len c.args.entries.now) (array_vec_len c.list_or.new.entries) c.list_or.ensures.len is
+    size_of_same_term (loop_index (program c.args.kernel.now)) (Either (term_of c.deref-in-Or.result.now) (term_of c.deref-in-Or-2.result.now)) (term_of c.args.expr.now) (array_vec_len c.args.entries.now) (array_vec_len c.list_or.new.entries) c.list_or.ensures.len is
 
 pub list_expr-list_one-requires-in-Not : goal.list_expr-list_one-requires-in-Not
 list_expr-list_one-requires-in-Not t c =
@@ -180,12 +180,12 @@ list_expr-list_one-requires-in-Not t c =
 pub list_expr-returns-in-Not-clause-items : goal.list_expr-returns-in-Not-clause-items
 list_expr-returns-in-Not-clause-items t c =
     let is : term_of c.args.expr.now ≡ Not (term_of c.deref-in-Not.result.now) = ap term_of c.in-Not.is ∙ ap (λ (e : Expr). Not (term_of e)) (sym c.deref-in-Not.ensures) in
-    listed (program c.args.kernel.now) c.args.from c.args.last_use (Not (term_of c.deref-in-Not.result.now)) (term_of c.args.expr.now) (entries_view c.args.entries.now.items) (entries_view c.list_one-in-Not.new.entries.items) c.list_one-in-Not.ensures.items is
+    entries_of_same_term (program c.args.kernel.now) c.args.from c.args.last_use (Not (term_of c.deref-in-Not.result.now)) (term_of c.args.expr.now) (entries_view c.args.entries.now.items) (entries_view c.list_one-in-Not.new.entries.items) c.list_one-in-Not.ensures.items is
 
 pub list_expr-returns-in-Not-clause-len : goal.list_expr-returns-in-Not-clause-len
 list_expr-returns-in-Not-clause-len t c =
     let is : term_of c.args.expr.now ≡ Not (term_of c.deref-in-Not.result.now) = ap term_of c.in-Not.is ∙ ap (λ (e : Expr). Not (term_of e)) (sym c.deref-in-Not.ensures) in
-    counted (loop_index (program c.args.kernel.now)) (Not (term_of c.deref-in-Not.result.now)) (term_of c.args.expr.now) (array_vec_len c.args.entries.now) (array_vec_len c.list_one-in-Not.new.entries) c.list_one-in-Not.ensures.len is
+    size_of_same_term (loop_index (program c.args.kernel.now)) (Not (term_of c.deref-in-Not.result.now)) (term_of c.args.expr.now) (array_vec_len c.args.entries.now) (array_vec_len c.list_one-in-Not.new.entries) c.list_one-in-Not.ensures.len is
 
 -- ---- one operand
 

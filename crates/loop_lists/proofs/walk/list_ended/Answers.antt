@@ -1,7 +1,7 @@
 use Rattle.std.proofs.Common.{arith}
 use Rattle.kernel_tree.specs.Plain.{term_of}
 use Rattle.loop_form.specs.View.{program, content_of, entries_view}
-use Rattle.loop_lists.proofs.Walks.{ended}
+use Rattle.loop_lists.proofs.Walks.{ended_by_operand}
 use Rattle.loop_lists.proofs.walk.list_ended.Goals as goal
 
 pub expr_size-requires : goal.expr_size-requires
@@ -21,7 +21,7 @@ put-requires c = omega (arith, c.requires.fits, c.requires.following, c.list_exp
 
 pub returns-clause-items : goal.returns-clause-items
 returns-clause-items c =
-    ended (program c.args.kernel.now) c.args.from (content_of c.args.content) (entries_view c.args.entries.now.items) _ (term_of c.args.value.now) _ _ c.expr_size.ensures c.list_expr.ensures.items c.put.ensures.items
+    ended_by_operand (program c.args.kernel.now) c.args.from (content_of c.args.content) (entries_view c.args.entries.now.items) _ (term_of c.args.value.now) _ _ c.expr_size.ensures c.list_expr.ensures.items c.put.ensures.items
 
 pub returns-clause-len : goal.returns-clause-len
 returns-clause-len c = omega (arith, c.list_expr.ensures.len, c.put.ensures.len)

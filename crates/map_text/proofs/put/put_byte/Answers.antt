@@ -23,8 +23,8 @@ returns-then-number-clause-put c =
     ap (λ (bytes : List ℕ). slice_set pages place (record (get_or pages place r) { bytes = bytes })) c.put.ensures
     ∙ sym (put-place pages c.args.address c.args.byte place r c.requires inside number)
 
-absent : (c : Joined-else-place-pages) → page_at c.args.pages.now (c.args.address / 4096) ≡ None
-absent c =
+page_not_mapped : (c : Joined-else-place-pages) → page_at c.args.pages.now (c.args.address / 4096) ≡ None
+page_not_mapped c =
     let pages = c.args.pages.now in
     let place = c.place_of-place.result in
     no_page pages (c.args.address / 4096) place c.requires.ascending c.place_of-place.ensures
@@ -36,7 +36,7 @@ absent c =
     ])
 
 pub returns-else-place-pages-clause-mapped : goal.returns-else-place-pages-clause-mapped
-returns-else-place-pages-clause-mapped c = sym (ap is_some (absent c))
+returns-else-place-pages-clause-mapped c = sym (ap is_some (page_not_mapped c))
 
 pub returns-else-place-pages-clause-put : goal.returns-else-place-pages-clause-put
-returns-else-place-pages-clause-put c = sym (put_byte-unmapped c.args.pages.now c.args.address c.args.byte (absent c))
+returns-else-place-pages-clause-put c = sym (put_byte-unmapped c.args.pages.now c.args.address c.args.byte (page_not_mapped c))

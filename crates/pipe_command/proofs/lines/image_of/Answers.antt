@@ -10,6 +10,12 @@ use Rattle.std.proofs.lemmas.Result.{IfOk-from_err}
 use Rattle.pipe_command.proofs.Causes.{refusal_answers}
 use Rattle.io_edges.specs.Files.{content}
 use Rattle.refusals.specs.declared.refusal.Refusal.TheVariants.{File}
+use Rattle.std.specs.Prelude.{[], ◌∷◌}
+use Rattle.command_answers.specs.Requests.{Read, Asks, IsOk, IsNotOfFiles}
+use Rattle.pipe_script.specs.View.{entry_view}
+use Rattle.pipe_command.specs.Pipes.{entry_want}
+use Rattle.command_answers.proofs.Asks.{fails_asks, ends_asks}
+use Rattle.pipe_command.proofs.Requested.{content_elsewhere}
 use Rattle.pipe_command.proofs.lines.image_of.Goals as goal
 
 pub returns-in_err-bytes-clause-answer : goal.returns-in_err-bytes-clause-answer
@@ -101,3 +107,17 @@ returns-in_err-bytes-clause-reads g c = λ s.
 
 pub returns-in_err-bytes-clause-of_files : goal.returns-in_err-bytes-clause-of_files
 returns-in_err-bytes-clause-of_files g c = by_files c.in_err-bytes.field-0.0 c.from_residual.result c.from_residual.ensures.1 (read_files c.read_file.result c.in_err-bytes.field-0.0 c.in_err-bytes.was c.read_file.ensures.of_read)
+
+pub returns-in_err-bytes-clause-asked : goal.returns-in_err-bytes-clause-asked
+returns-in_err-bytes-clause-asked g c =
+    fails_asks IsNotOfFiles (g.F.Files.requests c.args.files.now) (g.F.Files.requests c.read_file.new.files) (entry_want (entry_view c.args.line.now) ∷ []) c.in_err-bytes.field-0.0 c.read_file.result c.from_residual.result
+    c.in_err-bytes.was (is_err (c.in_err-bytes.field-0.0) c.from_residual.result c.from_residual.ensures.1) (subst (λ n. Asks IsOk (g.F.Files.requests c.args.files.now) (g.F.Files.requests c.read_file.new.files) (Read n ∷ []) c.read_file.result) c.as_str.ensures.value c.read_file.ensures.asked)
+
+pub returns-in_err-image-clause-asked : goal.returns-in_err-image-clause-asked
+returns-in_err-image-clause-asked g c =
+    ends_asks IsOk IsNotOfFiles (g.F.Files.requests c.args.files.now) (g.F.Files.requests c.read_file.new.files) (entry_want (entry_view c.args.line.now) ∷ []) c.in_ok-bytes.bytes c.read_file.result c.from_residual-in_err-image.result
+    c.in_ok-bytes.was (subst IsNotOfFiles (sym (is_err (c.in_err-image.field-0.0) c.from_residual-in_err-image.result c.from_residual-in_err-image.ensures.1)) (content_elsewhere c.in_err-image.field-0.0 c.in_err-image.ensures.content)) (subst (λ n. Asks IsOk (g.F.Files.requests c.args.files.now) (g.F.Files.requests c.read_file.new.files) (Read n ∷ []) c.read_file.result) c.as_str.ensures.value c.read_file.ensures.asked)
+
+pub returns-clause-asked : goal.returns-clause-asked
+returns-clause-asked g c =
+    ends_asks IsOk IsNotOfFiles (g.F.Files.requests c.args.files.now) (g.F.Files.requests c.read_file.new.files) (entry_want (entry_view c.args.line.now) ∷ []) c.in_ok-bytes.bytes c.read_file.result (Ok c.in_ok-image.image) c.in_ok-bytes.was tt (subst (λ n. Asks IsOk (g.F.Files.requests c.args.files.now) (g.F.Files.requests c.read_file.new.files) (Read n ∷ []) c.read_file.result) c.as_str.ensures.value c.read_file.ensures.asked)

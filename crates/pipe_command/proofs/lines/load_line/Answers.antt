@@ -2,13 +2,17 @@ use Rattle.std.proofs.Common.{ap, ◌∙◌, Ok, [], ◌∷◌, ◌++◌, inl, i
 use Rattle.pipe_script.specs.View.{entry_view}
 use Rattle.pipe_command.specs.View.{plain_in, lines_view, lines_by, IsFitting}
 use Rattle.pipe_command.proofs.LoadedLines.{line_added}
-use Rattle.pipe_command.proofs.Passed.{on_error, file_before, reads_before, never_file, ok_not_file, memory_not_file, by_files, fits_more}
+use Rattle.pipe_command.proofs.Passed.{file_before, reads_before, never_file, ok_not_file, memory_not_file, by_files, fits_more}
 use Rattle.command_answers.proofs.Reading.{is_err, stops_there}
-use Rattle.pipe_command.proofs.Causes.{whatever_held}
 use Rattle.std.specs.List.{AllByRecursion}
+use Rattle.guest_types.proofs.Errors.{on_error}
 use Rattle.refusals.specs.declared.refusal.Refusal.TheVariants.{Memory}
 use Rattle.command_answers.specs.Answer.{IsFileAnswer}
+use Rattle.command_answers.proofs.Held.{whatever_held}
 use Rattle.pipe_command.specs.Pipes.{image_of, with_line}
+use Rattle.command_answers.specs.Requests.{IsNotOfFiles}
+use Rattle.pipe_command.specs.Pipes.{entry_want}
+use Rattle.command_answers.proofs.Asks.{fails_anyhow, ends_asks}
 use Rattle.pipe_command.proofs.lines.load_line.Goals as goal
 
 pub returns-clause-answer : goal.returns-clause-answer
@@ -122,3 +126,21 @@ returns-in_default-clause-answer g c =
 
 pub returns-clause-fits : goal.returns-clause-fits
 returns-clause-fits g c = λ all. subst (λ ls. AllByRecursion (IsFitting c.args.map.now.pages.items) (lines_view ls)) (sym c.in-Ok.ensures.items) (fits_more c.args.map.now.pages.items c.args.loaded.now.items _ c.in_ok-image.ensures.fits all)
+
+pub returns-in_err-image-clause-asked : goal.returns-in_err-image-clause-asked
+returns-in_err-image-clause-asked g c =
+    fails_anyhow (g.F.Files.requests c.args.files.now) (g.F.Files.requests c.image_of.new.files) (entry_want (entry_view c.args.line.now) ∷ []) c.in_err-image.field-0.0 c.image_of.result c.from_residual.result
+    c.in_err-image.was (is_err (c.in_err-image.field-0.0) c.from_residual.result c.from_residual.ensures.1) c.image_of.ensures.asked
+
+pub returns-in_err-args-clause-asked : goal.returns-in_err-args-clause-asked
+returns-in_err-args-clause-asked g c =
+    ends_asks IsNotOfFiles IsNotOfFiles (g.F.Files.requests c.args.files.now) (g.F.Files.requests c.image_of.new.files) (entry_want (entry_view c.args.line.now) ∷ []) c.in_ok-image.image c.image_of.result c.from_residual-in_err-args.result
+    c.in_ok-image.was (subst IsNotOfFiles (sym (is_err (Memory) c.from_residual-in_err-args.result c.from_residual-in_err-args.ensures.1)) tt) c.image_of.ensures.asked
+
+pub returns-in_default-clause-asked : goal.returns-in_default-clause-asked
+returns-in_default-clause-asked g c =
+    ends_asks IsNotOfFiles IsNotOfFiles (g.F.Files.requests c.args.files.now) (g.F.Files.requests c.image_of.new.files) (entry_want (entry_view c.args.line.now) ∷ []) c.in_ok-image.image c.image_of.result (Err Memory) c.in_ok-image.was tt c.image_of.ensures.asked
+
+pub returns-clause-asked : goal.returns-clause-asked
+returns-clause-asked g c =
+    ends_asks IsNotOfFiles IsNotOfFiles (g.F.Files.requests c.args.files.now) (g.F.Files.requests c.image_of.new.files) (entry_want (entry_view c.args.line.now) ∷ []) c.in_ok-image.image c.image_of.result (Ok tt) c.in_ok-image.was tt c.image_of.ensures.asked

@@ -5,12 +5,21 @@ use Rattle.command_answers.specs.Outputs.{Prints}
 use Rattle.command_answers.proofs.Prints.{prints_nothing}
 use Rattle.command_answers.proofs.Reading.{is_err}
 use Rattle.pipe_command.specs.Pipes.{expected_of_pipe, pipe_files, IsOfPipe}
-use Rattle.pipe_command.proofs.Causes.{whatever_held, files_not_output, of_files}
+use Rattle.pipe_command.proofs.Causes.{files_not_output, of_files}
 use Rattle.pipe_command.specs.View.{report_in}
 use Rattle.pipe_command.proofs.Passed.{file_before, ok_not_file, read_refused, read_files, never_file, cut_pipe}
 use Rattle.io_edges.specs.Files.{Rose}
 use Rattle.io_edges.proofs.Puts.{later_rose}
 use Rattle.command_answers.specs.Reads.{task_files, files_in}
+use Rattle.command_answers.proofs.Held.{whatever_held}
+use Rattle.std.specs.Prelude.{[], ◌∷◌}
+use Rattle.std.proofs.Common.{Err}
+use Rattle.command_answers.specs.Requests.{IsNotOfFiles}
+use Rattle.refusals.specs.declared.refusal.Refusal.TheVariants.{Output}
+use Rattle.pipe_script.specs.Script.{script_of}
+use Rattle.pipe_command.specs.Pipes.{entries_wants}
+use Rattle.command_answers.proofs.Asks.{fails_anyhow, ends_asks}
+use Rattle.pipe_command.proofs.Requested.{piped_stops, piped_asks}
 use Rattle.pipe_command.proofs.pipe.pipe.Goals as goal
 
 pub returns-in_err-report-clause-printed : goal.returns-in_err-report-clause-printed
@@ -91,3 +100,26 @@ returns-clause-quiet g c = λ q. absurd q
 
 pub returns-clause-steady : goal.returns-clause-steady
 returns-clause-steady g c = λ s. never_file (g.F.Files.held c.args.files.now) _ _ (ok_not_file _)
+
+pub returns-in_err-read-clause-asked : goal.returns-in_err-read-clause-asked
+returns-in_err-read-clause-asked g c =
+    piped_stops (g.F.Files.faults c.args.files.now) (g.F.Files.faults c.read_task.new.files) (g.F.Files.requests c.args.files.now) (g.F.Files.requests c.read_task.new.files) (g.F.Files.held c.args.files.now) (task_view c.args.task.now) c.in_err-read.field-0.0 c.read_task.result c.from_residual.result
+    c.in_err-read.was (is_err (c.in_err-read.field-0.0) c.from_residual.result c.from_residual.ensures.1) c.read_task.ensures.asked
+
+pub returns-in_err-report-clause-asked : goal.returns-in_err-report-clause-asked
+returns-in_err-report-clause-asked g c =
+    piped_asks (g.F.Files.faults c.args.files.now) (g.F.Files.faults c.read_task.new.files) (g.F.Files.requests c.args.files.now) (g.F.Files.requests c.read_task.new.files) (g.F.Files.requests c.pipe_files.new.files) (g.F.Files.held c.args.files.now) (task_view c.args.task.now) c.deref.result.now c.deref-2.result.now c.in_ok-read.read c.read_task.result c.from_residual-in_err-report.result
+    c.in_ok-read.was (ap files_in c.in_ok-read.was ∙ ap₂ (λ file map. Ok (file, map)) (sym c.deref.ensures.value) (sym c.deref-2.ensures.value)) c.read_task.ensures.answer c.read_task.ensures.asked
+    (fails_anyhow (g.F.Files.requests c.read_task.new.files) (g.F.Files.requests c.pipe_files.new.files) (entries_wants (script_of c.deref.result.now)) c.in_err-report.field-0.0 c.pipe_files.result c.from_residual-in_err-report.result c.in_err-report.was (is_err (c.in_err-report.field-0.0) c.from_residual-in_err-report.result c.from_residual-in_err-report.ensures.1) c.pipe_files.ensures.asked)
+
+pub returns-in_err-put_all-clause-asked : goal.returns-in_err-put_all-clause-asked
+returns-in_err-put_all-clause-asked g c =
+    piped_asks (g.F.Files.faults c.args.files.now) (g.F.Files.faults c.read_task.new.files) (g.F.Files.requests c.args.files.now) (g.F.Files.requests c.read_task.new.files) (g.F.Files.requests c.pipe_files.new.files) (g.F.Files.held c.args.files.now) (task_view c.args.task.now) c.deref.result.now c.deref-2.result.now c.in_ok-read.read c.read_task.result c.from_residual-in_err-put_all.result
+    c.in_ok-read.was (ap files_in c.in_ok-read.was ∙ ap₂ (λ file map. Ok (file, map)) (sym c.deref.ensures.value) (sym c.deref-2.ensures.value)) c.read_task.ensures.answer c.read_task.ensures.asked
+    (ends_asks IsNotOfFiles IsNotOfFiles (g.F.Files.requests c.read_task.new.files) (g.F.Files.requests c.pipe_files.new.files) (entries_wants (script_of c.deref.result.now)) c.in_ok-report.report c.pipe_files.result c.from_residual-in_err-put_all.result c.in_ok-report.was (subst IsNotOfFiles (sym (is_err (Output) c.from_residual-in_err-put_all.result c.from_residual-in_err-put_all.ensures.1)) tt) c.pipe_files.ensures.asked)
+
+pub returns-clause-asked : goal.returns-clause-asked
+returns-clause-asked g c =
+    piped_asks (g.F.Files.faults c.args.files.now) (g.F.Files.faults c.read_task.new.files) (g.F.Files.requests c.args.files.now) (g.F.Files.requests c.read_task.new.files) (g.F.Files.requests c.pipe_files.new.files) (g.F.Files.held c.args.files.now) (task_view c.args.task.now) c.deref.result.now c.deref-2.result.now c.in_ok-read.read c.read_task.result (Ok c.in_ok-report.report.done)
+    c.in_ok-read.was (ap files_in c.in_ok-read.was ∙ ap₂ (λ file map. Ok (file, map)) (sym c.deref.ensures.value) (sym c.deref-2.ensures.value)) c.read_task.ensures.answer c.read_task.ensures.asked
+    (ends_asks IsNotOfFiles IsNotOfFiles (g.F.Files.requests c.read_task.new.files) (g.F.Files.requests c.pipe_files.new.files) (entries_wants (script_of c.deref.result.now)) c.in_ok-report.report c.pipe_files.result (Ok c.in_ok-report.report.done) c.in_ok-report.was tt c.pipe_files.ensures.asked)

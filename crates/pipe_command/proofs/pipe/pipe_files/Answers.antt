@@ -5,6 +5,13 @@ use Rattle.command_line.specs.View.{task_view}
 use Rattle.pipe_run.specs.PipeRun.{runs_of}
 use Rattle.pipe_command.specs.Pipes.{script_loaded, piped}
 use Rattle.pipe_command.specs.View.{script_in, report_in}
+use Rattle.std.specs.Prelude.{[], ◌∷◌}
+use Rattle.std.proofs.Common.{subst, sym, Ok, Err}
+use Rattle.command_answers.specs.Requests.{IsNotOfFiles}
+use Rattle.refusals.specs.declared.refusal.Refusal.TheVariants.{Memory}
+use Rattle.pipe_script.specs.Script.{script_of}
+use Rattle.pipe_command.specs.Pipes.{entries_wants}
+use Rattle.command_answers.proofs.Asks.{fails_anyhow, ends_asks}
 use Rattle.pipe_command.proofs.pipe.pipe_files.Goals as goal
 
 pub returns-in_err-loaded-clause-held : goal.returns-in_err-loaded-clause-held
@@ -60,3 +67,17 @@ returns-clause-answer g c =
     let task = task_view c.args.task.now in
     after_read (g.F.Files.faults c.args.files.now) (g.F.Files.faults c.load_script.new.files) (g.F.Files.held c.args.files.now) (λ h. script_loaded h c.args.script.now c.args.map.now) _ (script_in c.load_script.result) (λ loaded. piped task.dump (runs_of loaded.0 loaded.1 c.args.vl task.steps)) _
     (ap script_in c.in_ok-loaded.was) c.load_script.ensures.answer (inl c.in_ok-report.ensures)
+
+pub returns-in_err-loaded-clause-asked : goal.returns-in_err-loaded-clause-asked
+returns-in_err-loaded-clause-asked g c =
+    fails_anyhow (g.F.Files.requests c.args.files.now) (g.F.Files.requests c.load_script.new.files) (entries_wants (script_of c.args.script.now)) c.in_err-loaded.field-0.0 c.load_script.result c.from_residual.result
+    c.in_err-loaded.was (is_err (c.in_err-loaded.field-0.0) c.from_residual.result c.from_residual.ensures.1) c.load_script.ensures.asked
+
+pub returns-in_err-report-clause-asked : goal.returns-in_err-report-clause-asked
+returns-in_err-report-clause-asked g c =
+    ends_asks IsNotOfFiles IsNotOfFiles (g.F.Files.requests c.args.files.now) (g.F.Files.requests c.load_script.new.files) (entries_wants (script_of c.args.script.now)) c.in_ok-loaded.loaded c.load_script.result c.from_residual-in_err-report.result
+    c.in_ok-loaded.was (subst IsNotOfFiles (sym (is_err (Memory) c.from_residual-in_err-report.result c.from_residual-in_err-report.ensures.1)) tt) c.load_script.ensures.asked
+
+pub returns-clause-asked : goal.returns-clause-asked
+returns-clause-asked g c =
+    ends_asks IsNotOfFiles IsNotOfFiles (g.F.Files.requests c.args.files.now) (g.F.Files.requests c.load_script.new.files) (entries_wants (script_of c.args.script.now)) c.in_ok-loaded.loaded c.load_script.result (Ok c.in_ok-report.report) c.in_ok-loaded.was tt c.load_script.ensures.asked

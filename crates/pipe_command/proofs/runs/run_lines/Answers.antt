@@ -1,10 +1,11 @@
 use Rattle.std.proofs.Common.{◌+◌, refl, ap, sym, ◌∙◌, subst, drop, arith}
 use Rattle.std.specs.List.{AllByRecursion}
+use Rattle.std.proofs.lemmas.List.{drop_all}
 use Rattle.machine_model.specs.Run.{memory_left}
 use Rattle.pipe_command.specs.Pipes.{line_run}
 use Rattle.pipe_command.specs.View.{line_view, lines_view, IsFitting}
-use Rattle.pipe_command.proofs.LoadedLines.{next_is, none_left}
-use Rattle.pipe_command.proofs.LineRuns.{SoFar, one_more, all_ran, last_ran, all_fit}
+use Rattle.pipe_command.proofs.LoadedLines.{next_is}
+use Rattle.pipe_command.proofs.LineRuns.{SoFar, line_ran, all_ran, last_ran, all_fit}
 use Rattle.pipe_command.proofs.runs.run_lines.Goals as goal
 
 pub returns-then-is_last-clause-done : goal.returns-then-is_last-clause-done
@@ -52,7 +53,7 @@ loop-index-preserved c =
     let fits = subst (λ l. AllByRecursion (IsFitting now) (lines_view l)) (next_is c.args.lines.now c.loop-index.index c.index-lines-index.result (omega arith) c.index-lines-index.is) c.loop-index.invariant.fits in
     record {
       so =
-          one_more c.loop-index.text.items c.run_one.new.text.items (c.loop-index.index + 1) line left now c.run_one.new.pages.memory all first c.args.vl c.args.steps
+          line_ran c.loop-index.text.items c.run_one.new.text.items (c.loop-index.index + 1) line left now c.run_one.new.pages.memory all first c.args.vl c.args.steps
           so (sym c.in_ok-done.ensures.done ∙ c.if-is_last.ensures.goes_on refl) c.in_ok-done.ensures.text c.in_ok-done.ensures.left;
       fits = subst (λ pages. AllByRecursion (IsFitting pages) left) (sym c.in_ok-done.ensures.left) (all_fit (memory_left outcome) now left fits.1);
     }
@@ -60,14 +61,14 @@ loop-index-preserved c =
 pub returns-clause-done : goal.returns-clause-done
 returns-clause-done c =
     (all_ran c.loop-index.text.items (c.loop-index.index + 1) (lines_view (drop c.loop-index.index c.args.lines.now)) c.loop-index.pages.memory (lines_view c.args.lines.now) c.args.pages.now.memory c.args.vl c.args.steps
-    c.loop-index.invariant.so (ap lines_view (none_left c.args.lines.now c.loop-index.index (omega arith)))).done
+    c.loop-index.invariant.so (ap lines_view (drop_all c.loop-index.index c.args.lines.now (omega arith)))).done
 
 pub returns-clause-text : goal.returns-clause-text
 returns-clause-text c =
     (all_ran c.loop-index.text.items (c.loop-index.index + 1) (lines_view (drop c.loop-index.index c.args.lines.now)) c.loop-index.pages.memory (lines_view c.args.lines.now) c.args.pages.now.memory c.args.vl c.args.steps
-    c.loop-index.invariant.so (ap lines_view (none_left c.args.lines.now c.loop-index.index (omega arith)))).told
+    c.loop-index.invariant.so (ap lines_view (drop_all c.loop-index.index c.args.lines.now (omega arith)))).told
 
 pub returns-clause-left : goal.returns-clause-left
 returns-clause-left c =
     (all_ran c.loop-index.text.items (c.loop-index.index + 1) (lines_view (drop c.loop-index.index c.args.lines.now)) c.loop-index.pages.memory (lines_view c.args.lines.now) c.args.pages.now.memory c.args.vl c.args.steps
-    c.loop-index.invariant.so (ap lines_view (none_left c.args.lines.now c.loop-index.index (omega arith)))).pages
+    c.loop-index.invariant.so (ap lines_view (drop_all c.loop-index.index c.args.lines.now (omega arith)))).pages

@@ -2,10 +2,20 @@ use Rattle.std.proofs.Common.{refl, ap, le_refl}
 use Rattle.std.proofs.lemmas.Result.{IfOk-from_err}
 use Rattle.command_answers.proofs.Reading.{is_err}
 use Rattle.pipe_command.proofs.Passed.{file_before, never_file, ok_not_file, by_files, of_content, content_not_file, refuses_then, refuses_as}
-use Rattle.pipe_command.proofs.Causes.{whatever_held, refusal_answers}
+use Rattle.pipe_command.proofs.Causes.{refusal_answers}
 use Rattle.command_answers.specs.Answer.{IsFileAnswer}
+use Rattle.command_answers.proofs.Held.{whatever_held}
 use Rattle.pipe_command.specs.Pipes.{entries_of, map_alone, script_loaded, read_as}
 use Rattle.pipe_command.specs.View.{script_in}
+use Rattle.std.specs.Prelude.{[], ◌∷◌}
+use Rattle.std.proofs.Common.{subst, sym, Ok, Err}
+use Rattle.std.proofs.Common.{◌∙◌}
+use Rattle.command_answers.specs.Requests.{Asks, IsNotOfFiles}
+use Rattle.pipe_script.specs.Script.{script_of}
+use Rattle.pipe_script.specs.View.{entries_view}
+use Rattle.pipe_command.specs.Pipes.{entry_want, lines_wants, entries_wants}
+use Rattle.command_answers.proofs.Asks.{nothing_asks, fails_anyhow, ends_asks}
+use Rattle.pipe_command.proofs.Requested.{content_elsewhere}
 use Rattle.pipe_command.proofs.script.load_script.Goals as goal
 
 pub returns-in_err-entries-clause-failed : goal.returns-in_err-entries-clause-failed
@@ -97,3 +107,22 @@ returns-in_err-map-clause-answer g c =
     whatever_held (g.F.Files.held c.args.files.now) (λ h. IsFileAnswer (g.F.Files.faults c.args.files.now) (g.F.Files.faults c.args.files.now) (script_loaded h c.args.script.now c.args.map.now) (script_in c.from_residual-in_err-map.result))
     (λ h. refusal_answers (g.F.Files.faults c.args.files.now) (g.F.Files.faults c.args.files.now) (script_loaded h c.args.script.now c.args.map.now) (script_in c.from_residual-in_err-map.result) c.in_err-map.field-0.0 (ap script_in (is_err c.in_err-map.field-0.0 c.from_residual-in_err-map.result c.from_residual-in_err-map.ensures.1))
     (refuses_as (entries_of c.args.script.now) _ _ c.in_err-map.field-0.0 (ap read_as c.in_ok-entries.ensures.entries) (refuses_then (map_alone c.args.map.now) _ c.in_err-map.field-0.0 c.in_err-map.ensures.refusal)))
+
+pub returns-in_err-entries-clause-asked : goal.returns-in_err-entries-clause-asked
+returns-in_err-entries-clause-asked g c =
+    nothing_asks (g.F.Files.requests c.args.files.now) (entries_wants (script_of c.args.script.now)) c.in_err-entries.field-0.0 c.from_residual.result (content_elsewhere c.in_err-entries.field-0.0 c.in_err-entries.ensures.content) (is_err (c.in_err-entries.field-0.0) c.from_residual.result c.from_residual.ensures.1)
+
+pub returns-in_err-map-clause-asked : goal.returns-in_err-map-clause-asked
+returns-in_err-map-clause-asked g c =
+    nothing_asks (g.F.Files.requests c.args.files.now) (entries_wants (script_of c.args.script.now)) c.in_err-map.field-0.0 c.from_residual-in_err-map.result (content_elsewhere c.in_err-map.field-0.0 c.in_err-map.ensures.content) (is_err (c.in_err-map.field-0.0) c.from_residual-in_err-map.result c.from_residual-in_err-map.ensures.1)
+
+pub returns-in_err-lines-clause-asked : goal.returns-in_err-lines-clause-asked
+returns-in_err-lines-clause-asked g c =
+    fails_anyhow (g.F.Files.requests c.args.files.now) (g.F.Files.requests c.load_lines.new.files) (entries_wants (script_of c.args.script.now)) c.in_err-lines.field-0.0 c.load_lines.result c.from_residual-in_err-lines.result
+    c.in_err-lines.was (is_err (c.in_err-lines.field-0.0) c.from_residual-in_err-lines.result c.from_residual-in_err-lines.ensures.1)
+    (subst (λ w. Asks IsNotOfFiles (g.F.Files.requests c.args.files.now) (g.F.Files.requests c.load_lines.new.files) w c.load_lines.result) (ap (λ v. lines_wants (entries_view v)) c.deref.ensures.value ∙ ap entries_wants (sym c.in_ok-entries.ensures.entries)) c.load_lines.ensures.asked)
+
+pub returns-clause-asked : goal.returns-clause-asked
+returns-clause-asked g c =
+    ends_asks IsNotOfFiles IsNotOfFiles (g.F.Files.requests c.args.files.now) (g.F.Files.requests c.load_lines.new.files) (entries_wants (script_of c.args.script.now)) c.in_ok-lines.lines c.load_lines.result _ c.in_ok-lines.was tt
+    (subst (λ w. Asks IsNotOfFiles (g.F.Files.requests c.args.files.now) (g.F.Files.requests c.load_lines.new.files) w c.load_lines.result) (ap (λ v. lines_wants (entries_view v)) c.deref.ensures.value ∙ ap entries_wants (sym c.in_ok-entries.ensures.entries)) c.load_lines.ensures.asked)

@@ -1,10 +1,10 @@
 use Rattle.std.proofs.Common.{◌≡◌, ◌∷◌, ◌∙◌, sym, ap, arith}
 use Rattle.text_parts.specs.Parts.{parts_after}
-use Rattle.pipe_script.proofs.Arguments.{arguments_left, begins, full, none-read, one-read, all-read}
+use Rattle.pipe_script.proofs.Arguments.{arguments_left, arguments_left_at_start, full, none-read, one-read, all-read}
 use Rattle.pipe_script.proofs.script_line.arguments.Goals as goal
 
 pub loop-rest-init : goal.loop-rest-init
-loop-rest-init c = (begins c.new-args.result.items (parts_after 32 c.args.words) c.new-args.ensures.items, omega (arith, c.new-args.ensures.len))
+loop-rest-init c = (arguments_left_at_start c.new-args.result.items (parts_after 32 c.args.words) c.new-args.ensures.items, omega (arith, c.new-args.ensures.len))
 
 pub returns-then-len-ge8-clause-read : goal.returns-then-len-ge8-clause-read
 returns-then-len-ge8-clause-read c =

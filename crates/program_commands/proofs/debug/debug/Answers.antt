@@ -12,8 +12,14 @@ use Rattle.command_answers.specs.Outputs.{Prints}
 use Rattle.command_answers.specs.Reads.{task_files, files_in, IsTaskHeld}
 use Rattle.command_answers.proofs.Reading.{is_err}
 use Rattle.program_commands.specs.Commands.{debug_program, IsOfDebug}
-use Rattle.program_commands.proofs.Sessions.{not_begun, debugged_is, refused_program, program_of_debug, program_not_file, program_not_output, steady_anyway, failed_session, answered_session, untold_session, told_session, cut_session, came_session, read_not_output, session_output, session_loud, session_not_file, of_failed_session}
+use Rattle.program_commands.proofs.Sessions.{not_begun, debugged_is, refused_program, program_of_debug, program_not_file, program_not_output, failed_session, answered_session, untold_session, told_session, cut_session, came_session, asks_session, read_not_output, session_output, session_loud, session_not_file, of_failed_session}
 use Rattle.command_answers.proofs.Exits.{passed_on, steady_read, of_reading, not_refused}
+use Rattle.command_answers.proofs.Held.{steady_anyway}
+use Rattle.std.specs.Prelude.{◌∷◌}
+use Rattle.command_answers.specs.Requests.{IsOk, Read, IsNotOfFiles, task_wants}
+use Rattle.command_answers.proofs.Asks.{fails_asks, ends_asks}
+use Rattle.program_commands.proofs.Requested.{program_elsewhere, session_elsewhere}
+use Rattle.refusals.specs.declared.refusal.Done.TheVariants.{Ended}
 use Rattle.program_commands.proofs.debug.debug.Goals as goal
 
 pub returns-in_err-read : goal.returns-in_err-read
@@ -36,6 +42,8 @@ returns-in_err-read g c =
           absurd (read_not_output c.read_task.result c.in_err-read.field-0.0 c.from_residual.result c.in_err-read.was c.from_residual.ensures.1 c.read_task.ensures.of_read e);
       steady = λ s. steady_read (g.F.Files.held c.args.files.now) (λ h. IsTaskHeld h (task_view c.args.task.now)) c.read_task.result refusal result was is (c.read_task.ensures.reads s);
       of_debug = of_reading IsOfDebug c.read_task.result refusal result was is c.read_task.ensures.of_read tt tt tt;
+      asked = fails_asks IsNotOfFiles (g.F.Files.requests c.args.files.now) (g.F.Files.requests c.read_task.new.files) (task_wants (task_view c.args.task.now)) c.in_err-read.field-0.0 c.read_task.result c.from_residual.result
+          c.in_err-read.was (is_err (c.in_err-read.field-0.0) c.from_residual.result c.from_residual.ensures.1) c.read_task.ensures.asked;
     }
 
 pub returns-in_err-debugger : goal.returns-in_err-debugger
@@ -69,10 +77,28 @@ returns-in_err-debugger g c =
           c.from_residual-in_err-debugger.ensures.1 (c.in_err-debugger.ensures.refusal []));
       of_debug = program_of_debug (debug_program c.args.vl (task_view c.args.task.now) c.deref.result.now c.deref-2.result.now []) c.in_err-debugger.field-0.0 c.from_residual-in_err-debugger.result
           c.from_residual-in_err-debugger.ensures.1 (c.in_err-debugger.ensures.refusal []);
+      asked = ends_asks IsOk IsNotOfFiles (g.F.Files.requests c.args.files.now) (g.F.Files.requests c.read_task.new.files) (task_wants (task_view c.args.task.now)) c.in_ok-read.read c.read_task.result c.from_residual-in_err-debugger.result
+          c.in_ok-read.was (subst IsNotOfFiles (sym (is_err (c.in_err-debugger.field-0.0) c.from_residual-in_err-debugger.result c.from_residual-in_err-debugger.ensures.1)) (program_elsewhere _ c.in_err-debugger.field-0.0 (c.in_err-debugger.ensures.refusal []))) c.read_task.ensures.asked;
     }
 
 pub session-requires : goal.session-requires
-session-requires g c = c.in_ok-debugger.ensures.begins.stands.shows.steps
+session-requires g c =
+    let begins = c.in_ok-debugger.ensures.begins in
+    let task = task_view c.args.task.now in
+    let read : List ℕ × List ℕ = (c.deref.result.now, c.deref-2.result.now) in
+    record {
+      steps = begins.stands.shows.steps;
+      in_time = record {
+        start = begins.begin;
+        begun = started begins.begin;
+        stands = begins.stands;
+        may = λ i s came.
+            c.requires i s
+            (asks_session (g.F.Files.faults c.args.files.now) (g.F.Files.faults c.read_task.new.files) (g.I.Source.left c.args.input.now) (g.I.Source.left i) (g.F.Files.held c.args.files.now) c.args.vl task read (files_in c.read_task.result) (g.S.Sink.taken c.args.out.now) (g.S.Sink.taken s) begins.image begins.pages begins.begin
+            (ap files_in c.in_ok-read.was ∙ ap₂ (λ file map. Ok (file, map)) (sym c.deref.ensures.value) (sym c.deref-2.ensures.value)) c.read_task.ensures.answer
+            begins.loads begins.maps begins.at_start came);
+      };
+    }
 
 pub returns-in_err-session : goal.returns-in_err-session
 returns-in_err-session g c =
@@ -113,6 +139,8 @@ returns-in_err-session g c =
           (c.session.ensures.as_it_comes begins.begin (started begins.begin) begins.stands (c.in_err-session.was ∙ ap (λ f. Err f) e)));
       steady = λ s. steady_anyway (g.F.Files.held c.args.files.now) (λ h. IsTaskHeld h (task_view c.args.task.now)) result (session_not_file fault result is);
       of_debug = of_failed_session fault result is;
+      asked = ends_asks IsOk IsNotOfFiles (g.F.Files.requests c.args.files.now) (g.F.Files.requests c.read_task.new.files) (task_wants (task_view c.args.task.now)) c.in_ok-read.read c.read_task.result c.from_residual-in_err-session.result
+          c.in_ok-read.was (subst IsNotOfFiles (sym (is_err (of_session c.in_err-session.field-0.0) c.from_residual-in_err-session.result c.from_residual-in_err-session.ensures.1)) (session_elsewhere c.in_err-session.field-0.0)) c.read_task.ensures.asked;
     }
 
 pub returns : goal.returns
@@ -142,4 +170,5 @@ returns g c =
       as_it_comes = λ e. absurd (not_refused done.Ended Output e);
       steady = λ s. steady_anyway (g.F.Files.held c.args.files.now) (λ h. IsTaskHeld h (task_view c.args.task.now)) (Ok done.Ended) (not_refused done.Ended File);
       of_debug = refl;
+      asked = ends_asks IsOk IsNotOfFiles (g.F.Files.requests c.args.files.now) (g.F.Files.requests c.read_task.new.files) (task_wants (task_view c.args.task.now)) c.in_ok-read.read c.read_task.result (Ok Ended) c.in_ok-read.was tt c.read_task.ensures.asked;
     }

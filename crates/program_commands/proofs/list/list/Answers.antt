@@ -10,7 +10,14 @@ use Rattle.command_answers.proofs.Reading.{is_err, not_read, of_what_follows}
 use Rattle.program_commands.specs.Commands.{list_program, expected_of_list, IsOfList}
 use Rattle.program_commands.specs.Listing.{lines_from}
 use Rattle.command_answers.proofs.Exits.{passed_on, steady_read, of_reading, untold, cut_answer, cut_output, cut_print, cut_loud, cut_not_file, of_refusal, not_refused, done_print}
-use Rattle.program_commands.proofs.Sessions.{refused_work, program_not_file, program_not_output, steady_anyway, read_not_output}
+use Rattle.command_answers.proofs.Held.{steady_anyway}
+use Rattle.program_commands.proofs.Sessions.{refused_work, program_not_file, program_not_output, read_not_output}
+use Rattle.std.specs.Prelude.{[], ◌∷◌}
+use Rattle.std.proofs.Common.{subst}
+use Rattle.command_answers.specs.Requests.{IsOk, Read, IsNotOfFiles, task_wants}
+use Rattle.command_answers.proofs.Asks.{fails_asks, ends_asks}
+use Rattle.program_commands.proofs.Requested.{program_elsewhere}
+use Rattle.refusals.specs.declared.refusal.Done.TheVariants.{Ended}
 use Rattle.program_commands.proofs.list.list.Goals as goal
 
 pub returns-in_err-bytes : goal.returns-in_err-bytes
@@ -30,6 +37,8 @@ returns-in_err-bytes g c =
       output = λ e. absurd (read_not_output c.read_file.result refusal result was is c.read_file.ensures.of_read e);
       steady = λ s. steady_read (g.F.Files.held c.args.files.now) (λ h. IsSome (content h c.args.from.now)) c.read_file.result refusal result was is (c.read_file.ensures.reads s);
       of_list = of_reading IsOfList c.read_file.result refusal result was is c.read_file.ensures.of_read tt tt tt;
+      asked = fails_asks IsNotOfFiles (g.F.Files.requests c.args.files.now) (g.F.Files.requests c.read_file.new.files) (Read c.args.from.now ∷ []) c.in_err-bytes.field-0.0 c.read_file.result c.from_residual.result
+          c.in_err-bytes.was (is_err (c.in_err-bytes.field-0.0) c.from_residual.result c.from_residual.ensures.1) c.read_file.ensures.asked;
     }
 
 pub returns-in_err-words : goal.returns-in_err-words
@@ -52,6 +61,8 @@ returns-in_err-words g c =
       output = λ e. absurd (program_not_output work refusal result is refuses e);
       steady = λ s. steady_anyway (g.F.Files.held c.args.files.now) (λ h. IsSome (content h c.args.from.now)) result (program_not_file work refusal result is refuses);
       of_list = of_refusal IsOfList refusal result is c.in_err-words.ensures.of_list;
+      asked = ends_asks IsOk IsNotOfFiles (g.F.Files.requests c.args.files.now) (g.F.Files.requests c.read_file.new.files) (Read c.args.from.now ∷ []) c.in_ok-bytes.bytes c.read_file.result c.from_residual-in_err-words.result
+          c.in_ok-bytes.was (subst IsNotOfFiles (sym (is_err (c.in_err-words.field-0.0) c.from_residual-in_err-words.result c.from_residual-in_err-words.ensures.1)) (program_elsewhere _ c.in_err-words.field-0.0 c.in_err-words.ensures.refusal)) c.read_file.ensures.asked;
     }
 
 pub put_lines-requires : goal.put_lines-requires
@@ -82,6 +93,8 @@ returns-in_err-put_lines g c =
       output = λ e. cut_output (g.S.Sink.faults c.args.out.now) (g.S.Sink.faults c.put_lines.new.sink) c.put_lines.result failed result was puts.cause e;
       steady = λ s. steady_anyway (g.F.Files.held c.args.files.now) (λ h. IsSome (content h c.args.from.now)) result (cut_not_file result is);
       of_list = of_refusal IsOfList Output result is tt;
+      asked = ends_asks IsOk IsNotOfFiles (g.F.Files.requests c.args.files.now) (g.F.Files.requests c.read_file.new.files) (Read c.args.from.now ∷ []) c.in_ok-bytes.bytes c.read_file.result c.from_residual-in_err-put_lines.result
+          c.in_ok-bytes.was (subst IsNotOfFiles (sym (is_err (Output) c.from_residual-in_err-put_lines.result c.from_residual-in_err-put_lines.ensures.1)) (tt)) c.read_file.ensures.asked;
     }
 
 pub returns : goal.returns
@@ -104,4 +117,5 @@ returns g c =
       output = λ e. absurd (not_refused done.Ended Output e);
       steady = λ s. steady_anyway (g.F.Files.held c.args.files.now) (λ h. IsSome (content h c.args.from.now)) (Ok done.Ended) (not_refused done.Ended File);
       of_list = refl;
+      asked = ends_asks IsOk IsNotOfFiles (g.F.Files.requests c.args.files.now) (g.F.Files.requests c.read_file.new.files) (Read c.args.from.now ∷ []) c.in_ok-bytes.bytes c.read_file.result (Ok Ended) c.in_ok-bytes.was tt c.read_file.ensures.asked;
     }

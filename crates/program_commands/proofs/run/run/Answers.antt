@@ -9,7 +9,13 @@ use Rattle.command_answers.specs.Reads.{task_files, files_in, IsTaskHeld}
 use Rattle.command_answers.proofs.Reading.{is_err, not_read, of_what_follows}
 use Rattle.program_commands.specs.Commands.{run_program, stops_of, expected_of_run, IsOfRun}
 use Rattle.command_answers.proofs.Exits.{passed_on, steady_read, of_reading, untold, cut_answer, cut_output, cut_print, cut_loud, cut_not_file, of_refusal, not_refused, done_print}
-use Rattle.program_commands.proofs.Sessions.{refused_work, program_not_file, program_not_output, program_of_run, steady_anyway, read_not_output}
+use Rattle.command_answers.proofs.Held.{steady_anyway}
+use Rattle.program_commands.proofs.Sessions.{refused_work, program_not_file, program_not_output, program_of_run, read_not_output}
+use Rattle.std.specs.Prelude.{[], ◌∷◌}
+use Rattle.std.proofs.Common.{subst}
+use Rattle.command_answers.specs.Requests.{IsOk, Read, IsNotOfFiles, task_wants}
+use Rattle.command_answers.proofs.Asks.{fails_asks, ends_asks}
+use Rattle.program_commands.proofs.Requested.{program_elsewhere}
 use Rattle.program_commands.proofs.run.run.Goals as goal
 
 pub returns-in_err-read : goal.returns-in_err-read
@@ -29,6 +35,8 @@ returns-in_err-read g c =
       output = λ e. absurd (read_not_output c.read_task.result refusal result was is c.read_task.ensures.of_read e);
       steady = λ s. steady_read (g.F.Files.held c.args.files.now) (λ h. IsTaskHeld h (task_view c.args.task.now)) c.read_task.result refusal result was is (c.read_task.ensures.reads s);
       of_run = of_reading IsOfRun c.read_task.result refusal result was is c.read_task.ensures.of_read tt tt tt;
+      asked = fails_asks IsNotOfFiles (g.F.Files.requests c.args.files.now) (g.F.Files.requests c.read_task.new.files) (task_wants (task_view c.args.task.now)) c.in_err-read.field-0.0 c.read_task.result c.from_residual.result
+          c.in_err-read.was (is_err (c.in_err-read.field-0.0) c.from_residual.result c.from_residual.ensures.1) c.read_task.ensures.asked;
     }
 
 pub returns-in_err-run_report : goal.returns-in_err-run_report
@@ -52,6 +60,8 @@ returns-in_err-run_report g c =
       output = λ e. absurd (program_not_output work refusal result is refuses e);
       steady = λ s. steady_anyway (g.F.Files.held c.args.files.now) (λ h. IsTaskHeld h (task_view c.args.task.now)) result (program_not_file work refusal result is refuses);
       of_run = program_of_run work refusal result is refuses;
+      asked = ends_asks IsOk IsNotOfFiles (g.F.Files.requests c.args.files.now) (g.F.Files.requests c.read_task.new.files) (task_wants (task_view c.args.task.now)) c.in_ok-read.read c.read_task.result c.from_residual-in_err-run_report.result
+          c.in_ok-read.was (subst IsNotOfFiles (sym (is_err (c.in_err-run_report.field-0.0) c.from_residual-in_err-run_report.result c.from_residual-in_err-run_report.ensures.1)) (program_elsewhere _ c.in_err-run_report.field-0.0 c.in_err-run_report.ensures.refusal)) c.read_task.ensures.asked;
     }
 
 pub returns-in_err-put_all : goal.returns-in_err-put_all
@@ -81,6 +91,8 @@ returns-in_err-put_all g c =
       output = λ e. cut_output (g.S.Sink.faults c.args.out.now) (g.S.Sink.faults c.put_all.new.sink) c.put_all.result failed result was h.cause e;
       steady = λ s. steady_anyway (g.F.Files.held c.args.files.now) (λ h. IsTaskHeld h (task_view c.args.task.now)) result (cut_not_file result is);
       of_run = of_refusal IsOfRun Output result is tt;
+      asked = ends_asks IsOk IsNotOfFiles (g.F.Files.requests c.args.files.now) (g.F.Files.requests c.read_task.new.files) (task_wants (task_view c.args.task.now)) c.in_ok-read.read c.read_task.result c.from_residual-in_err-put_all.result
+          c.in_ok-read.was (subst IsNotOfFiles (sym (is_err (Output) c.from_residual-in_err-put_all.result c.from_residual-in_err-put_all.ensures.1)) (tt)) c.read_task.ensures.asked;
     }
 
 pub returns : goal.returns
@@ -107,4 +119,5 @@ returns g c =
       output = λ e. absurd (not_refused how Output e);
       steady = λ s. steady_anyway (g.F.Files.held c.args.files.now) (λ h. IsTaskHeld h (task_view c.args.task.now)) (Ok how) (not_refused how File);
       of_run = tt;
+      asked = ends_asks IsOk IsNotOfFiles (g.F.Files.requests c.args.files.now) (g.F.Files.requests c.read_task.new.files) (task_wants (task_view c.args.task.now)) c.in_ok-read.read c.read_task.result (Ok c.in_ok-run_report.run_report.done) c.in_ok-read.was tt c.read_task.ensures.asked;
     }

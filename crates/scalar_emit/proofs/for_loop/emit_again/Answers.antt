@@ -7,7 +7,7 @@ use Rattle.label_fix.specs.DraftRun.{DraftEntry}
 use Rattle.label_fix.specs.Finished.{is_plain}
 use Rattle.scalar_words.specs.Layout.{loose_in}
 use Rattle.scalar_words.specs.View.{form_of, homes_of, looses_of}
-use Rattle.scalar_emit.proofs.LoopCode.{again_is, top_given, later, exit_placed}
+use Rattle.scalar_emit.proofs.LoopCode.{again_is, top_given, last_below_later_label, exit_placed}
 use Rattle.guest_types.proofs.Errors.{on_error}
 use Rattle.scalar_emit.proofs.for_loop.emit_again.Goals as goal
 
@@ -47,7 +47,7 @@ emit_back-requires c = record {
 }
 
 pub place-requires : goal.place-requires
-place-requires c = record { given = later c.args.labels.last c.args.draft.now.labels c.put.new.self.labels c.emit_back.new.draft.labels c.requires.given c.in_ok-put.ensures.labels c.in_ok-emit_back.ensures.labels }
+place-requires c = record { given = last_below_later_label c.args.labels.last c.args.draft.now.labels c.put.new.self.labels c.emit_back.new.draft.labels c.requires.given c.in_ok-put.ensures.labels c.in_ok-emit_back.ensures.labels }
 
 pub place-requires-2 : goal.place-requires-2
 place-requires-2 c = record { given = exit_placed c.args.labels.exit c.args.labels.last c.args.labels.head c.args.draft.now.labels c.put.new.self.labels c.emit_back.new.draft.labels c.place.new.self.labels c.emit_extended.new.draft.labels c.requires.exit c.requires.last c.requires.given c.in_ok-put.ensures.labels c.in_ok-emit_back.ensures.labels c.in_ok-place.ensures.labels c.in_ok-emit_extended.ensures.labels }

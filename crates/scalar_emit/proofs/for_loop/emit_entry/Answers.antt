@@ -47,7 +47,7 @@ pub branch_ahead-requires : goal.branch_ahead-requires
 branch_ahead-requires c = refl
 
 pub put-requires : goal.put-requires
-put-requires c = record { plain = ap is_plain c.bound_word.ensures }
+put-requires c = record { plain = ap is_plain c.compare_iteration.ensures }
 
 pub returns : goal.returns
 returns c = record {
@@ -66,8 +66,8 @@ returns c = record {
             ∙ c.in_ok-put.ensures.code _
             ∙ c.in_ok-head.ensures.emits.code _
             ∙ ap (λ (l : List DraftEntry). c.args.draft.now.entries ++ l)
-            (entry_is c.args.bound.number n c.put.new.self.labels c.emit_numbers.new.draft.labels (homes_of c.args.homes.now) c.args.places.now (looses_of c.loose.result.now) (constants_of c.constants.result.now) (word_view c.bound_word.result) rest
-            c.bound_word.ensures (bound ∙ head) c.loose.ensures c.constants.ensures top);
+            (entry_is c.args.bound.number n c.put.new.self.labels c.emit_numbers.new.draft.labels (homes_of c.args.homes.now) c.args.places.now (looses_of c.loose.result.now) (constants_of c.constants.result.now) (word_view c.compare_iteration.result) rest
+            c.compare_iteration.ensures (bound ∙ head) c.loose.ensures c.constants.ensures top);
       };
   head = c.in_ok-head.ensures.head;
   exit = c.in_ok-exit.ensures.label ∙ c.in_ok-put.ensures.labels ∙ c.in_ok-head.ensures.emits.labels;

@@ -4,6 +4,7 @@ use Rattle.kernel_tree.specs.Plain.{for_loop_of, block_of}
 use Rattle.kernel_tree.specs.Typing.{Scope}
 use Rattle.kernel_scope.specs.Scopes.{scope_of}
 use Rattle.label_fix.specs.DraftRun.{DraftEntry}
+use Rattle.label_fix.specs.Registers.{iteration}
 use Rattle.scalar_words.specs.View.{homes_of}
 use Rattle.loop_code.specs.Statements.{block_labels}
 use Rattle.loop_code.proofs.Emission.{index_named}
@@ -57,7 +58,7 @@ emit_again-requires c = record {
 pub returns : goal.returns
 returns c = record {
   emits =
-      let home = ap₂ (λ (x : List ℕ) (r : ℕ). record { name = x; register = r; last_use = None }) c.text-name.ensures c.index-register.ensures in
+      let home = ap (λ (x : List ℕ). record { name = x; register = iteration; last_use = None }) c.text-name.ensures in
       let named = index_named c.args.homes.now.items c.push.new.self.items _ (for_loop_of c.args.for_loop.now) c.in_ok-push.ensures.items home in
       record {
         labels = c.in_ok-emit_again.ensures.labels ∙ c.in_ok-emit_inside.ensures.emits.labels ∙ ap₂ (λ n i. n + block_labels i (block_of c.args.for_loop.now.body.items)) c.in_ok-labels.ensures.emits.labels (ap (λ (s : Scope). s.index) c.in_ok-declare.ensures);
@@ -71,7 +72,7 @@ returns c = record {
   head = c.in_ok-labels.ensures.head;
   scope = c.in_ok-emit_inside.ensures.scope ∙ c.in_ok-declare.ensures;
   homes =
-      let home = ap₂ (λ (x : List ℕ) (r : ℕ). record { name = x; register = r; last_use = None }) c.text-name.ensures c.index-register.ensures in
+      let home = ap (λ (x : List ℕ). record { name = x; register = iteration; last_use = None }) c.text-name.ensures in
       c.in_ok-emit_inside.ensures.homes ∙ index_named c.args.homes.now.items c.push.new.self.items _ (for_loop_of c.args.for_loop.now) c.in_ok-push.ensures.items home;
   item = loop_items (scope_of c.args.scope.now) (scope_of c.declare.new.scope) (block_of c.args.for_loop.now.body.items) c.args.item.now c.emit_inside.new.item (ap (λ (s : Scope). s.index) c.in_ok-declare.ensures) c.in_ok-emit_inside.ensures.item;
 }

@@ -2,7 +2,7 @@ use Rattle.std.proofs.Common.{refl, arith, List, ◌++◌, sym, ap, ◌∙◌}
 use Rattle.kernel_tree.specs.Plain.{Parameter}
 use Rattle.loop_code.specs.Kernel.{arguments_code}
 use Rattle.guest_types.proofs.Errors.{on_error}
-use Rattle.scalar_emit.proofs.KernelCalls.{no_param}
+use Rattle.kernel_tree.proofs.Walks.{no_param}
 use Rattle.scalar_emit.proofs.kernel.emit_arguments.Goals as goal
 
 pub returns-in_err-emit_settle : goal.returns-in_err-emit_settle

@@ -10,8 +10,9 @@ use Rattle.scalar_words.specs.KernelRegisters.{register_in}
 use Rattle.scalar_words.proofs.Layouts.{count_params}
 use Rattle.scalar_words.specs.View.{homes_of}
 use Rattle.loop_code.specs.Loop.{bare}
-use Rattle.loop_code.proofs.Emission.{known_index, numbers_are, for_loop_is, for_loop_count, held_is, loop_ends, loop_room, answer_room, at_end}
+use Rattle.loop_code.proofs.Emission.{numbers_are, for_loop_is, for_loop_count, held_is, loop_ends, loop_room, answer_room, within_loop_end}
 use Rattle.guest_types.proofs.Errors.{on_error}
+use Rattle.kernel_tree.proofs.Walks.{var_scope-index}
 use Rattle.scalar_emit.proofs.KernelCalls.{few_given}
 use Rattle.scalar_emit.proofs.kernel.emit_for_loop.Goals as goal
 
@@ -30,7 +31,7 @@ emit_answer-requires c = record {
       let l = for_loop_of c.args.for_loop.now in
       let scope = c.in_ok-loosen_names.ensures.scope ∙ c.requires.scope in
       let end = loop_ends k l (scope_of c.loosen_names.new.scope) c.args.item c.emit_loop.new.item scope c.requires.for_loop c.requires.start c.in_ok-at_iteration.ensures.item in
-      answer_room k (scope_of c.emit_loop.new.scope) c.emit_loop.new.item c.requires.few (ap (λ (t : Scope). t.index) c.in_ok-at_iteration.ensures.scope ∙ known_index k _ scope) (at_end k c.emit_loop.new.item end);
+      answer_room k (scope_of c.emit_loop.new.scope) c.emit_loop.new.item c.requires.few (ap (λ (t : Scope). t.index) c.in_ok-at_iteration.ensures.scope ∙ var_scope-index k _ scope) (within_loop_end k c.emit_loop.new.item end);
 }
 
 pub returns-in_err-hold_numbers : goal.returns-in_err-hold_numbers

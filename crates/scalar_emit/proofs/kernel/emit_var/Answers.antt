@@ -6,7 +6,8 @@ use Rattle.label_fix.specs.DraftRun.{DraftEntry}
 use Rattle.scalar_words.specs.KernelRegisters.{register_in}
 use Rattle.scalar_words.specs.View.{homes_of}
 use Rattle.scalar_emit.proofs.LoopCode.{var_is}
-use Rattle.guest_types.proofs.Errors.{on_error, on_any}
+use Rattle.guest_types.proofs.Errors.{on_error}
+use Rattle.kernel_tree.proofs.Calls.{on_any}
 use Rattle.scalar_emit.proofs.kernel.emit_var.Goals as goal
 
 pub returns-in_err-from : goal.returns-in_err-from

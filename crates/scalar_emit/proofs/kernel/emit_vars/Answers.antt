@@ -3,13 +3,12 @@ use Rattle.kernel_tree.specs.Plain.{accumulator_of, accumulators_of, Accumulator
 use Rattle.kernel_tree.specs.Kinds.{VarsKinds}
 use Rattle.kernel_tree.specs.Items.{vars_size}
 use Rattle.kernel_scope.specs.Scopes.{scope_of}
-use Rattle.loop_form.proofs.LoopLists.{next-entry}
 use Rattle.scalar_words.specs.KernelRegisters.{register_in}
 use Rattle.scalar_words.specs.View.{homes_of}
 use Rattle.loop_code.specs.Kernel.{vars_labels, vars_code}
 use Rattle.scalar_emit.proofs.LoopCode.{vars_on}
 use Rattle.guest_types.proofs.Errors.{on_error}
-use Rattle.scalar_emit.proofs.KernelCalls.{no_var}
+use Rattle.kernel_tree.proofs.Walks.{next_item, no_var}
 use Rattle.scalar_emit.proofs.kernel.emit_vars.Goals as goal
 
 pub loop-var-preserved : goal.loop-var-preserved
@@ -17,7 +16,7 @@ loop-var-preserved c =
     let l = c.loop-var in
     let vs = c.args.vars.now in
     let made = c.in_ok-emit_var.ensures in
-    let e = ap accumulators_of (next-entry vs l.var-index c.var-item.result c.loop-var-test.true c.var-item.is) in
+    let e = ap accumulators_of (next_item vs l.var-index c.var-item.result c.loop-var-test.true c.var-item.is) in
     let step = vars_on c.args.places.now (register_in c.args.regs.now) (homes_of l.homes.items) (homes_of c.emit_var.new.homes.items) (scope_of l.scope) (scope_of c.emit_var.new.scope) l.place l.next c.emit_var.new.item l.draft.labels c.emit_var.new.draft.labels l.draft.entries c.emit_var.new.draft.entries (accumulator_of c.var-item.result) (accumulators_of (drop (l.var-index + 1) vs)) (accumulators_of (drop l.var-index vs)) e made.scope made.homes made.item made.emits.labels made.emits.code in
     record {
       place = ap (λ n. n + 1) l.invariant.place;
@@ -37,7 +36,7 @@ pub emit_var-requires : goal.emit_var-requires
 emit_var-requires c =
     let l = c.loop-var in
     let vs = c.args.vars.now in
-    let e = ap accumulators_of (next-entry vs l.var-index c.var-item.result c.loop-var-test.true c.var-item.is) in
+    let e = ap accumulators_of (next_item vs l.var-index c.var-item.result c.loop-var-test.true c.var-item.is) in
     record {
       assigned = c.requires.assigned;
       within = omega arith;

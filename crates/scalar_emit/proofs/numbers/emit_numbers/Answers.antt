@@ -1,5 +1,5 @@
 use Rattle.std.proofs.Common.{◌+◌, List, ◌++◌, drop, ap, ◌∙◌}
-use Rattle.loop_form.proofs.LoopLists.{next-entry}
+use Rattle.kernel_tree.proofs.Walks.{next_item}
 use Rattle.label_fix.specs.DraftRun.{DraftEntry}
 use Rattle.scalar_words.specs.View.{constants_of}
 use Rattle.loop_code.specs.Loop.{numbers_code}
@@ -11,7 +11,7 @@ loop-constant-preserved c =
     let l = c.loop-constant in
     let cs = c.args.constants.now in
     let more = drop (l.constant-index + 1) cs in
-    let e = next-entry cs l.constant-index c.constant-item.result c.loop-constant-test.true c.constant-item.is in
+    let e = next_item cs l.constant-index c.constant-item.result c.loop-constant-test.true c.constant-item.is in
     record {
       labels = c.in_ok-emit_key.ensures.labels ∙ l.invariant.labels;
       code = λ rest. c.in_ok-emit_key.ensures.code (numbers_code (constants_of more) rest)

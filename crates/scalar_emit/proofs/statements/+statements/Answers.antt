@@ -11,9 +11,13 @@ use Rattle.label_fix.specs.DraftRun.{DraftEntry}
 use Rattle.scalar_words.specs.View.{homes_of}
 use Rattle.loop_code.specs.Statements.{after_homes, block_homes, action_code, block_code}
 use Rattle.loop_code.proofs.Emission.{homes_back}
-use Rattle.loop_code.proofs.StatementWalks.{next_statement, emits_on}
-use Rattle.guest_types.proofs.Errors.{on_error, on_any}
-use Rattle.scalar_emit.proofs.StatementCode.{emits_as, one_more, no_statement, if_items, if_else_items, if_is, if_count, if_else_is, if_else_count, first_given, second_given, first_room, second_room, statement_below, less_deep, if_below, if_else_below, first_below, second_below, one_below, inner_below, statement_room, truth_room, branch_room, block_room, leave_room, left_room, label_given, land_given, still_given, exit_given, exit_again, items_end, labels_end}
+use Rattle.loop_code.proofs.StatementWalks.{emits_on}
+use Rattle.guest_types.proofs.Errors.{on_error}
+use Rattle.kernel_tree.proofs.Calls.{on_any}
+use Rattle.kernel_tree.proofs.Walks.{next_statement, no_statement, statement_room}
+use Rattle.scalar_values.proofs.TermItems.{given_past_two_parts, given_past_label}
+use Rattle.loop_code.proofs.WalkParts.{less_deep}
+use Rattle.scalar_emit.proofs.StatementCode.{emits_as, item_after_size, if_items, if_else_items, if_is, if_count, if_else_is, if_else_count, first_given, second_given, first_room, second_room, five_statement_below, five_only_block_below, if_else_below, five_first_block_below, five_second_block_below, five_3_to_2, five_inner_below, truth_room, branch_room, block_room, leave_room, left_room, label_given, still_given, exit_again, items_end, labels_end}
 use Rattle.scalar_emit.proofs.statements.+statements.Goals as goal
 
 pub emit_block-loop-stmt-preserved : goal.emit_block-loop-stmt-preserved
@@ -160,7 +164,7 @@ emit_stmt-returns-in_ok-emit_jump-in-Break t c = record {
       emits_as c.args.places.now (homes_of c.args.homes.now.items) (homes_of c.deref-in-Break.result.now) (scope_of c.args.scope.now) c.args.exit c.args.item.now c.args.draft.now c.emit_jump.new.draft (Leave (term_of c.in-Break.cond.now)) _ (ap homes_of c.deref-in-Break.ensures.value) c.in-Break.ensures c.in_ok-emit_jump-in-Break.ensures.emits;
   scope = ap (after_action (scope_of c.args.scope.now)) c.in-Break.ensures;
   homes = ap (after_homes c.args.places.now (homes_of c.args.homes.now.items) (scope_of c.args.scope.now) c.args.item.now) c.in-Break.ensures;
-  item = one_more c.args.item.now (term_size (scope_of c.args.scope.now).index (term_of c.in-Break.cond.now)) c.emit_jump.new.item c.in_ok-emit_jump-in-Break.ensures.item ∙ ap (λ (a : Action). c.args.item.now + action_size (scope_of c.args.scope.now).index a) c.in-Break.ensures;
+  item = item_after_size c.args.item.now (term_size (scope_of c.args.scope.now).index (term_of c.in-Break.cond.now)) c.emit_jump.new.item c.in_ok-emit_jump-in-Break.ensures.item ∙ ap (λ (a : Action). c.args.item.now + action_size (scope_of c.args.scope.now).index a) c.in-Break.ensures;
 }
 
 -- ---- the statements of a block, one after another
@@ -184,7 +188,7 @@ emit_block-emit_stmt-requires t c =
     let more = block_of (drop (l.stmt-index + 1) c.args.block.now) in
     let a = action_of c.stmt-item.result in
     let e = next_statement c.args.block.now l.stmt-index c.stmt-item.result c.loop-stmt-test.true c.stmt-item.is in
-    (statement_below t (block_of c.args.block.now) x more a c.decreases l.invariant.depth e, (l.invariant.exit, ((subst BlockKinds e l.invariant.kinds).0, statement_room (scope_of l.scope).index (scope_of c.args.scope.now).index (block_of c.args.block.now) x more a c.args.item.now l.item e l.invariant.item c.requires.fits)))
+    (five_statement_below t (block_of c.args.block.now) x more a c.decreases l.invariant.depth e, (l.invariant.exit, ((subst BlockKinds e l.invariant.kinds).0, statement_room (scope_of l.scope).index (scope_of c.args.scope.now).index (block_of c.args.block.now) x more a c.args.item.now l.item e l.invariant.item c.requires.fits)))
 
 pub emit_block-loop-stmt-smaller : goal.emit_block-loop-stmt-smaller
 emit_block-loop-stmt-smaller t c = omega arith
@@ -207,7 +211,7 @@ emit_block-returns t c =
 -- ---- a block whose names are visible no more
 
 pub emit_inner-emit_block-requires : goal.emit_inner-emit_block-requires
-emit_inner-emit_block-requires t c = (inner_below t (block_depth (block_of c.args.block.now)) c.decreases, (c.requires.exit, (c.requires.kinds, c.requires.fits)))
+emit_inner-emit_block-requires t c = (five_inner_below t (block_depth (block_of c.args.block.now)) c.decreases, (c.requires.exit, (c.requires.kinds, c.requires.fits)))
 
 pub emit_inner-returns : goal.emit_inner-returns
 emit_inner-returns t c = record {
@@ -234,11 +238,11 @@ pub emit_if-overflow_add-item : goal.emit_if-overflow_add-item
 emit_if-overflow_add-item t c = branch_room (scope_of c.args.scope.now).index (term_of c.args.cond.now) (block_of c.args.block.now) Nothing c.args.item.now c.emit_jump.new.item c.requires.fits c.in_ok-emit_jump.ensures.item
 
 pub emit_if-emit_inner-requires : goal.emit_if-emit_inner-requires
-emit_if-emit_inner-requires t c = (one_below t (block_depth (block_of c.args.block.now)) c.decreases, (exit_given c.args.exit c.args.draft.now.labels c.label.new.self.labels c.emit_jump.new.draft.labels _ c.requires.exit c.in_ok-other.ensures.count c.in_ok-emit_jump.ensures.emits.labels, (c.requires.block, block_room (scope_of c.args.scope.now).index (term_of c.args.cond.now) (block_of c.args.block.now) Nothing c.args.item.now c.emit_jump.new.item c.requires.fits c.in_ok-emit_jump.ensures.item)))
+emit_if-emit_inner-requires t c = (five_3_to_2 t (block_depth (block_of c.args.block.now)) c.decreases, (given_past_label c.args.exit c.args.draft.now.labels c.label.new.self.labels c.emit_jump.new.draft.labels _ c.requires.exit c.in_ok-other.ensures.count c.in_ok-emit_jump.ensures.emits.labels, (c.requires.block, block_room (scope_of c.args.scope.now).index (term_of c.args.cond.now) (block_of c.args.block.now) Nothing c.args.item.now c.emit_jump.new.item c.requires.fits c.in_ok-emit_jump.ensures.item)))
 
 pub emit_if-land-requires : goal.emit_if-land-requires
 emit_if-land-requires t c = record {
-  given = land_given c.in_ok-other.other c.args.draft.now.labels c.label.new.self.labels c.emit_jump.new.draft.labels c.emit_inner.new.draft.labels _ _ c.in_ok-other.ensures.next c.in_ok-other.ensures.count c.in_ok-emit_jump.ensures.emits.labels c.in_ok-emit_inner.ensures.emits.labels;
+  given = given_past_two_parts c.in_ok-other.other c.args.draft.now.labels c.label.new.self.labels c.emit_jump.new.draft.labels c.emit_inner.new.draft.labels _ _ c.in_ok-other.ensures.next c.in_ok-other.ensures.count c.in_ok-emit_jump.ensures.emits.labels c.in_ok-emit_inner.ensures.emits.labels;
   room = first_room (scope_of c.args.scope.now).index (term_of c.args.cond.now) (block_of c.args.block.now) Nothing c.args.item.now c.emit_jump.new.item c.emit_inner.new.item c.requires.fits c.in_ok-emit_jump.ensures.item c.in_ok-emit_inner.ensures.item;
 }
 
@@ -279,13 +283,13 @@ pub emit_if_else-overflow_add-item : goal.emit_if_else-overflow_add-item
 emit_if_else-overflow_add-item t c = branch_room (scope_of c.args.scope.now).index (term_of c.args.cond.now) (block_of c.args.block.now) (Else (block_of c.args.second.now)) c.args.item.now c.emit_jump.new.item c.requires.fits c.in_ok-emit_jump.ensures.item
 
 pub emit_if_else-emit_inner-requires : goal.emit_if_else-emit_inner-requires
-emit_if_else-emit_inner-requires t c = (first_below t (block_depth (block_of c.args.block.now)) (block_depth (block_of c.args.second.now)) c.decreases, (exit_given c.args.exit c.args.draft.now.labels c.label.new.self.labels c.emit_jump.new.draft.labels _ c.requires.exit c.in_ok-other.ensures.count c.in_ok-emit_jump.ensures.emits.labels, (c.requires.block, block_room (scope_of c.args.scope.now).index (term_of c.args.cond.now) (block_of c.args.block.now) (Else (block_of c.args.second.now)) c.args.item.now c.emit_jump.new.item c.requires.fits c.in_ok-emit_jump.ensures.item)))
+emit_if_else-emit_inner-requires t c = (five_first_block_below t (block_depth (block_of c.args.block.now)) (block_depth (block_of c.args.second.now)) c.decreases, (given_past_label c.args.exit c.args.draft.now.labels c.label.new.self.labels c.emit_jump.new.draft.labels _ c.requires.exit c.in_ok-other.ensures.count c.in_ok-emit_jump.ensures.emits.labels, (c.requires.block, block_room (scope_of c.args.scope.now).index (term_of c.args.cond.now) (block_of c.args.block.now) (Else (block_of c.args.second.now)) c.args.item.now c.emit_jump.new.item c.requires.fits c.in_ok-emit_jump.ensures.item)))
 
 pub emit_if_else-branch_ahead-requires : goal.emit_if_else-branch_ahead-requires
 emit_if_else-branch_ahead-requires t c = refl
 
 pub emit_if_else-emit_inner-requires-2 : goal.emit_if_else-emit_inner-requires-2
-emit_if_else-emit_inner-requires-2 t c = (second_below t (block_depth (block_of c.args.block.now)) (block_depth (block_of c.args.second.now)) c.decreases, (exit_again c.args.exit c.args.draft.now.labels c.label.new.self.labels c.emit_jump.new.draft.labels c.emit_inner.new.draft.labels c.branch_ahead.new.draft.labels c.land.new.draft.labels _ _ c.requires.exit c.in_ok-other.ensures.count c.in_ok-emit_jump.ensures.emits.labels c.in_ok-emit_inner.ensures.emits.labels c.in_ok-end.ensures.emits.labels c.in_ok-land.ensures.emits.labels, (c.requires.second, second_room (scope_of c.args.scope.now) (scope_of c.emit_inner.new.scope) (term_of c.args.cond.now) (block_of c.args.block.now) (block_of c.args.second.now) c.args.item.now c.emit_jump.new.item c.emit_inner.new.item c.land.new.item c.requires.fits c.in_ok-emit_jump.ensures.item c.in_ok-emit_inner.ensures.item c.in_ok-land.ensures.item c.in_ok-emit_inner.ensures.scope)))
+emit_if_else-emit_inner-requires-2 t c = (five_second_block_below t (block_depth (block_of c.args.block.now)) (block_depth (block_of c.args.second.now)) c.decreases, (exit_again c.args.exit c.args.draft.now.labels c.label.new.self.labels c.emit_jump.new.draft.labels c.emit_inner.new.draft.labels c.branch_ahead.new.draft.labels c.land.new.draft.labels _ _ c.requires.exit c.in_ok-other.ensures.count c.in_ok-emit_jump.ensures.emits.labels c.in_ok-emit_inner.ensures.emits.labels c.in_ok-end.ensures.emits.labels c.in_ok-land.ensures.emits.labels, (c.requires.second, second_room (scope_of c.args.scope.now) (scope_of c.emit_inner.new.scope) (term_of c.args.cond.now) (block_of c.args.block.now) (block_of c.args.second.now) c.args.item.now c.emit_jump.new.item c.emit_inner.new.item c.land.new.item c.requires.fits c.in_ok-emit_jump.ensures.item c.in_ok-emit_inner.ensures.item c.in_ok-land.ensures.item c.in_ok-emit_inner.ensures.scope)))
 
 pub emit_if_else-returns : goal.emit_if_else-returns
 emit_if_else-returns t c = record {
@@ -321,7 +325,7 @@ pub emit_stmt-emit_if-requires : goal.emit_stmt-emit_if-requires
 emit_stmt-emit_if-requires t c =
     let is = sym c.in-If.ensures in
     let kinds = subst ActionKinds is c.requires.kinds in
-    (if_below t (action_of c.args.stmt.now) (term_of c.in-If.cond.now) (block_of c.in-If.block.now) c.decreases is, (c.requires.exit, (kinds.0, (kinds.1, subst (λ (a : Action). c.args.item.now + action_size (scope_of c.args.scope.now).index a < 2 ^ 32) is c.requires.fits))))
+    (five_only_block_below t (action_of c.args.stmt.now) (term_of c.in-If.cond.now) (block_of c.in-If.block.now) c.decreases is, (c.requires.exit, (kinds.0, (kinds.1, subst (λ (a : Action). c.args.item.now + action_size (scope_of c.args.scope.now).index a < 2 ^ 32) is c.requires.fits))))
 
 pub emit_stmt-emit_if_else-requires : goal.emit_stmt-emit_if_else-requires
 emit_stmt-emit_if_else-requires t c =

@@ -8,8 +8,9 @@ use Rattle.kernel_scope.specs.Scopes.{scope_of}
 use Rattle.label_fix.specs.DraftRun.{DraftEntry}
 use Rattle.scalar_words.specs.View.{homes_of}
 use Rattle.loop_code.specs.Statements.{defined_homes}
-use Rattle.scalar_emit.proofs.StatementCode.{let_is, one_more}
-use Rattle.guest_types.proofs.Errors.{on_error, on_any}
+use Rattle.scalar_emit.proofs.StatementCode.{let_is, item_after_size}
+use Rattle.guest_types.proofs.Errors.{on_error}
+use Rattle.kernel_tree.proofs.Calls.{on_any}
 use Rattle.scalar_emit.proofs.statements.emit_let.Goals as goal
 
 pub returns-in_err-from : goal.returns-in_err-from
@@ -49,5 +50,5 @@ returns c = record {
       }) c.define.ensures;
   scope = IfOk-equal c.define.result _ _ _ c.define.ensures (ap (defined (scope_of c.args.scope.now) (name_of c.args.name.now)) (c.first-want.ensures ∙ ap (first c.args.ty) c.own_type.ensures));
   homes = on_any c.define.result (c.in_ok-declare_let.ensures ∙ ap₂ (λ (q : ℕ) (t : Option Ty). defined_homes c.args.places.now q (homes_of c.args.homes.now.items) (name_of c.args.name.now) t) c.in_ok-from.ensures.item (c.first-want.ensures ∙ ap (first c.args.ty) c.own_type.ensures));
-  item = on_any c.define.result (one_more c.args.item.now (term_size (scope_of c.args.scope.now).index (term_of c.args.value.now)) c.emit_value.new.item c.in_ok-from.ensures.item);
+  item = on_any c.define.result (item_after_size c.args.item.now (term_size (scope_of c.args.scope.now).index (term_of c.args.value.now)) c.emit_value.new.item c.in_ok-from.ensures.item);
 }

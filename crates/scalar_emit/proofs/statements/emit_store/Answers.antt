@@ -1,12 +1,14 @@
-use Rattle.std.proofs.Common.{arith, List, ◌++◌, ap, ◌∙◌}
+use Rattle.std.proofs.Common.{arith, List, ◌++◌, refl, ap, ◌∙◌}
 use Rattle.std.proofs.lemmas.Result.{on_ok_weaker}
 use Rattle.kernel_tree.specs.Plain.{name_of, term_of}
 use Rattle.kernel_tree.specs.Items.{term_size}
 use Rattle.kernel_scope.specs.Scopes.{scope_of}
 use Rattle.label_fix.specs.DraftRun.{DraftEntry}
+use Rattle.label_fix.specs.Registers.{iteration}
 use Rattle.scalar_words.specs.View.{homes_of}
-use Rattle.guest_types.proofs.Errors.{on_error, on_any}
-use Rattle.scalar_emit.proofs.StatementCode.{one_more, placed_store, computed_store}
+use Rattle.guest_types.proofs.Errors.{on_error}
+use Rattle.kernel_tree.proofs.Calls.{on_any}
+use Rattle.scalar_emit.proofs.StatementCode.{item_after_size, placed_store, computed_store}
 use Rattle.scalar_emit.proofs.statements.emit_store.Goals as goal
 
 pub returns-in_err-from : goal.returns-in_err-from
@@ -25,7 +27,7 @@ overflow_add-item c = omega (arith, c.requires.fits, c.in_ok-from.ensures.item)
 
 pub returns-in-Some : goal.returns-in-Some
 returns-in-Some c = record {
-  item = on_any c.emit_into.result (one_more c.args.item.now (term_size (scope_of c.args.scope.now).index (term_of c.args.value.now)) c.emit_stored.new.item c.in_ok-from.ensures.item);
+  item = on_any c.emit_into.result (item_after_size c.args.item.now (term_size (scope_of c.args.scope.now).index (term_of c.args.value.now)) c.emit_stored.new.item c.in_ok-from.ensures.item);
   emits =
       let s = scope_of c.args.scope.now in
       let hs = homes_of c.args.homes.now in
@@ -35,14 +37,14 @@ returns-in-Some c = record {
         code = λ rest. p.code rest
             ∙ stored.emits.code _
             ∙ ap (λ (l : List DraftEntry). c.args.draft.now.entries ++ l)
-            (placed_store c.args.places.now hs s c.args.item.now c.args.draft.now.labels (name_of c.args.array.now) (term_of c.args.index.now) (term_of c.args.value.now) c.array_type-ty.result c.extent_at-extent.result c.in_ok-from.from.number c.in-Some.place.number c.index.result.number rest
-            c.array_type-ty.ensures c.extent_at-extent.ensures stored.register c.in-Some.ensures c.index.ensures);
+            (placed_store c.args.places.now hs s c.args.item.now c.args.draft.now.labels (name_of c.args.array.now) (term_of c.args.index.now) (term_of c.args.value.now) c.array_type-ty.result c.extent_at-extent.result c.in_ok-from.from.number c.in-Some.place.number iteration rest
+            c.array_type-ty.ensures c.extent_at-extent.ensures stored.register c.in-Some.ensures refl);
       }) c.emit_into.ensures;
 }
 
 pub returns-in-None : goal.returns-in-None
 returns-in-None c = record {
-  item = on_any c.emit_put.result (one_more c.args.item.now (term_size (scope_of c.args.scope.now).index (term_of c.args.value.now)) c.emit_stored.new.item c.in_ok-from.ensures.item);
+  item = on_any c.emit_put.result (item_after_size c.args.item.now (term_size (scope_of c.args.scope.now).index (term_of c.args.value.now)) c.emit_stored.new.item c.in_ok-from.ensures.item);
   emits =
       let s = scope_of c.args.scope.now in
       let hs = homes_of c.args.homes.now in

@@ -11,9 +11,11 @@ use Rattle.value_code.specs.declared.extent.Extent.{Extent}
 use Rattle.value_code.specs.Extents.{within, binary_extent}
 use Rattle.value_code.specs.Covers.{held_extent}
 use Rattle.scalar_values.specs.Sides.{side_view}
-use Rattle.loop_code.proofs.Emission.{update_type, update_is}
-use Rattle.guest_types.proofs.Errors.{on_error, on_any}
-use Rattle.scalar_emit.proofs.StatementCode.{one_more}
+use Rattle.loop_code.proofs.Emission.{update_is}
+use Rattle.guest_types.proofs.Errors.{on_error}
+use Rattle.kernel_tree.proofs.Calls.{on_any}
+use Rattle.kernel_tree.proofs.Walks.{update_type}
+use Rattle.scalar_emit.proofs.StatementCode.{item_after_size}
 use Rattle.scalar_emit.proofs.statements.emit_update.Goals as goal
 
 pub returns-in_err-side : goal.returns-in_err-side
@@ -48,5 +50,5 @@ returns c = record {
             (update_is L (homes_of c.args.homes.now) (scope_of c.args.scope.now) 0 c.args.item.now c.args.draft.now.labels x c.args.op c.update_operator-op.result c.and_then-want.result c.binary_extent-extent.result (term_of c.args.value.now) (side_view c.in_ok-side.side) c.settles-leaves.result c.register_at-register.result.number rest
             c.update_operator-op.ensures want extent c.in_ok-side.ensures.side leaves c.register_at-register.ensures);
       }) c.want_operator.ensures;
-  item = on_any c.want_operator.result (one_more c.args.item.now (term_size (scope_of c.args.scope.now).index (term_of c.args.value.now)) c.emit_side.new.item c.in_ok-side.ensures.item);
+  item = on_any c.want_operator.result (item_after_size c.args.item.now (term_size (scope_of c.args.scope.now).index (term_of c.args.value.now)) c.emit_side.new.item c.in_ok-side.ensures.item);
 }

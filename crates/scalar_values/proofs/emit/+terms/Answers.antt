@@ -7,6 +7,7 @@ use mir.Val.{SFits, of_z, to_z}
 use Rattle.std.proofs.lemmas.Int.{to_z-of_z}
 use Rattle.kernel_scope.specs.Scopes.{scope_of}
 use Rattle.label_fix.specs.DraftRun.{DraftEntry}
+use Rattle.label_fix.specs.Registers.{iteration}
 use Rattle.scalar_words.specs.Layout.{reg_of, register_at}
 use Rattle.scalar_words.specs.View.{homes_of, register_number}
 use Rattle.label_fix.specs.Draft.{word_view}
@@ -16,6 +17,9 @@ use Rattle.kernel_tree.specs.Limits.{term_depth}
 use Rattle.kernel_tree.specs.Typing.{first, lookup, element_type}
 use Rattle.std.specs.Prelude.{Option, None, Some, option_map, option_and_then}
 use Rattle.kernel_tree.specs.declared.ops.Ty.{Ty}
+use Rattle.kernel_tree.proofs.Calls.{on_any}
+use Rattle.kernel_tree.proofs.Walks.{smaller_room}
+use Rattle.kernel_tree.proofs.Measures.{four_2_to_0, four_2_to_1, four_3_to_2, four_2_to_left_0, four_2_to_right_0, four_2_to_left_1, four_2_to_right_1, four_3_to_right_2}
 use Rattle.scalar_values.specs.Sides.{side_view}
 use Rattle.value_code.specs.ValueRegisters.{home, literal_home}
 use Rattle.value_code.specs.ItemWords.{Register}
@@ -23,8 +27,8 @@ use Rattle.value_code.specs.Code.{HasParts, labels, added_number, is_fused, is_l
 use Rattle.value_code.specs.declared.extent.Extent.TheVariants.{Whole}
 use Rattle.value_code.proofs.TermCode.{compared_size, literal_item, literal_labels, held_code, side_number, side_parts, side_whole, on_ok, on_and}
 use Rattle.value_code.proofs.NearOffsets.{no_items}
-use Rattle.scalar_values.proofs.TermItems.{on_any, with_value, then_is, else_is, left_below, right_below, truth_below, value_below, index_below, own_room, next_fits, whole_fits, part_room, after_room, left_room, right_room, led_fits, last_fits, last_room, either_left_room, either_mark_fits, either_right_room, either_last_fits, compared_room, compared_fits, truth_fits, not_fits, chosen_fits, chosen_room, still_given, over_given, both_given, either_given, compared_given, other_given, end_given, end_next, one_item, one_part, two_parts, two_items, both_items, either_items, choice_items, indexed_items, placed_item, placed_items, literal_size, computed_items, computed_home, offset_items, offset_home, by_number, by_part, by_register, loose_as, jump_as, loose_literal, loose_variable, compared_both}
-use Rattle.scalar_values.proofs.TermCalls.{unary_call, unary_room, shift_call, shift_room, cast_call, cast_room, two_call, read_call, yes_call, no_call, one_of_call, left_call, right_call, compare_call, chosen_call, both_call, either_call, not_call, sides_below, left_side_below, right_side_below, side_below, left_compared_below, right_compared_below, left_compared_room}
+use Rattle.scalar_values.proofs.TermItems.{with_value, then_is, else_is, own_room, next_fits, whole_fits, after_room, left_room, right_room, led_fits, last_fits, last_room, either_left_room, either_mark_fits, either_right_room, either_last_fits, compared_room, compared_fits, truth_fits, not_fits, chosen_fits, chosen_room, given_past_label, given_past_two_parts, both_given, either_given, compared_given, other_given, end_given, end_next, one_item, one_part, two_parts, two_items, both_items, either_items, choice_items, indexed_items, placed_item, placed_items, literal_size, computed_items, computed_home, offset_items, offset_home, by_number, by_part, by_register, loose_as, jump_as, loose_literal, loose_variable, compared_both}
+use Rattle.scalar_values.proofs.TermCalls.{unary_call, unary_room, shift_call, shift_room, cast_call, cast_room, two_call, read_call, yes_call, no_call, one_of_call, left_call, right_call, compare_call, chosen_call, both_call, either_call, not_call, sides_below, left_side_below, right_side_below, left_compared_room}
 use Rattle.scalar_values.proofs.TermKinds.{no_truth, no_value, no_parts, no_flags}
 use Rattle.scalar_values.proofs.PartKinds.{and_of, binary_of, cast_of, compare_of, not_of, or_of, read_of, select_of, shift_of, unary_of}
 use Rattle.scalar_values.proofs.TermEmits.{unary_emits, shift_emits, cast_emits, choice_emits, two_emits, led_emits, straight_emits, binary_parts, shift_parts, cast_parts, compare_emits, both_emits, either_emits, chosen_emits, picked_emits, placed_emits, element_emits, offset_emits, index_emits, item_as, home_as}
@@ -286,7 +290,7 @@ emit_read-returns-in-Some t c =
     record {
       register = IfOk-weaker c.emit_load.result _ _ (λ r p. p ∙ ap (reg_of c.args.places.now) (placed_item c.args.item.now (index_items (scope_of c.args.scope.now).index (term_of c.args.index.now)) none)) c.emit_load.ensures.register;
       item = on_any c.emit_load.result (placed_items c.args.item.now (index_items (scope_of c.args.scope.now).index (term_of c.args.index.now)) c.emit_load.new.item none c.emit_load.ensures.item);
-      emits = on_ok c.emit_load.result c.emit_load.ensures.emits (placed_emits L hs s c.args.extent None c.args.item.now c.args.draft.now c.emit_load.new.draft a e c.array_type-ty.result c.in-Some.place.number c.index.result.number c.array_type-ty.ensures place c.index.ensures);
+      emits = on_ok c.emit_load.result c.emit_load.ensures.emits (placed_emits L hs s c.args.extent None c.args.item.now c.args.draft.now c.emit_load.new.draft a e c.array_type-ty.result c.in-Some.place.number iteration c.array_type-ty.ensures place refl);
     }
 
 pub emit_read-returns-in_ok-x-in-None : goal.emit_read-returns-in_ok-x-in-None
@@ -352,13 +356,13 @@ pub emit_sides-emit_loose-requires-else-is_led : goal.emit_sides-emit_loose-requ
 emit_sides-emit_loose-requires-else-is_led t c = (left_side_below t (term_depth (term_of c.args.left.now)) (term_depth (term_of c.args.right.now)) c.decreases, (c.requires.left, left_room c.args.item.now (term_size (scope_of c.args.scope.now).index (term_of c.args.left.now)) (term_size (scope_of c.args.scope.now).index (term_of c.args.right.now)) c.requires.fits))
 
 pub emit_sides-emit_side-requires : goal.emit_sides-emit_side-requires
-emit_sides-emit_side-requires t c = (side_below t (term_depth (term_of c.args.left.now)) (term_depth (term_of c.args.right.now)) c.decreases, (c.requires.right, right_room c.args.item.now (term_size (scope_of c.args.scope.now).index (term_of c.args.left.now)) (term_size (scope_of c.args.scope.now).index (term_of c.args.right.now)) c.emit_loose-else-is_led.new.item c.requires.fits c.in_ok-r-2.ensures.item))
+emit_sides-emit_side-requires t c = (four_3_to_right_2 t (term_depth (term_of c.args.left.now)) (term_depth (term_of c.args.right.now)) c.decreases, (c.requires.right, right_room c.args.item.now (term_size (scope_of c.args.scope.now).index (term_of c.args.left.now)) (term_size (scope_of c.args.scope.now).index (term_of c.args.right.now)) c.emit_loose-else-is_led.new.item c.requires.fits c.in_ok-r-2.ensures.item))
 
 pub emit_side-emit_parts-requires : goal.emit_side-emit_parts-requires
-emit_side-emit_parts-requires t c = (value_below t (term_depth (term_of c.args.expr.now)) c.decreases, (c.requires.kind, (subst (λ (b : Bool). HasParts b (term_of c.args.expr.now)) c.if-fused.true c.is_fused-fused.ensures.parts, c.requires.fits)))
+emit_side-emit_parts-requires t c = (four_2_to_1 t (term_depth (term_of c.args.expr.now)) c.decreases, (c.requires.kind, (subst (λ (b : Bool). HasParts b (term_of c.args.expr.now)) c.if-fused.true c.is_fused-fused.ensures.parts, c.requires.fits)))
 
 pub emit_side-emit_loose-requires : goal.emit_side-emit_loose-requires
-emit_side-emit_loose-requires t c = (value_below t (term_depth (term_of c.args.expr.now)) c.decreases, (c.requires.kind, c.requires.fits))
+emit_side-emit_loose-requires t c = (four_2_to_1 t (term_depth (term_of c.args.expr.now)) c.decreases, (c.requires.kind, c.requires.fits))
 
 pub emit_parts-emit_loose-requires : goal.emit_parts-emit_loose-requires
 emit_parts-emit_loose-requires t c = left_call (scope_of c.args.scope.now).index t c.args.item.now c.in-Binary.op (term_of c.args.expr.now) (term_of c.deref.result.now) (term_of c.deref-in-Binary.result.now) (binary_of c.args.expr.now c.in-Binary.op c.in-Binary.left c.in-Binary.right c.deref.result.now c.deref-in-Binary.result.now c.in-Binary.is c.deref.ensures c.deref-in-Binary.ensures) c.decreases c.requires.kind c.requires.fits
@@ -373,10 +377,10 @@ pub emit_parts-emit_loose-requires-in-Cast : goal.emit_parts-emit_loose-requires
 emit_parts-emit_loose-requires-in-Cast t c = cast_call (scope_of c.args.scope.now).index t c.args.item.now c.in-Cast.ty (term_of c.args.expr.now) (term_of c.deref-arg-in-Cast.result.now) (cast_of c.args.expr.now c.in-Cast.arg c.in-Cast.ty c.deref-arg-in-Cast.result.now c.in-Cast.is c.deref-arg-in-Cast.ensures) c.decreases c.requires.kind c.requires.fits
 
 pub emit_compared-emit_loose-requires : goal.emit_compared-emit_loose-requires
-emit_compared-emit_loose-requires t c = (left_compared_below t (term_depth (term_of c.args.left.now)) (term_depth (term_of c.args.right.now)) c.decreases, (c.requires.left, left_compared_room c.args.item.now (term_size (scope_of c.args.scope.now).index (term_of c.args.left.now)) (term_size (scope_of c.args.scope.now).index (term_of c.args.right.now)) c.requires.fits))
+emit_compared-emit_loose-requires t c = (four_2_to_left_1 t (term_depth (term_of c.args.left.now)) (term_depth (term_of c.args.right.now)) c.decreases, (c.requires.left, left_compared_room c.args.item.now (term_size (scope_of c.args.scope.now).index (term_of c.args.left.now)) (term_size (scope_of c.args.scope.now).index (term_of c.args.right.now)) c.requires.fits))
 
 pub emit_compared-emit_loose-requires-in-None : goal.emit_compared-emit_loose-requires-in-None
-emit_compared-emit_loose-requires-in-None t c = (right_compared_below t (term_depth (term_of c.args.left.now)) (term_depth (term_of c.args.right.now)) c.decreases, (c.requires.right, compared_room c.args.item.now (term_size (scope_of c.args.scope.now).index (term_of c.args.left.now)) (term_size (scope_of c.args.scope.now).index (term_of c.args.right.now)) c.emit_loose.new.item c.requires.fits c.in_ok-a.ensures.item))
+emit_compared-emit_loose-requires-in-None t c = (four_2_to_right_1 t (term_depth (term_of c.args.left.now)) (term_depth (term_of c.args.right.now)) c.decreases, (c.requires.right, compared_room c.args.item.now (term_size (scope_of c.args.scope.now).index (term_of c.args.left.now)) (term_size (scope_of c.args.scope.now).index (term_of c.args.right.now)) c.emit_loose.new.item c.requires.fits c.in_ok-a.ensures.item))
 
 pub emit_jump-emit_compared-requires : goal.emit_jump-emit_compared-requires
 emit_jump-emit_compared-requires t c = compare_call (scope_of c.args.scope.now).index t c.args.item.now c.in-Compare.op (term_of c.args.expr.now) (term_of c.deref.result.now) (term_of c.deref-in-Compare.result.now) (compare_of c.args.expr.now c.in-Compare.op c.in-Compare.left c.in-Compare.right c.deref.result.now c.deref-in-Compare.result.now c.in-Compare.is c.deref.ensures c.deref-in-Compare.ensures) c.decreases c.requires.kind c.compared_number-number.ensures.held c.requires.fits
@@ -473,33 +477,33 @@ emit_two-returns-in_err-sides t c = record { register = IfOk-from_err _ _ c.from
 pub emit_both-emit_jump-requires : goal.emit_both-emit_jump-requires
 emit_both-emit_jump-requires t c =
     let first : c.if-sense.first ≡ (if c.args.sense then c.in_ok-over.over else c.args.to) = elim c.if-sense.branch [ emit_both-then-sense w ↦ w.first-is ∙ sym (ap (λ (v : Bool). if v then c.in_ok-over.over else c.args.to) w.if-sense.true) | emit_both-else-sense w ↦ w.first-is ∙ sym (ap (λ (v : Bool). if v then c.in_ok-over.over else c.args.to) w.if-sense.false) ] in
-    (left_below t (term_depth (term_of c.args.left.now)) (term_depth (term_of c.args.right.now)) c.decreases, (both_given c.args.sense c.if-sense.first c.in_ok-over.over c.args.to c.args.draft.now.labels c.label.new.self.labels first c.in_ok-over.ensures.next c.in_ok-over.ensures.count c.requires.given, (c.requires.left, left_room c.args.item.now (term_size (scope_of c.args.scope.now).index (term_of c.args.left.now)) (term_size (scope_of c.args.scope.now).index (term_of c.args.right.now)) c.requires.fits)))
+    (four_2_to_left_0 t (term_depth (term_of c.args.left.now)) (term_depth (term_of c.args.right.now)) c.decreases, (both_given c.args.sense c.if-sense.first c.in_ok-over.over c.args.to c.args.draft.now.labels c.label.new.self.labels first c.in_ok-over.ensures.next c.in_ok-over.ensures.count c.requires.given, (c.requires.left, left_room c.args.item.now (term_size (scope_of c.args.scope.now).index (term_of c.args.left.now)) (term_size (scope_of c.args.scope.now).index (term_of c.args.right.now)) c.requires.fits)))
 
 pub emit_both-emit_jump-requires-2 : goal.emit_both-emit_jump-requires-2
-emit_both-emit_jump-requires-2 t c = (right_below t (term_depth (term_of c.args.left.now)) (term_depth (term_of c.args.right.now)) c.decreases, (still_given c.args.to c.args.draft.now.labels c.label.new.self.labels c.emit_jump.new.draft.labels (labels (scope_of c.args.scope.now).index (term_of c.args.left.now)) c.requires.given c.in_ok-over.ensures.count c.in_ok-emit_jump.ensures.emits.labels, (c.requires.right, right_room c.args.item.now (term_size (scope_of c.args.scope.now).index (term_of c.args.left.now)) (term_size (scope_of c.args.scope.now).index (term_of c.args.right.now)) c.emit_jump.new.item c.requires.fits c.in_ok-emit_jump.ensures.item)))
+emit_both-emit_jump-requires-2 t c = (four_2_to_right_0 t (term_depth (term_of c.args.left.now)) (term_depth (term_of c.args.right.now)) c.decreases, (given_past_label c.args.to c.args.draft.now.labels c.label.new.self.labels c.emit_jump.new.draft.labels (labels (scope_of c.args.scope.now).index (term_of c.args.left.now)) c.requires.given c.in_ok-over.ensures.count c.in_ok-emit_jump.ensures.emits.labels, (c.requires.right, right_room c.args.item.now (term_size (scope_of c.args.scope.now).index (term_of c.args.left.now)) (term_size (scope_of c.args.scope.now).index (term_of c.args.right.now)) c.emit_jump.new.item c.requires.fits c.in_ok-emit_jump.ensures.item)))
 
 pub emit_both-overflow_add-item : goal.emit_both-overflow_add-item
 emit_both-overflow_add-item t c = last_fits c.args.item.now (term_size (scope_of c.args.scope.now).index (term_of c.args.left.now)) (term_size (scope_of c.args.scope.now).index (term_of c.args.right.now)) c.emit_jump.new.item c.emit_jump-2.new.item c.requires.fits c.in_ok-emit_jump.ensures.item c.in_ok-emit_jump-2.ensures.item
 
 pub emit_both-emit_placed-requires : goal.emit_both-emit_placed-requires
-emit_both-emit_placed-requires t c = over_given c.in_ok-over.over c.args.draft.now.labels c.label.new.self.labels c.emit_jump.new.draft.labels c.emit_jump-2.new.draft.labels (labels (scope_of c.args.scope.now).index (term_of c.args.left.now)) (labels (scope_of c.args.scope.now).index (term_of c.args.right.now)) c.in_ok-over.ensures.next c.in_ok-over.ensures.count c.in_ok-emit_jump.ensures.emits.labels c.in_ok-emit_jump-2.ensures.emits.labels
+emit_both-emit_placed-requires t c = given_past_two_parts c.in_ok-over.over c.args.draft.now.labels c.label.new.self.labels c.emit_jump.new.draft.labels c.emit_jump-2.new.draft.labels (labels (scope_of c.args.scope.now).index (term_of c.args.left.now)) (labels (scope_of c.args.scope.now).index (term_of c.args.right.now)) c.in_ok-over.ensures.next c.in_ok-over.ensures.count c.in_ok-emit_jump.ensures.emits.labels c.in_ok-emit_jump-2.ensures.emits.labels
 
 pub emit_either-emit_jump-requires : goal.emit_either-emit_jump-requires
 emit_either-emit_jump-requires t c =
     let first : c.if-sense.first ≡ (if c.args.sense then c.args.to else c.in_ok-over.over) = elim c.if-sense.branch [ emit_either-then-sense w ↦ w.first-is ∙ sym (ap (λ (v : Bool). if v then c.args.to else c.in_ok-over.over) w.if-sense.true) | emit_either-else-sense w ↦ w.first-is ∙ sym (ap (λ (v : Bool). if v then c.args.to else c.in_ok-over.over) w.if-sense.false) ] in
-    (left_below t (term_depth (term_of c.args.left.now)) (term_depth (term_of c.args.right.now)) c.decreases, (either_given c.args.sense c.if-sense.first c.in_ok-over.over c.args.to c.args.draft.now.labels c.label.new.self.labels first c.in_ok-over.ensures.next c.in_ok-over.ensures.count c.requires.given, (c.requires.left, either_left_room c.args.item.now (term_size (scope_of c.args.scope.now).index (term_of c.args.left.now)) (term_size (scope_of c.args.scope.now).index (term_of c.args.right.now)) c.requires.fits)))
+    (four_2_to_left_0 t (term_depth (term_of c.args.left.now)) (term_depth (term_of c.args.right.now)) c.decreases, (either_given c.args.sense c.if-sense.first c.in_ok-over.over c.args.to c.args.draft.now.labels c.label.new.self.labels first c.in_ok-over.ensures.next c.in_ok-over.ensures.count c.requires.given, (c.requires.left, either_left_room c.args.item.now (term_size (scope_of c.args.scope.now).index (term_of c.args.left.now)) (term_size (scope_of c.args.scope.now).index (term_of c.args.right.now)) c.requires.fits)))
 
 pub emit_either-overflow_add-item : goal.emit_either-overflow_add-item
 emit_either-overflow_add-item t c = either_mark_fits c.args.item.now (term_size (scope_of c.args.scope.now).index (term_of c.args.left.now)) (term_size (scope_of c.args.scope.now).index (term_of c.args.right.now)) c.emit_jump.new.item c.requires.fits c.in_ok-emit_jump.ensures.item
 
 pub emit_either-emit_jump-requires-2 : goal.emit_either-emit_jump-requires-2
-emit_either-emit_jump-requires-2 t c = (right_below t (term_depth (term_of c.args.left.now)) (term_depth (term_of c.args.right.now)) c.decreases, (still_given c.args.to c.args.draft.now.labels c.label.new.self.labels c.emit_jump.new.draft.labels (labels (scope_of c.args.scope.now).index (term_of c.args.left.now)) c.requires.given c.in_ok-over.ensures.count c.in_ok-emit_jump.ensures.emits.labels, (c.requires.right, either_right_room c.args.item.now (term_size (scope_of c.args.scope.now).index (term_of c.args.left.now)) (term_size (scope_of c.args.scope.now).index (term_of c.args.right.now)) c.emit_jump.new.item c.requires.fits c.in_ok-emit_jump.ensures.item)))
+emit_either-emit_jump-requires-2 t c = (four_2_to_right_0 t (term_depth (term_of c.args.left.now)) (term_depth (term_of c.args.right.now)) c.decreases, (given_past_label c.args.to c.args.draft.now.labels c.label.new.self.labels c.emit_jump.new.draft.labels (labels (scope_of c.args.scope.now).index (term_of c.args.left.now)) c.requires.given c.in_ok-over.ensures.count c.in_ok-emit_jump.ensures.emits.labels, (c.requires.right, either_right_room c.args.item.now (term_size (scope_of c.args.scope.now).index (term_of c.args.left.now)) (term_size (scope_of c.args.scope.now).index (term_of c.args.right.now)) c.emit_jump.new.item c.requires.fits c.in_ok-emit_jump.ensures.item)))
 
 pub emit_either-overflow_add-item-2 : goal.emit_either-overflow_add-item-2
 emit_either-overflow_add-item-2 t c = either_last_fits c.args.item.now (term_size (scope_of c.args.scope.now).index (term_of c.args.left.now)) (term_size (scope_of c.args.scope.now).index (term_of c.args.right.now)) c.emit_jump.new.item c.emit_jump-2.new.item c.requires.fits c.in_ok-emit_jump.ensures.item c.in_ok-emit_jump-2.ensures.item
 
 pub emit_either-emit_placed-requires : goal.emit_either-emit_placed-requires
-emit_either-emit_placed-requires t c = over_given c.in_ok-over.over c.args.draft.now.labels c.label.new.self.labels c.emit_jump.new.draft.labels c.emit_jump-2.new.draft.labels (labels (scope_of c.args.scope.now).index (term_of c.args.left.now)) (labels (scope_of c.args.scope.now).index (term_of c.args.right.now)) c.in_ok-over.ensures.next c.in_ok-over.ensures.count c.in_ok-emit_jump.ensures.emits.labels c.in_ok-emit_jump-2.ensures.emits.labels
+emit_either-emit_placed-requires t c = given_past_two_parts c.in_ok-over.over c.args.draft.now.labels c.label.new.self.labels c.emit_jump.new.draft.labels c.emit_jump-2.new.draft.labels (labels (scope_of c.args.scope.now).index (term_of c.args.left.now)) (labels (scope_of c.args.scope.now).index (term_of c.args.right.now)) c.in_ok-over.ensures.next c.in_ok-over.ensures.count c.in_ok-emit_jump.ensures.emits.labels c.in_ok-emit_jump-2.ensures.emits.labels
 
 -- ---- two values that are compared
 
@@ -611,7 +615,7 @@ pub emit_number-emit_offset-requires : goal.emit_number-emit_offset-requires
 emit_number-emit_offset-requires t c = record { plain = c.in-Some.ensures.plain }
 
 pub emit_number-emit_loose-requires : goal.emit_number-emit_loose-requires
-emit_number-emit_loose-requires t c = (value_below t (term_depth (term_of c.args.number.now)) c.decreases, (c.requires.kind, subst (λ (k : ℕ). c.args.item.now + k < 2 ^ 32) (sym (computed_items (stream_offset (scope_of c.args.scope.now).index (term_of c.args.number.now)) (term_size (scope_of c.args.scope.now).index (term_of c.args.number.now)) (sym c.in-None.ensures.word))) c.requires.fits))
+emit_number-emit_loose-requires t c = (four_2_to_1 t (term_depth (term_of c.args.number.now)) c.decreases, (c.requires.kind, subst (λ (k : ℕ). c.args.item.now + k < 2 ^ 32) (sym (computed_items (stream_offset (scope_of c.args.scope.now).index (term_of c.args.number.now)) (term_size (scope_of c.args.scope.now).index (term_of c.args.number.now)) (sym c.in-None.ensures.word))) c.requires.fits))
 
 -- ---- one of two registers
 
@@ -629,7 +633,7 @@ emit_one_of-emit_chosen-requires t c =
     chosen_room c.args.item.now (term_size (scope_of c.args.scope.now).index (term_of c.deref.result.now)) (term_size (scope_of c.args.scope.now).index (term_of c.deref-in-Compare.result.now)) (term_size (scope_of c.args.scope.now).index (term_of c.args.cond.now)) c.emit_compared.new.item (ap (term_size (scope_of c.args.scope.now).index) is) c.requires.fits c.in_ok-p-in-Compare.ensures.item
 
 pub emit_one_of-emit_jump-requires : goal.emit_one_of-emit_jump-requires
-emit_one_of-emit_jump-requires t c = (truth_below t (term_depth (term_of c.args.cond.now)) c.decreases, (other_given c.in_ok-other.other c.args.draft.now.labels c.label.new.self.labels c.label-2.new.self.labels c.in_ok-other.ensures.next c.in_ok-other.ensures.count c.in_ok-end.ensures.count, (c.requires.kind, part_room c.args.item.now (term_size (scope_of c.args.scope.now).index (term_of c.args.cond.now)) c.requires.fits)))
+emit_one_of-emit_jump-requires t c = (four_2_to_0 t (term_depth (term_of c.args.cond.now)) c.decreases, (other_given c.in_ok-other.other c.args.draft.now.labels c.label.new.self.labels c.label-2.new.self.labels c.in_ok-other.ensures.next c.in_ok-other.ensures.count c.in_ok-end.ensures.count, (c.requires.kind, smaller_room c.args.item.now (term_size (scope_of c.args.scope.now).index (term_of c.args.cond.now)) c.requires.fits)))
 
 pub emit_one_of-emit_pick-requires : goal.emit_one_of-emit_pick-requires
 emit_one_of-emit_pick-requires t c = record {
@@ -646,7 +650,7 @@ pub emit_read-emit_load-requires : goal.emit_read-emit_load-requires
 emit_read-emit_load-requires t c = own_room c.args.item.now ((index_items (scope_of c.args.scope.now).index (term_of c.args.index.now)) + 1) c.requires.fits
 
 pub emit_read-emit_number-requires : goal.emit_read-emit_number-requires
-emit_read-emit_number-requires t c = (index_below t (term_depth (term_of c.args.index.now)) c.decreases, (c.requires.kind, part_room c.args.item.now (index_items (scope_of c.args.scope.now).index (term_of c.args.index.now)) c.requires.fits))
+emit_read-emit_number-requires t c = (four_3_to_2 t (term_depth (term_of c.args.index.now)) c.decreases, (c.requires.kind, smaller_room c.args.item.now (index_items (scope_of c.args.scope.now).index (term_of c.args.index.now)) c.requires.fits))
 
 pub emit_read-emit_load-requires-in-None : goal.emit_read-emit_load-requires-in-None
 emit_read-emit_load-requires-in-None t c = after_room c.args.item.now (index_items (scope_of c.args.scope.now).index (term_of c.args.index.now)) c.emit_number.new.item c.requires.fits c.in_ok-x-in-None.ensures.item

@@ -1,3 +1,4 @@
+use Rattle.kernel_tree.proofs.Calls.{on_any}
 use mir.Syntax.{w128}
 use mir.Val.{of_z, to_z}
 use Rattle.std.proofs.lemmas.Int.{to_z-of_z}
@@ -9,7 +10,7 @@ use Rattle.std.specs.Prelude.{option_map, Some, None}
 use Rattle.scalar_words.specs.Layout.{OfNumber, constant_at}
 use Rattle.kernel_meaning.specs.Operators.{word}
 use Rattle.label_fix.specs.DraftRun.{DraftEntry}
-use Rattle.scalar_values.proofs.TermItems.{on_any, with_value}
+use Rattle.scalar_values.proofs.TermItems.{with_value}
 use Rattle.value_code.proofs.TermCode.{on_and}
 
 pub returns-in-Some : goal.returns-in-Some

@@ -1,8 +1,9 @@
-use Rattle.std.proofs.Common.{List, ◌++◌, sym, ap, ◌∙◌}
+use Rattle.std.proofs.Common.{List, ◌++◌, refl, sym, ap, ◌∙◌}
 use Rattle.std.proofs.lemmas.Result.{IfOk-from_err}
 use Rattle.label_fix.specs.DraftRun.{DraftEntry}
 use Rattle.label_fix.specs.Draft.{word_view}
 use Rattle.label_fix.specs.Finished.{is_plain}
+use Rattle.label_fix.specs.Registers.{scratch}
 use Rattle.value_code.proofs.TermCode.{on_ok}
 use Rattle.scalar_values.proofs.operations.emit_abs.Goals as goal
 use Rattle.kernel_tree.specs.Wrap.{is_signed}
@@ -22,7 +23,7 @@ returns-in_ok-put c =
     on_ok c.emit_settled.result c.emit_settled.ensures (λ p. record {
       labels = p.labels ∙ c.in_ok-put.ensures.labels;
       code = λ rest. p.code rest ∙ c.in_ok-put.ensures.code _ ∙ ap (λ (l : List DraftEntry). c.args.draft.now.entries ++ l)
-          (signed_abs c.args.leaves (is_signed c.args.ty) c.args.ty c.args.d.number c.args.a.number c.scratch.result.number c.scratch-then-is_signed.result.number c.zero.result.number (word_view c.add_sub.result) (word_view c.select-word.result) rest (sym c.is_signed.ensures ∙ c.if-is_signed.true) c.scratch.ensures c.zero.ensures c.scratch-then-is_signed.ensures c.add_sub.ensures c.select-word.ensures);
+          (signed_abs c.args.leaves (is_signed c.args.ty) c.args.ty c.args.d.number c.args.a.number scratch scratch c.zero.result.number (word_view c.add_sub.result) (word_view c.select-word.result) rest (sym c.is_signed.ensures ∙ c.if-is_signed.true) refl c.zero.ensures refl c.add_sub.ensures c.select-word.ensures);
     })
 
 pub returns-else-is_signed : goal.returns-else-is_signed

@@ -1,5 +1,6 @@
 use Rattle.kernel_tree.specs.Plain.{name_of}
-use Rattle.guest_types.proofs.Errors.{on_error, on_any}
+use Rattle.guest_types.proofs.Errors.{on_error}
+use Rattle.kernel_tree.proofs.Calls.{on_any}
 use Rattle.scalar_words.proofs.NameSteps.{home_pushed}
 use Rattle.scalar_words.proofs.names.declare_held.Goals as goal
 

@@ -4,7 +4,7 @@ use Rattle.std.proofs.lemmas.Result.{IfOk-weaker}
 use Rattle.label_fix.specs.Draft.{Drafted}
 use Rattle.label_fix.specs.DraftRun.{DraftEntry}
 use Rattle.scalar_words.specs.Words.{start_code}
-use Rattle.scalar_words.proofs.HalfWords.{more_code, halves_are, put_half, pass_half, after_halves, half_below, begins}
+use Rattle.scalar_words.proofs.HalfWords.{more_code, halves_are, put_half, pass_half, after_halves, half_below, zero_below_4}
 use Rattle.guest_types.proofs.Errors.{on_error}
 use Rattle.scalar_words.proofs.operations.emit_halves.Goals.{then-half-filler+in_ok-put, else-half-filler}
 use Rattle.scalar_words.proofs.operations.emit_halves.Goals as goal
@@ -81,4 +81,4 @@ pub put-requires-else-begun : goal.put-requires-else-begun
 put-requires-else-begun c = record { plain = c.half_word-else-begun.ensures.plain }
 
 pub half_word-requires-else-begun : goal.half_word-requires-else-begun
-half_word-requires-else-begun c = record { half = c.requires.h0; place = begins }
+half_word-requires-else-begun c = record { half = c.requires.h0; place = zero_below_4 }

@@ -2,7 +2,7 @@ use Rattle.std.proofs.Common.{◌∙◌, sym, ap, arith}
 use Rattle.std.specs.Prelude.{option_map}
 use Rattle.sve_debug.specs.declared.command.Command.TheVariants.{Step, Go, Back, Break}
 use Rattle.sve_debug.specs.Lines.{general, vector, predicate}
-use Rattle.sve_debug.proofs.Named.{named, none_within, no_name, step_is, go_is, back_is, break_is, x_is, z_is, p_is}
+use Rattle.sve_debug.proofs.Named.{named, none_within, no_name, step_is, go_is, back_is, break_is, x_is, z_is, predicate_named}
 use Rattle.sve_debug.proofs.line.with_number.Goals as goal
 
 pub returns-in_err-count : goal.returns-in_err-count
@@ -153,7 +153,7 @@ pub returns-in_err-n-3 : goal.returns-in_err-n-3
 returns-in_err-n-3 c = record {
   value =
       c.from_residual-in_err-n-3.ensures
-      ∙ sym (p_is c.args.name.now c.args.word.now
+      ∙ sym (predicate_named c.args.name.now c.args.word.now
       (named c.args.name.now c.as_slice.result.now _ _ _ c.as_slice.ensures c.eq.ensures c.if-eq.false)
       (named c.args.name.now c.as_slice-2.result.now _ _ _ c.as_slice-2.ensures c.eq-2.ensures c.if-eq-2.false)
       (named c.args.name.now c.as_slice-3.result.now _ _ _ c.as_slice-3.ensures c.eq-3.ensures c.if-eq-3.false)
@@ -168,7 +168,7 @@ returns-in_err-n-3 c = record {
 pub returns-then-eq-7 : goal.returns-then-eq-7
 returns-then-eq-7 c = record {
   value =
-      sym (p_is c.args.name.now c.args.word.now
+      sym (predicate_named c.args.name.now c.args.word.now
       (named c.args.name.now c.as_slice.result.now _ _ _ c.as_slice.ensures c.eq.ensures c.if-eq.false)
       (named c.args.name.now c.as_slice-2.result.now _ _ _ c.as_slice-2.ensures c.eq-2.ensures c.if-eq-2.false)
       (named c.args.name.now c.as_slice-3.result.now _ _ _ c.as_slice-3.ensures c.eq-3.ensures c.if-eq-3.false)

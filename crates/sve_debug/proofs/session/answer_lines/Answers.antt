@@ -5,7 +5,7 @@ use Rattle.sve_debug.specs.Sessions.{Tells, AsItCame, most_input, session_text}
 use Rattle.io_edges.proofs.Puts.{later_rose}
 use Rattle.sve_debug.specs.declared.session.SessionFault.TheVariants.{Input, Output}
 use Rattle.sve_debug.proofs.Told.{ok_no_err}
-use Rattle.sve_debug.proofs.Answered.{so_far_first, so_far_next, so_far_failed}
+use Rattle.sve_debug.proofs.Answered.{so_far_first, so_far_next, so_far_failed, in_time}
 use Rattle.sve_debug.proofs.Sessions.{IsPending, under_first, under_next, under_quit, under_cut, under_unread, under_end, under_limit, pends, if_some, limit}
 use Rattle.sve_debug.proofs.session.answer_lines.Goals as goal
 
@@ -54,6 +54,14 @@ returns-then-not-on-clause-told g c start d h =
     (record { stands = c.answer_byte.ensures.session start; told = c.in_ok-on.ensures.told start })
     (c.loop-taken.invariant.session start d h bytes is))
 
+pub next-requires : goal.next-requires
+next-requires g c =
+    let h = c.requires.in_time in
+    let test = c.loop-taken-test.true in
+    let inside : c.loop-taken.taken + 1 ≤ most_input = omega (arith, limit, test) in
+    in_time g.I.Source.may_take c.loop-taken.input c.loop-taken.debugger h.start h.begun c.loop-taken.line.items c.loop-taken.taken (g.I.Source.left c.args.input.now) (g.I.Source.left c.loop-taken.input) (g.S.Sink.taken c.args.out.now) (g.S.Sink.taken c.loop-taken.out) c.loop-taken.invariant.pending inside
+    (c.loop-taken.invariant.answered h.start h.begun h.stands) (h.may c.loop-taken.input c.loop-taken.out)
+
 pub loop-taken-init : goal.loop-taken-init
 loop-taken-init g c =
     let held = c.args.debugger.now in
@@ -94,7 +102,7 @@ loop-taken-preserved g c =
           (record { stands = c.answer_byte.ensures.session start; told = c.in_ok-on.ensures.told start })
           (c.loop-taken.invariant.session start d h bytes is);
       answered = λ start d h bytes is.
-          so_far_next c.loop-taken.debugger c.answer_byte.new.debugger start d bytes c.loop-taken.line.items c.answer_byte.new.line.items c.in-Some.byte c.in_ok-on.on input (g.I.Source.left c.next.new.input) (taken c.args.out.now) (taken c.loop-taken.out) (taken c.answer_byte.new.out) c.loop-taken.invariant.pending next c.in_ok-byte.ensures.left c.in_ok-on.ensures.line c.if-not-on.false c.in_ok-on.ensures.goes_on
+          so_far_next c.loop-taken.debugger c.answer_byte.new.debugger start d bytes c.loop-taken.line.items c.answer_byte.new.line.items c.loop-taken.taken c.in-Some.byte c.in_ok-on.on input (g.I.Source.left c.next.new.input) (taken c.args.out.now) (taken c.loop-taken.out) (taken c.answer_byte.new.out) c.loop-taken.invariant.pending next c.in_ok-byte.ensures.left c.in_ok-on.ensures.line c.if-not-on.false c.in_ok-on.ensures.goes_on
           (record { stands = c.answer_byte.ensures.session start; told = c.in_ok-on.ensures.told start })
           (c.loop-taken.invariant.answered start d h bytes is);
     }
@@ -115,7 +123,7 @@ returns-in_err-byte-clause-as_it_comes g c start d h err =
     let taken = g.S.Sink.taken in
     let input' = g.I.Source.left c.next.new.input in
     if_some (g.I.Source.left c.args.input.now) (λ (bytes : List ℕ). AsItCame d bytes input' (taken c.args.out.now) (taken c.loop-taken.out))
-    (λ bytes is. so_far_failed c.loop-taken.debugger start d bytes c.loop-taken.line.items (g.I.Source.left c.loop-taken.input) input' (taken c.args.out.now) (taken c.loop-taken.out) c.loop-taken.invariant.pending c.in_err-byte.ensures.unread
+    (λ bytes is. so_far_failed c.loop-taken.debugger start d bytes c.loop-taken.line.items c.loop-taken.taken (g.I.Source.left c.loop-taken.input) input' (taken c.args.out.now) (taken c.loop-taken.out) c.loop-taken.invariant.pending c.in_err-byte.ensures.unread
     (c.loop-taken.invariant.answered start d h bytes is))
 
 -- ---- faults

@@ -18,5 +18,5 @@ invariant-loop-taken g l = record {
       → Under l.debugger start d (take most_input bytes) l.line.items (most_input - l.taken) (g.I.Source.left l.input) (g.S.Sink.taken l.initial.out) (g.S.Sink.taken l.out);
   answered :
       (start : State) (d : Session) → Stands l.initial.debugger start d → (bytes : List ℕ) → g.I.Source.left l.initial.input ≡ Some bytes
-      → SoFar l.debugger start d bytes l.line.items (g.I.Source.left l.input) (g.S.Sink.taken l.initial.out) (g.S.Sink.taken l.out);
+      → SoFar l.debugger start d bytes l.line.items l.taken (g.I.Source.left l.input) (g.S.Sink.taken l.initial.out) (g.S.Sink.taken l.out);
 }

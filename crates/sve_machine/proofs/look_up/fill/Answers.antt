@@ -3,7 +3,7 @@ use Rattle.std.specs.Option.{option_map}
 use Rattle.std.proofs.lemmas.List.Elements.{All-set}
 use Rattle.sve_machine.specs.DecodedWords.{IsDecodedFrom}
 use Rattle.sve_machine.specs.Listing.{view_of}
-use Rattle.sve_machine.proofs.DecodedWords.{filled, not_found, in_entries, found_there, no_word, undefined}
+use Rattle.sve_machine.proofs.DecodedWords.{decoded_slot_does, not_found, in_entries, found_there, no_word, undefined}
 use Rattle.sve_machine.proofs.look_up.fill.Goals as goal
 
 pub returns-in-Some-decode-clause-decoded : goal.returns-in-Some-decode-clause-decoded
@@ -11,7 +11,7 @@ returns-in-Some-decode-clause-decoded c =
     let word = sym c.fetch.ensures ∙ c.in-Some.is in
     let reads = sym c.decode.ensures ∙ ap (option_map view_of) c.in-Some-decode.is in
     All-set (IsDecodedFrom c.args.pages.now.memory) c.args.decoded.now (c.args.pc / 4 % 1024) (record { place = c.args.pc; decoded = c.ready.result })
-    (c.ranges.pc.fits, filled c.args.pages.now.memory c.args.pc c.in-Some.word (view_of c.in-Some-decode.instruction) c.ready.result word reads c.ready.ensures)
+    (c.ranges.pc.fits, decoded_slot_does c.args.pages.now.memory c.args.pc c.in-Some.word (view_of c.in-Some-decode.instruction) c.ready.result word reads c.ready.ensures)
     c.requires.decoded
 
 pub returns-in_default : goal.returns-in_default
@@ -33,7 +33,7 @@ returns-in-Some-decode-clause-found c d t =
     let reads = sym c.decode.ensures ∙ ap (option_map view_of) c.in-Some-decode.is in
     found_there c.args.pages.now.memory c.args.pc c.args.decoded.now (c.args.pc / 4 % 1024) (record { place = c.args.pc; decoded = c.ready.result }) d
     (in_entries c.args.pc _ c.told-decoded)
-    (filled c.args.pages.now.memory c.args.pc c.in-Some.word (view_of c.in-Some-decode.instruction) c.ready.result word reads c.ready.ensures)
+    (decoded_slot_does c.args.pages.now.memory c.args.pc c.in-Some.word (view_of c.in-Some-decode.instruction) c.ready.result word reads c.ready.ensures)
 
 pub returns-in-Some-decode-clause-stopped : goal.returns-in-Some-decode-clause-stopped
 returns-in-Some-decode-clause-stopped c s e m p = not_found true e refl

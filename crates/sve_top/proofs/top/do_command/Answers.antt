@@ -1,17 +1,21 @@
-use Rattle.std.proofs.Common.{◌≡◌, ◌⊎◌, Some, refl, ap, sym, ◌∙◌}
+use Rattle.std.proofs.Common.{◌≡◌, ◌⊎◌, Some, refl, ap, sym, ◌∙◌, subst}
 use Rattle.io_edges.specs.Files.{Rose}
 use Rattle.std.specs.Prelude.{IfSome, IsTrue, string_bytes}
-use Rattle.command_line.specs.Line.{Line, CompileLine, CheckLine, EvalLine, ListLine, RunLine, DebugLine, SweepLine, AsmLine, PipeLine}
+use Rattle.command_line.specs.Line.{Line, CompileLine, CheckLine, EvalLine, ListLine, RunLine, DebugLine, SweepLine, AsmLine, ObjectLine, PipeLine}
 use Rattle.command_line.specs.View.{command_view, task_view}
 use Rattle.command_answers.specs.Answer.{answer_of, expected_text, IsAnswer}
 use Rattle.program_commands.specs.Commands.{expected_of_list, expected_of_run, expected_of_debug, expected_of_asm, stops_of, IsOfAsm}
 use Rattle.command_answers.specs.Outputs.{Prints}
+use Rattle.sve_top.specs.Commands.{InTime}
 use Rattle.sve_top.proofs.Lines.{of_told}
-use Rattle.sve_top.proofs.Leaves.{seen, by_name, reader, not_wanted, in_any, no_output}
+use Rattle.sve_top.proofs.Leaves.{seen, by_name, reader, not_wanted, no_output}
+use Rattle.sve_top.specs.Requested.{AsksOf}
+use Rattle.sve_top.proofs.Requested.{asked_as}
 use Rattle.compile_command.proofs.Expectations.{prints_silent}
 use Rattle.compile_command.specs.Compiles.{ExpectsCompile, IsOfCompile}
 use Rattle.pipe_command.specs.Pipes.{expected_of_pipe}
 use Rattle.command_answers.proofs.Reading.{of_one, with_output}
+use Rattle.command_answers.proofs.Held.{whatever_held}
 use Rattle.program_commands.proofs.Assemblies.{asm_prints}
 use Rattle.sve_top.proofs.top.do_command.Goals as goal
 
@@ -51,6 +55,9 @@ returns-in-Compile g c =
       failed = l.failed;
       output = l.output;
       steady = l.steady;
+      requested = asked_as (Some line) (Some (command_view c.args.command.now)) (g.F.Files.held c.args.files.now) (g.F.Files.requests c.args.files.now) (g.F.Files.requests c.compile.new.files) c.compile.result
+          (ap (λ l. Some l) (ap command_view c.in-Compile.is ∙ ap (λ a. CompileLine a (string_bytes c.in-Compile.to)) (sym c.as_str.ensures.value) ∙ ap (λ b. CompileLine c.as_str.result.now b) (sym c.as_str-in-Compile.ensures.value)))
+          (whatever_held (g.F.Files.held c.args.files.now) (λ h. AsksOf (Some line) h (g.F.Files.requests c.args.files.now) (g.F.Files.requests c.compile.new.files) c.compile.result) (λ h. c.compile.ensures.asked));
       as_it_comes = l.as_it_comes;
       printed = l.printed;
       quiet = l.quiet;
@@ -81,6 +88,9 @@ returns-in-Check g c =
       failed = l.failed;
       output = l.output;
       steady = l.steady;
+      requested = asked_as (Some line) (Some (command_view c.args.command.now)) (g.F.Files.held c.args.files.now) (g.F.Files.requests c.args.files.now) (g.F.Files.requests c.check.new.files) c.check.result
+          (ap (λ l. Some l) (ap command_view c.in-Check.is ∙ ap CheckLine (sym c.as_str-in-Check.ensures.value)))
+          (whatever_held (g.F.Files.held c.args.files.now) (λ h. AsksOf (Some line) h (g.F.Files.requests c.args.files.now) (g.F.Files.requests c.check.new.files) c.check.result) (λ h. c.check.ensures.asked));
       as_it_comes = l.as_it_comes;
       printed = l.printed;
       quiet = l.quiet;
@@ -111,6 +121,9 @@ returns-in-Eval g c =
       failed = l.failed;
       output = l.output;
       steady = l.steady;
+      requested = asked_as (Some line) (Some (command_view c.args.command.now)) (g.F.Files.held c.args.files.now) (g.F.Files.requests c.args.files.now) (g.F.Files.requests c.eval.new.files) c.eval.result
+          (ap (λ l. Some l) (ap command_view c.in-Eval.is))
+          (whatever_held (g.F.Files.held c.args.files.now) (λ h. AsksOf (Some line) h (g.F.Files.requests c.args.files.now) (g.F.Files.requests c.eval.new.files) c.eval.result) (λ h. c.eval.ensures.asked));
       as_it_comes = l.as_it_comes;
       printed = l.printed;
       quiet = l.quiet;
@@ -141,6 +154,9 @@ returns-in-List g c =
       failed = l.failed;
       output = l.output;
       steady = l.steady;
+      requested = asked_as (Some line) (Some (command_view c.args.command.now)) (g.F.Files.held c.args.files.now) (g.F.Files.requests c.args.files.now) (g.F.Files.requests c.list.new.files) c.list.result
+          (ap (λ l. Some l) (ap command_view c.in-List.is ∙ ap ListLine (sym c.as_str-in-List.ensures.value)))
+          (whatever_held (g.F.Files.held c.args.files.now) (λ h. AsksOf (Some line) h (g.F.Files.requests c.args.files.now) (g.F.Files.requests c.list.new.files) c.list.result) (λ h. c.list.ensures.asked));
       as_it_comes = l.as_it_comes;
       printed = l.printed;
       quiet = l.quiet;
@@ -171,6 +187,9 @@ returns-in-Run g c =
       failed = l.failed;
       output = l.output;
       steady = l.steady;
+      requested = asked_as (Some line) (Some (command_view c.args.command.now)) (g.F.Files.held c.args.files.now) (g.F.Files.requests c.args.files.now) (g.F.Files.requests c.run.new.files) c.run.result
+          (ap (λ l. Some l) (ap command_view c.in-Run.is))
+          (whatever_held (g.F.Files.held c.args.files.now) (λ h. AsksOf (Some line) h (g.F.Files.requests c.args.files.now) (g.F.Files.requests c.run.new.files) c.run.result) (λ h. c.run.ensures.asked));
       as_it_comes = l.as_it_comes;
       printed = l.printed;
       quiet = l.quiet;
@@ -178,6 +197,12 @@ returns-in-Run g c =
       silent = l.silent;
       unread = l.unread;
     }
+
+pub debug-requires : goal.debug-requires
+debug-requires g c i s may =
+    c.requires i s
+    (subst (λ (l : Line). InTime (Some l) (g.F.Files.held c.args.files.now) (g.I.Source.left c.args.input.now) (g.I.Source.left i) (g.S.Sink.taken c.args.out.now) (g.S.Sink.taken s))
+    (sym (ap command_view c.in-Debug.is)) may)
 
 pub returns-in-Debug : goal.returns-in-Debug
 returns-in-Debug g c =
@@ -203,6 +228,9 @@ returns-in-Debug g c =
       failed = l.failed;
       output = l.output;
       steady = l.steady;
+      requested = asked_as (Some line) (Some (command_view c.args.command.now)) (g.F.Files.held c.args.files.now) (g.F.Files.requests c.args.files.now) (g.F.Files.requests c.debug.new.files) c.debug.result
+          (ap (λ l. Some l) (ap command_view c.in-Debug.is))
+          (whatever_held (g.F.Files.held c.args.files.now) (λ h. AsksOf (Some line) h (g.F.Files.requests c.args.files.now) (g.F.Files.requests c.debug.new.files) c.debug.result) (λ h. c.debug.ensures.asked));
       as_it_comes = l.as_it_comes;
       printed = l.printed;
       quiet = l.quiet;
@@ -228,7 +256,7 @@ returns-in-Sweep g c =
       reads = λ r. absurd r;
       failed = c.sweep.ensures.failed;
       output = c.sweep.ensures.output;
-      steady = λ s. in_any (g.F.Files.held c.args.files.now) _ (λ h held. c.sweep.ensures.steady s);
+      steady = λ s. whatever_held (g.F.Files.held c.args.files.now) _ (λ h held. c.sweep.ensures.steady s);
       as_it_comes = tt;
       printed = not_wanted (g.F.Files.held c.args.files.now) (g.I.Source.left c.args.input.now) c.in-Sweep.number c.as_str-in-Sweep.result.now _;
       quiet = c.sweep.ensures.quiet;
@@ -247,6 +275,9 @@ returns-in-Sweep g c =
       failed = l.failed;
       output = l.output;
       steady = l.steady;
+      requested = asked_as (Some line) (Some (command_view c.args.command.now)) (g.F.Files.held c.args.files.now) (g.F.Files.requests c.args.files.now) (g.F.Files.requests c.sweep.new.files) c.sweep.result
+          (ap (λ l. Some l) (ap command_view c.in-Sweep.is ∙ ap (SweepLine c.in-Sweep.number) (sym c.as_str-in-Sweep.ensures.value)))
+          (whatever_held (g.F.Files.held c.args.files.now) (λ h. AsksOf (Some line) h (g.F.Files.requests c.args.files.now) (g.F.Files.requests c.sweep.new.files) c.sweep.result) (λ h. c.sweep.ensures.asked));
       as_it_comes = l.as_it_comes;
       printed = l.printed;
       quiet = l.quiet;
@@ -291,6 +322,56 @@ returns-in-Asm g c =
       failed = l.failed;
       output = l.output;
       steady = l.steady;
+      requested = asked_as (Some line) (Some (command_view c.args.command.now)) (g.F.Files.held c.args.files.now) (g.F.Files.requests c.args.files.now) (g.F.Files.requests c.asm.new.files) c.asm.result
+          (ap (λ l. Some l) (ap command_view c.in-Asm.is ∙ ap (λ a. AsmLine a (string_bytes c.in-Asm.to)) (sym c.as_str-in-Asm.ensures.value) ∙ ap (λ b. AsmLine c.as_str-in-Asm.result.now b) (sym c.as_str-in-Asm-2.ensures.value)))
+          (whatever_held (g.F.Files.held c.args.files.now) (λ h. AsksOf (Some line) h (g.F.Files.requests c.args.files.now) (g.F.Files.requests c.asm.new.files) c.asm.result) (λ h. c.asm.ensures.asked));
+      as_it_comes = l.as_it_comes;
+      printed = l.printed;
+      quiet = l.quiet;
+      unwritten = l.unwritten;
+      silent = l.silent;
+      unread = l.unread;
+    }
+
+pub returns-in-Object : goal.returns-in-Object
+returns-in-Object g c =
+    let line : Line = ObjectLine c.as_str-in-Object.result.now c.as_str-in-Object-2.result.now in
+    let before = (seen (g.F.Files.held c.args.files.now) (g.F.Files.faults c.args.files.now) (g.S.Sink.taken c.args.out.now) (g.S.Sink.faults c.args.out.now) (g.I.Source.left c.args.input.now) (g.I.Source.faults c.args.input.now)) in
+    let after = (seen (g.F.Files.held c.object.new.files) (g.F.Files.faults c.object.new.files) (g.S.Sink.taken c.args.out.now) (g.S.Sink.faults c.args.out.now) (g.I.Source.left c.args.input.now) (g.I.Source.faults c.args.input.now)) in
+    let l = by_name (Some line) (Some (command_view c.args.command.now)) before after (IsTrue (g.F.Files.steady c.args.files.now)) (c.args.out.now ≡ c.args.out.now) (c.args.input.now ≡ c.args.input.now) c.object.result
+    (ap (λ l. Some l) (ap command_view c.in-Object.is ∙ ap (λ a. ObjectLine a (string_bytes c.in-Object.to)) (sym c.as_str-in-Object.ensures.value) ∙ ap (λ b. ObjectLine c.as_str-in-Object.result.now b) (sym c.as_str-in-Object-2.ensures.value)))
+    (record {
+      answer = λ input taken. with_output _ _ _ (g.F.Files.held c.args.files.now) (λ h. ExpectsCompile h c.as_str-in-Object.result.now) c.object.result c.object.ensures.answer;
+      listed = c.object.ensures.of_compile;
+      file = c.object.ensures.file;
+      others = c.object.ensures.others;
+      swept = tt;
+      kept = c.object.ensures.kept;
+      reads = λ r. absurd r;
+      failed = c.object.ensures.failed;
+      output = no_output IsOfCompile _ c.object.result (λ o. o) c.object.ensures.of_compile;
+      steady = c.object.ensures.steady;
+      as_it_comes = tt;
+      printed = λ input taken. prints_silent (g.F.Files.held c.args.files.now) c.as_str-in-Object.result.now (g.S.Sink.taken c.args.out.now) c.object.result;
+      quiet = λ q. refl;
+      unwritten = λ input taken. c.object.ensures.unwritten;
+      silent = λ s. refl;
+      unread = λ u. refl;
+    }) in
+    record {
+      answer = l.answer;
+      listed = l.listed;
+      file = l.file;
+      others = l.others;
+      swept = l.swept;
+      kept = l.kept;
+      reads = l.reads;
+      failed = l.failed;
+      output = l.output;
+      steady = l.steady;
+      requested = asked_as (Some line) (Some (command_view c.args.command.now)) (g.F.Files.held c.args.files.now) (g.F.Files.requests c.args.files.now) (g.F.Files.requests c.object.new.files) c.object.result
+          (ap (λ l. Some l) (ap command_view c.in-Object.is ∙ ap (λ a. ObjectLine a (string_bytes c.in-Object.to)) (sym c.as_str-in-Object.ensures.value) ∙ ap (λ b. ObjectLine c.as_str-in-Object.result.now b) (sym c.as_str-in-Object-2.ensures.value)))
+          (whatever_held (g.F.Files.held c.args.files.now) (λ h. AsksOf (Some line) h (g.F.Files.requests c.args.files.now) (g.F.Files.requests c.object.new.files) c.object.result) (λ h. c.object.ensures.asked));
       as_it_comes = l.as_it_comes;
       printed = l.printed;
       quiet = l.quiet;
@@ -321,6 +402,9 @@ returns-in-Pipe g c =
       failed = l.failed;
       output = l.output;
       steady = l.steady;
+      requested = asked_as (Some line) (Some (command_view c.args.command.now)) (g.F.Files.held c.args.files.now) (g.F.Files.requests c.args.files.now) (g.F.Files.requests c.pipe.new.files) c.pipe.result
+          (ap (λ l. Some l) (ap command_view c.in-Pipe.is))
+          c.pipe.ensures.asked;
       as_it_comes = l.as_it_comes;
       printed = l.printed;
       quiet = l.quiet;

@@ -1,10 +1,19 @@
-use Rattle.std.proofs.Common.{◌≡◌, Option, Some, None, Err, refl, ap, sym, ◌∙◌}
+use Rattle.std.proofs.Common.{◌≡◌, Option, Some, None, Err, refl, ap, sym, ◌∙◌, subst}
 use Rattle.std.specs.Prelude.{IsTrue, option_map}
 use Rattle.command_line.specs.Line.{Line, line_of}
 use Rattle.command_line.specs.View.{texts, command_view}
-use Rattle.refusals.specs.declared.refusal.Refusal.TheVariants.{Usage}
+use Rattle.refusals.specs.declared.refusal.Refusal.TheVariants.{Usage, Memory}
+use Rattle.sve_top.specs.Commands.{InTime}
+use Rattle.command_answers.proofs.Reading.{is_err}
+use Rattle.sve_top.proofs.Requested.{asked_as, none_wanted, short_asked}
 use Rattle.sve_top.proofs.Leaves.{seen, by_name, short, not_asked}
 use Rattle.sve_top.proofs.top.do_words.Goals as goal
+
+pub do_command-requires : goal.do_command-requires
+do_command-requires g c i s may =
+    c.requires i s
+    (subst (λ (l : Option Line). InTime l (g.F.Files.held c.args.files.now) (g.I.Source.left c.args.input.now) (g.I.Source.left i) (g.S.Sink.taken c.args.out.now) (g.S.Sink.taken s))
+    (sym (sym c.in_ok-command.ensures ∙ ap (option_map command_view) c.in-Some.is)) may)
 
 pub returns-in_err-command : goal.returns-in_err-command
 returns-in_err-command g c =
@@ -20,6 +29,7 @@ returns-in_err-command g c =
       failed = l.failed;
       output = l.output;
       steady = l.steady;
+      requested = short_asked (line_of (texts c.args.words.now)) (g.F.Files.held c.args.files.now) (g.F.Files.requests c.args.files.now) c.from_residual.result (is_err Memory c.from_residual.result c.from_residual.ensures.1);
       as_it_comes = l.as_it_comes;
       printed = l.printed;
       quiet = l.quiet;
@@ -43,6 +53,7 @@ returns-in_default g c =
       failed = l.failed;
       output = l.output;
       steady = l.steady;
+      requested = asked_as None (line_of (texts c.args.words.now)) (g.F.Files.held c.args.files.now) (g.F.Files.requests c.args.files.now) (g.F.Files.requests c.args.files.now) (Err Usage) (sym c.in_ok-command.ensures ∙ ap (option_map command_view) c.in_default.is) (none_wanted (g.F.Files.held c.args.files.now) (g.F.Files.requests c.args.files.now));
       as_it_comes = l.as_it_comes;
       printed = l.printed;
       quiet = l.quiet;
@@ -86,6 +97,7 @@ returns g c =
       failed = l.failed;
       output = l.output;
       steady = l.steady;
+      requested = asked_as line (line_of (texts c.args.words.now)) (g.F.Files.held c.args.files.now) (g.F.Files.requests c.args.files.now) (g.F.Files.requests c.do_command.new.files) c.do_command.result (sym c.in_ok-command.ensures ∙ ap (option_map command_view) c.in-Some.is) c.do_command.ensures.requested;
       as_it_comes = l.as_it_comes;
       printed = l.printed;
       quiet = l.quiet;

@@ -8,6 +8,7 @@ use Rattle.command_answers.specs.Outputs.{error_line}
 use Rattle.sve_top.proofs.OneExpectedLaws.{does_of}
 use Rattle.sve_top.proofs.Completions.{completes}
 use Rattle.sve_top.proofs.Lines.{by_status}
+use Rattle.sve_top.proofs.Requested.{to_status}
 use Rattle.refusals.specs.Lines.{line_of_refusal}
 use Rattle.sve_top.proofs.Told.{is_file, is_output, no_line, at_zero, is_kept, is_quiet, not_failed, not_done, no_own_line, line_alike}
 use Rattle.command_answers.proofs.Statuses.{gains_line, line_done, line_refused}
@@ -44,6 +45,7 @@ returns-in-Ok g c =
       failed = λ f. c.do_words.ensures.failed (is_file c.status.result c.do_words.result is f);
       output = λ o. c.do_words.ensures.output (is_output c.status.result c.do_words.result is o);
       steady = λ s. not_failed line (g.F.Files.held c.args.files.now) c.status.result c.do_words.result is (c.do_words.ensures.steady s);
+      requested = to_status line (g.F.Files.held c.args.files.now) (g.F.Files.requests c.args.files.now) (g.F.Files.requests c.do_words.new.files) c.do_words.result c.status.result is c.do_words.ensures.requested;
       as_it_comes = by_status line (g.F.Files.held c.args.files.now) (g.I.Source.left c.args.input.now) (g.I.Source.left c.do_words.new.input) (g.S.Sink.taken c.args.out.now) (g.S.Sink.taken c.do_words.new.out) (g.S.Sink.faults c.args.out.now) (g.S.Sink.faults c.do_words.new.out)
           c.status.result c.do_words.result is c.do_words.ensures.as_it_comes;
       quiet = λ q. c.do_words.ensures.quiet (is_quiet c.status.result c.do_words.result is q);
@@ -88,6 +90,7 @@ returns-in-Err g c =
       failed = λ f. c.do_words.ensures.failed (is_file c.status-in-Err.result c.do_words.result is f);
       output = λ o. c.do_words.ensures.output (is_output c.status-in-Err.result c.do_words.result is o);
       steady = λ s. not_failed line (g.F.Files.held c.args.files.now) c.status-in-Err.result c.do_words.result is (c.do_words.ensures.steady s);
+      requested = to_status line (g.F.Files.held c.args.files.now) (g.F.Files.requests c.args.files.now) (g.F.Files.requests c.do_words.new.files) c.do_words.result c.status-in-Err.result is c.do_words.ensures.requested;
       as_it_comes = by_status line (g.F.Files.held c.args.files.now) (g.I.Source.left c.args.input.now) (g.I.Source.left c.do_words.new.input) (g.S.Sink.taken c.args.out.now) (g.S.Sink.taken c.do_words.new.out) (g.S.Sink.faults c.args.out.now) (g.S.Sink.faults c.do_words.new.out)
           c.status-in-Err.result c.do_words.result is c.do_words.ensures.as_it_comes;
       quiet = λ q. c.do_words.ensures.quiet (is_quiet c.status-in-Err.result c.do_words.result is q);

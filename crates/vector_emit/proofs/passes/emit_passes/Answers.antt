@@ -1,4 +1,4 @@
-use Rattle.std.proofs.Common.{◌≡◌, ℕ, [], ◌++◌, sym, ap, ◌∙◌, subst}
+use Rattle.std.proofs.Common.{◌≡◌, ℕ, ◌+◌, [], ◌++◌, sym, ap, ◌∙◌, subst}
 use Rattle.std.specs.List.{list_any}
 use Rattle.std.proofs.lemmas.Result.{on_ok_weaker}
 use Rattle.kernel_tree.specs.Plain.{Program}
@@ -11,7 +11,7 @@ use Rattle.loop_form.specs.View.{program}
 use Rattle.lane_emit.specs.RegistersView.{vectors_in, predicates_in}
 use Rattle.chunk_emit.specs.Writable.{AreWritable}
 use Rattle.first_fault.specs.BreakRegion.{is_loop_break, region_of, rest_of}
-use Rattle.vector_emit.specs.VectorCode.{passes_by}
+use Rattle.vector_emit.specs.VectorCode.{labels_by, passes_by}
 use Rattle.vector_emit.proofs.CodeSizes.{passes_appended}
 use Rattle.vector_emit.proofs.passes.emit_passes.Goals as goal
 
@@ -44,7 +44,7 @@ returns-clause-emits c =
     let items : view c.deref-2.result.now ≡ loop_items_of k = ap view c.deref-2.ensures.value ∙ c.in_ok-items.ensures in
     let same : program r.facts.now.kernel.now ≡ k = ap (λ (f : LoopFacts). program f.kernel.now) c.loop_layout-layout.ensures.facts in
     on_ok_weaker c.emit_by.result (λ p. record {
-      labels = p.labels;
+      labels = p.labels ∙ ap (λ its. c.args.draft.now.labels + labels_by (list_any is_loop_break its)) items;
       code = λ rest.
           p.code rest
           ∙ ap (λ its. c.args.draft.now.entries ++ passes_by (list_any is_loop_break its) (program r.facts.now.kernel.now) (vectors_in r) (predicates_in r) its n rest) items

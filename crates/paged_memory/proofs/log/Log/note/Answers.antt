@@ -1,6 +1,6 @@
 use Rattle.std.proofs.Common.{◌≡◌, ◌-◌, ◌≤◌, [], ◌∷◌, ◌++◌, length, take, drop, set, get_or, rules, sym, ap, ap₂, ◌∙◌, subst, arith, vec_len}
 use Rattle.std.proofs.lemmas.List.Elements.{All-append, All-drop, All-take}
-use Rattle.paged_memory.proofs.EpochRows.{begun, some_taken, count_more}
+use Rattle.paged_memory.proofs.EpochRows.{row_of_new_epoch, some_taken, count_more}
 use Rattle.paged_memory.proofs.log.Log.note.Goals as goal
 
 pub returns-clause-begun : goal.returns-clause-begun
@@ -23,6 +23,6 @@ returns-clause-begun c =
     let k = c.min-self-inside.result in
     ap₂ (λ p e. record { pages = p; epochs = e }) whole (
     ap (λ l. take k (set l 0 c.clear.new.self)) row
-    ∙ begun xs count k c.clear.new.self eight c.self.invariant.most (count_more count k c.min-self-inside.ensures)
+    ∙ row_of_new_epoch xs count k c.clear.new.self eight c.self.invariant.most (count_more count k c.min-self-inside.ensures)
     ∙ ap₂ (λ x l. x ∷ take 7 l) fresh (ap (λ l. l.epochs) c.self.view_is)
     )

@@ -1,5 +1,5 @@
 use Rattle.std.proofs.Common.{◌+◌, ◌/◌, ◌%◌, get_or, ap, ◌∙◌}
-use Rattle.paged_memory.proofs.HeadPlaces.{rising, stands, start-read, absent, byte-none, byte-found}
+use Rattle.paged_memory.proofs.HeadPlaces.{rising, stands, start-read, no_page_of_no_head, byte-none, byte-found}
 use Rattle.paged_memory.proofs.store.Store.byte.Goals as goal
 
 pub read_place_of-requires : goal.read_place_of-requires
@@ -11,7 +11,7 @@ returns-in_default c =
     let bs = c.self.inside.bytes.items in
     let m = c.args.self.now in
     let a = c.args.address in
-    byte-none m a (absent heads c.deref.result.now bs m (a / 4096) c.self.view_is c.deref.ensures.value c.in_default.ensures.absent)
+    byte-none m a (no_page_of_no_head heads c.deref.result.now bs m (a / 4096) c.self.view_is c.deref.ensures.value c.in_default.ensures.absent)
 
 pub returns : goal.returns
 returns c =

@@ -2,7 +2,7 @@ use Rattle.std.proofs.Common.{◌+◌, ◌/◌, ◌%◌, ap, ap₂, ◌∙◌, a
 use Rattle.std.proofs.lemmas.List.{with_items_is}
 use Rattle.guest_types.specs.Memory.{put_number}
 use Rattle.paged_memory.specs.Numbers.{with_number}
-use Rattle.paged_memory.proofs.HeadPlaces.{rising, stands, start-read, absent, laid-written, number-written, byte-written, byte-unmapped}
+use Rattle.paged_memory.proofs.HeadPlaces.{rising, stands, start-read, no_page_of_no_head, laid-written, number-written, byte-written, byte-unmapped}
 use Rattle.paged_memory.proofs.store.Store.put_byte.Goals as goal
 
 pub place_of-requires : goal.place_of-requires
@@ -42,4 +42,4 @@ returns-in_default c =
     let bs = c.self.inside.bytes.items in
     let m = c.args.self.now in
     let a = c.args.address in
-    byte-unmapped m a c.args.byte (absent heads c.deref.result.now bs m (a / 4096) c.self.view_is c.deref.ensures.value c.in_default.ensures.absent)
+    byte-unmapped m a c.args.byte (no_page_of_no_head heads c.deref.result.now bs m (a / 4096) c.self.view_is c.deref.ensures.value c.in_default.ensures.absent)

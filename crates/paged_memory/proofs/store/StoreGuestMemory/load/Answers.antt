@@ -16,5 +16,5 @@ returns-in-Some c =
     let here = stands heads c.deref.result.now (a / 4096) i c.deref.ensures.value c.in-Some.ensures.found in
     let start = start-read heads i c.index.result.now here.below c.index.ensures in
     let number = c.number.ensures ∙ ap₂ (λ l n. number_in l (n + a % 4096) c.args.size) c.deref-in-Some.ensures.value start in
-    let fits : a % 4096 + c.args.size ≤ 4096 = omega (arith, c.from.ensures, c.if-offset-from-le4096.true) in
+    let fits : a % 4096 + c.args.size ≤ 4096 = omega (arith, c.from.ensures, c.if-offset-from-le-PAGE_BYTES.true) in
     record { value = load-found heads bs m a c.args.size i c.number.result c.self.view_is c.self.invariant here (omega arith) fits number }

@@ -20,7 +20,7 @@ invariant_of-self c =
     let start = start-read heads i c.index-then-is_writable.result.now here.below c.index-then-is_writable.ensures in
     let items = with_items_is c.self.inside.bytes c.put_number.new.bytes (c.put_number.auto.bytes ∙ c.deref_mut.ensures.len) in
     let new = items ∙ c.put_number.ensures ∙ ap₂ (λ l n. with_number l (n + a % 4096) c.args.size c.args.value) c.deref_mut.ensures.value start in
-    let fits : a % 4096 + c.args.size ≤ 4096 = omega (arith, c.from.ensures, c.if-offset-from-le4096.true) in
+    let fits : a % 4096 + c.args.size ≤ 4096 = omega (arith, c.from.ensures, c.if-offset-from-le-PAGE_BYTES.true) in
     laid-written heads bs _ a c.args.size c.args.value i c.self.invariant here fits new
 
 pub returns-then-is_writable-clause-done : goal.returns-then-is_writable-clause-done
@@ -34,7 +34,7 @@ returns-then-is_writable-clause-done c =
     let start = start-read heads i c.index-then-is_writable.result.now here.below c.index-then-is_writable.ensures in
     let items = with_items_is c.self.inside.bytes c.put_number.new.bytes (c.put_number.auto.bytes ∙ c.deref_mut.ensures.len) in
     let new = items ∙ c.put_number.ensures ∙ ap₂ (λ l n. with_number l (n + a % 4096) c.args.size c.args.value) c.deref_mut.ensures.value start in
-    let fits : a % 4096 + c.args.size ≤ 4096 = omega (arith, c.from.ensures, c.if-offset-from-le4096.true) in
+    let fits : a % 4096 + c.args.size ≤ 4096 = omega (arith, c.from.ensures, c.if-offset-from-le-PAGE_BYTES.true) in
     let perm = head-read heads i c.index.result.now here.below c.index.ensures in
     let writable = sym (ap is_writable perm) ∙ sym c.is_writable.ensures ∙ c.if-is_writable.true in
     store-found heads bs _ m a c.args.size c.args.value i c.self.view_is c.self.invariant here writable (omega arith) fits new
@@ -60,4 +60,4 @@ put_number-requires-clause-inside c =
     let bs = c.self.inside.bytes.items in
     let i = c.in-Some.place in
     let here = stands heads c.deref.result.now (c.args.address / 4096) i c.deref.ensures.value c.in-Some.ensures.found in
-    omega (arith, start-read heads i c.index-then-is_writable.result.now here.below c.index-then-is_writable.ensures, within heads bs i c.self.invariant here.below, ap length c.deref_mut.ensures.value, c.from.ensures, c.if-offset-from-le4096.true)
+    omega (arith, start-read heads i c.index-then-is_writable.result.now here.below c.index-then-is_writable.ensures, within heads bs i c.self.invariant here.below, ap length c.deref_mut.ensures.value, c.from.ensures, c.if-offset-from-le-PAGE_BYTES.true)

@@ -3,11 +3,12 @@ use Rattle.std.specs.Prelude.{not, OnErr}
 use Rattle.std.proofs.lemmas.Result.{IfOk-from_err}
 use Rattle.io_edges.specs.Files.{Rose}
 use Rattle.std.proofs.lemmas.Bool.{eqb-true}
+use Rattle.guest_types.proofs.Errors.{in_error}
 use Rattle.sve_debug.specs.DebuggerState.{Stands}
 use Rattle.sve_debug.specs.Lines.{command_of}
 use Rattle.sve_debug.specs.Replies.{Session, after_command, after_line, is_quit, quits}
 use Rattle.io_edges.proofs.Puts.{put_as}
-use Rattle.sve_debug.proofs.Told.{errs, told_is, line_is, puts_on, puts_failed}
+use Rattle.sve_debug.proofs.Told.{told_is, line_is, puts_on, puts_failed}
 use Rattle.sve_debug.proofs.debugger.Debugger.command.Goals as goal
 
 no_command : command_of [] ≡ None
@@ -80,7 +81,7 @@ pub returns-in_err-answer-clause-cause : goal.returns-in_err-answer-clause-cause
 returns-in_err-answer-clause-cause g c = record {
   later = c.answer.ensures.text.cause.later;
   failed =
-      errs c.from_residual-in_err-answer.result
+      in_error c.from_residual-in_err-answer.result
       (subst (λ r. OnErr r (Rose (g.S.Sink.faults c.args.out.now) (g.S.Sink.faults c.answer.new.out))) c.in_err-answer.was c.answer.ensures.text.cause.failed);
 }
 

@@ -3,7 +3,7 @@ use Rattle.std.specs.Prelude.{IsTrue}
 use Rattle.debug_history.specs.Kept.{counts_of}
 use Rattle.machine_model.specs.Debugged.{Past}
 use Rattle.sve_debug.specs.Replies.{started}
-use Rattle.sve_debug.proofs.Kept.{begun, twins_alone, kept_alone}
+use Rattle.sve_debug.proofs.Kept.{shows_started, twins_alone, kept_alone}
 use Rattle.sve_debug.proofs.Runs.{shows_now}
 use Rattle.sve_debug.proofs.debugger.Debugger.new.Goals as goal
 
@@ -26,7 +26,7 @@ returns g c =
     let w = g.D.Debuggee.view_of c.begin.new.self in
     let same = c.in_ok-begin.ensures.now in
     let alone = c.in_ok-begin.ensures.begun in
-    let shows = begun v _ _ c.requires.steps c.requires.over c.requires.quiet c.new.ensures (ap (λ b. b.items) c.in_ok-places.ensures) in
+    let shows = shows_started v _ _ c.requires.steps c.requires.over c.requires.quiet c.new.ensures (ap (λ b. b.items) c.in_ok-places.ensures) in
     record {
       shows = shows_now v w _ _ v.state (started v.state) same shows;
       start_is = refl;

@@ -1,4 +1,4 @@
-use Rattle.std.proofs.Common.{ap, ◌∙◌, arith}
+use Rattle.std.proofs.Common.{ap, ◌∙◌, ◌-◌, arith}
 use Rattle.machine_model.specs.Debugged.{View}
 use Rattle.a64_machine.specs.Cores.{state_of}
 use Rattle.sve_machine.proofs.RunSteps.{quiet_left, leaves_seen}
@@ -10,7 +10,7 @@ pub returns-clause-quiet : goal.returns-clause-quiet
 returns-clause-quiet c quiet =
     let own = c.self.inside in
     let left = c.go-answer.new in
-    quiet_left c.go-answer.result.0 c.args.steps c.go-answer.result.1 (state_of own.core own.pages.memory own.vectors) (state_of left.core left.pages.memory left.vectors)
+    quiet_left c.go-answer.result.0 c.args.steps (c.args.steps - c.go-answer.result.1) (state_of own.core own.pages.memory own.vectors) (state_of left.core left.pages.memory left.vectors)
     c.go-answer.ensures.leaves (ap (λ (v : View). v.quiet) c.self.view_is ∙ quiet)
 
 pub go-answer-requires : goal.go-answer-requires
@@ -26,7 +26,7 @@ pub returns-clause-leaves : goal.returns-clause-leaves
 returns-clause-leaves c =
     let own = c.self.inside in
     let left = c.go-answer.new in
-    leaves_seen c.go-answer.result.0 c.args.steps c.go-answer.result.1 _ c.args.self.now (state_of left.core left.pages.memory left.vectors) c.self.view_is c.go-answer.ensures.leaves
+    leaves_seen c.go-answer.result.0 c.args.steps (c.args.steps - c.go-answer.result.1) _ c.args.self.now (state_of left.core left.pages.memory left.vectors) c.self.view_is c.go-answer.ensures.leaves
 
 pub returns-clause-counted : goal.returns-clause-counted
 returns-clause-counted c = omega (arith, ap (λ (v : View). v.steps) c.self.view_is)

@@ -7,7 +7,7 @@ use Rattle.debug_history.specs.Answered.{answer_of}
 use Rattle.a64_machine.specs.Cores.{state_of, said}
 use Rattle.sve_machine.specs.Pasts.{past_by, rests_of}
 use Rattle.sve_machine.proofs.PastLaws.{whole-left}
-use Rattle.sve_machine.proofs.RunSteps.{one_quiet, went_on, came_to}
+use Rattle.sve_machine.proofs.RunSteps.{one_quiet, answer_went_on, came_to}
 use Rattle.sve_machine.proofs.machine.Machine.goes_on.Goals as goal
 
 pub advance-went-requires : goal.advance-went-requires
@@ -26,7 +26,7 @@ returns-then-went g c =
     record {
       answer =
           subst (λ (v : View). IsAnswer (step v.state) (answer_of own.over) v.state (state_of left.core left.pages.memory left.vectors)) c.self.view_is
-          (went_on own.over c.advance-went.result left.answer (state_of own.core own.pages.memory own.vectors) (state_of left.core left.pages.memory left.vectors) c.if-went.true (ap (λ (v : View). v.over) c.self.view_is ∙ c.requires.running) c.advance-went.ensures.answer);
+          (answer_went_on own.over c.advance-went.result left.answer (state_of own.core own.pages.memory own.vectors) (state_of left.core left.pages.memory left.vectors) c.if-went.true (ap (λ (v : View). v.over) c.self.view_is ∙ c.requires.running) c.advance-went.ensures.answer);
       steps = ap (λ (v : View). v.steps) c.self.view_is;
       place = c.advance-went.ensures.place ∙ ap (λ (v : View). v.state.pc) c.self.view_is;
       goes_on = ap is_none (sym (ap (λ (v : View). v.over) c.self.view_is ∙ c.requires.running));

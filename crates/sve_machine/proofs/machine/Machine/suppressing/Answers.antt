@@ -3,7 +3,7 @@ use Rattle.std.proofs.Common.{refl, sym, ap, arith}
 use Rattle.std.specs.Prelude.{length}
 use Rattle.machine_model.specs.Debugged.{is_never}
 use Rattle.a64_machine.specs.Cores.{VectorState}
-use Rattle.sve_machine.proofs.StartRegisters.{taken, started}
+use Rattle.sve_machine.proofs.StartRegisters.{length_of_zeros, started}
 use Rattle.sve_machine.proofs.machine.Machine.suppressing.Goals as goal
 
 pub invariant_of-result : goal.invariant_of-result
@@ -16,10 +16,10 @@ pub slice_bounds-x-end : goal.slice_bounds-x-end
 slice_bounds-x-end c = omega (arith, c.requires)
 
 pub slice_bounds-copy_from_slice-end : goal.slice_bounds-copy_from_slice-end
-slice_bounds-copy_from_slice-end c = sym (taken (length c.args.args.now) c.requires)
+slice_bounds-copy_from_slice-end c = sym (length_of_zeros (length c.args.args.now) c.requires)
 
 pub copy_from_slice-requires : goal.copy_from_slice-requires
-copy_from_slice-requires c = taken (length c.args.args.now) c.requires
+copy_from_slice-requires c = length_of_zeros (length c.args.args.now) c.requires
 
 pub returns-clause-state : goal.returns-clause-state
 returns-clause-state c = started c.args.pages.memory c.args.entry c.args.args.now c.copy_from_slice.new.self c.args.vl c.args.stops c.new.result c.copy_from_slice.ensures.after c.new.ensures

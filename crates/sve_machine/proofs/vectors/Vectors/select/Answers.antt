@@ -3,7 +3,7 @@ use Rattle.guest_types.specs.Lanes.{select_at}
 use Rattle.a64_machine.specs.Cores.{VectorState}
 use Rattle.sve_machine.specs.VectorStates.{IsVectorState, vector_state_of, z_of, p_of, put_lanes}
 use Rattle.sve_machine.proofs.VectorStateLaws.{z_read}
-use Rattle.sve_machine.proofs.BankShapes.{mask_back, z_is, p_is, bank_shape, bank_put, lane3}
+use Rattle.sve_machine.proofs.BankShapes.{mask_back, z_is, predicate_of_bank, bank_shape, bank_put, lane3}
 use Rattle.sve_machine.proofs.vectors.Vectors.select.Goals as goal
 
 pub select_in-requires-clause-ends : goal.select_in-requires-clause-ends
@@ -22,5 +22,5 @@ returns c =
     let own = c.self.inside in
     ap (λ p. vector_state_of c.select_in.new.zs p own.ffr own.vl own.stops) (mask_back own.p c.args.pg)
     ∙ bank_put own.z own.p own.ffr own.vl own.stops c.args.zd c.args.width _ _ c.select_in.new.zs c.select_in.ensures
-    (lane3 (select_at c.args.width) _ _ _ _ _ _ (p_is own.z own.p own.ffr own.vl own.stops c.args.pg) (z_is own.z own.p own.ffr own.vl own.stops c.args.zn) (z_is own.z own.p own.ffr own.vl own.stops c.args.zm))
+    (lane3 (select_at c.args.width) _ _ _ _ _ _ (predicate_of_bank own.z own.p own.ffr own.vl own.stops c.args.pg) (z_is own.z own.p own.ffr own.vl own.stops c.args.zn) (z_is own.z own.p own.ffr own.vl own.stops c.args.zm))
     ∙ ap (λ (r : VectorState). put_lanes r c.args.zd c.args.width (select_at c.args.width (p_of r c.args.pg) (z_of r c.args.zn) (z_of r c.args.zm))) c.self.view_is

@@ -1,0 +1,17 @@
+pub mod Draft
+pub mod Exits
+pub mod ReturnedRuns
+pub mod SavedWords
+pub mod Walks
+pub mod Saves
+pub mod Restores
+pub mod StackPointer
+pub mod Among
+pub mod KeptRegisters
+pub mod AroundWords
+pub mod FrameNumbers
+pub mod Entered
+pub mod Left
+pub mod Stands
+pub mod WholeCalls
+pub mod FunctionWrites

@@ -1,0 +1,4 @@
+pub mod Returning
+pub mod Frame
+pub mod Written
+pub mod Called

@@ -1,0 +1,3 @@
+pub mod ScalarForms
+pub mod VectorForms
+pub mod WordLists

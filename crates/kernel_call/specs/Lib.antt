@@ -1,0 +1,2 @@
+pub mod Anywhere
+pub mod Function

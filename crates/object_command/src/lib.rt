@@ -1,0 +1,4 @@
+//! The command `object`.
+#![tactic(auto)]
+
+pub mod object;
