@@ -5,50 +5,16 @@ use Rattle.io_edges.specs.Files.{Rose, content}
 use Rattle.command_line.specs.Line.{Line, CompileLine, CheckLine, EvalLine, ListLine, RunLine, DebugLine, SweepLine, AsmLine, ObjectLine, PipeLine}
 use Rattle.refusals.specs.declared.refusal.Refusal.{Refusal}
 use Rattle.refusals.specs.declared.refusal.Refusal.TheVariants.{Usage, Memory, File, Output}
-use Rattle.command_answers.specs.Answer.{HeldFiles, Expected, Answer, answer_of, expected_text, status_of, IsAnswer, IsKept, IsQuiet, Unwritten}
+use Rattle.command_answers.specs.Answer.{HeldFiles, Expected, Answer, answer_of, expected_text, status_of, IsAnswer, IsQuiet, Unwritten}
 use Rattle.command_answers.specs.Outputs.{Prints}
 use Rattle.sve_top.specs.Commands.{WhereTold, StreamRose, Swept, IsOf, IsHeld, IsSilent, IsUnread, OnlyReads, Compiled, OthersKept, AsItComes}
+use Rattle.sve_top.specs.Requested.{AsksOf}
+use Rattle.sve_top.specs.Leaves.{Seen, Leaves}
 use Rattle.command_answers.proofs.Prints.{prints_nothing}
 use Rattle.command_answers.proofs.Reading.{is_err, of_one}
 use Rattle.command_answers.proofs.Held.{whatever_held}
 use Rattle.sve_top.proofs.Lines.{of_every_line, nothing_swept, no_session}
-
--- the files, the output and the input at one moment
-pub record Seen : Type 0 where
-  pub held : Option HeldFiles
-  pub file_faults : ℕ
-  pub printed : Option (List ℕ)
-  pub output_faults : ℕ
-  pub left : Option (List ℕ)
-  pub input_faults : ℕ
-
-abbrev pub seen : Option HeldFiles → ℕ → Option (List ℕ) → ℕ → Option (List ℕ) → ℕ → Seen
-seen held file_faults printed output_faults left input_faults = record {
-  held = held;
-  file_faults = file_faults;
-  printed = printed;
-  output_faults = output_faults;
-  left = left;
-  input_faults = input_faults;
-}
-
-pub record Leaves (line : Option Line) (before after : Seen) (is_steady same_output same_input : Type 0) (result : Answer) : Type 0 where
-  pub answer : WhereTold before.held before.left line (λ work. IsAnswer before.file_faults after.file_faults (StreamRose line before.output_faults after.output_faults before.input_faults after.input_faults) (answer_of work) result)
-  pub listed : IsOf line result
-  pub file : OnOk result (IfSome line (λ l. IfSome before.held (λ old. IfSome after.held (λ new. Compiled old new l))))
-  pub others : IfSome before.held (λ old. IfSome after.held (λ new. OthersKept old new line))
-  pub swept : Swept line after.held before.printed after.printed (status_of result)
-  pub kept : IsKept result → after.held ≡ before.held
-  pub reads : OnlyReads line → after.held ≡ before.held
-  pub failed : result ≡ Err File → Rose before.file_faults after.file_faults
-  pub output : result ≡ Err Output → StreamRose line before.output_faults after.output_faults before.input_faults after.input_faults
-  pub steady : is_steady → IfSome line (λ l. IfSome before.held (λ h. IsHeld h l → result ≢ Err File))
-  pub as_it_comes : AsItComes line before.held before.left after.left before.printed after.printed before.output_faults after.output_faults (result ≡ Err Output)
-  pub printed : WhereTold before.held before.left line (λ work. Prints before.printed after.printed (expected_text work) result)
-  pub quiet : IsQuiet result → same_output
-  pub unwritten : WhereTold before.held before.left line (λ work. Unwritten work before.held after.held)
-  pub silent : IsSilent line → same_output
-  pub unread : IsUnread line → same_input
+use Rattle.sve_top.proofs.Requested.{none_wanted, short_asked}
 
 -- what a line leaves is left by another name of it, and of the result
 pub by_name : (line other : Option Line) (before after : Seen) (is_steady same_output same_input : Type 0) (result : Answer) → other ≡ line → Leaves line before after is_steady same_output same_input result → Leaves other before after is_steady same_output same_input result
@@ -98,11 +64,12 @@ pub reader : (line : Line) (before after : Seen) (is_steady same_output same_inp
     → (result ≡ Err File → Rose before.file_faults after.file_faults)
     → (result ≡ Err Output → StreamRose (Some line) before.output_faults after.output_faults before.input_faults after.input_faults)
     → (is_steady → IfSome before.held (λ h. IsHeld h line → result ≢ Err File))
+    → IfSome before.held (λ held. AsksOf (Some line) held before.requests after.requests result)
     → (IsQuiet result → same_output)
     → AsItComes (Some line) before.held before.left after.left before.printed after.printed before.output_faults after.output_faults (result ≡ Err Output)
     → (IsUnread (Some line) → same_input)
     → Leaves (Some line) before after is_steady same_output same_input result
-reader line before after is_steady same_output same_input result reads loud held answer printed listed failed output steady quiet comes unread = record {
+reader line before after is_steady same_output same_input result reads loud held answer printed listed failed output steady requested quiet comes unread = record {
   answer = answer;
   listed = listed;
   file = compiles_nothing line before.held after.held result reads;
@@ -113,6 +80,7 @@ reader line before after is_steady same_output same_input result reads loud held
   failed = failed;
   output = output;
   steady = steady;
+  requested = requested;
   as_it_comes = comes;
   printed = printed;
   quiet = quiet;
@@ -171,6 +139,7 @@ short line before is_steady same_output same_input result is output input =
       failed = λ e. absurd (file e);
       output = λ e. absurd (written e);
       steady = λ s. no_file line before.held Memory file;
+      requested = short_asked line before.held before.requests (Err Memory) refl;
       as_it_comes = no_session line before.held before.left before.left before.printed before.printed before.output_faults before.output_faults (Err Memory) refl;
       printed = of_every_line before.held before.left line _ (λ work. prints_nothing before.printed (expected_text work) Memory);
       quiet = λ q. output;
@@ -197,6 +166,7 @@ not_asked before is_steady same_output same_input output input = record {
   failed = λ e. absurd (file e);
   output = λ e. absurd (written e);
   steady = λ s. tt;
+  requested = none_wanted before.held before.requests;
   as_it_comes = tt;
   printed = of_every_line before.held before.left None _ (λ work. prints_nothing before.printed (expected_text work) Usage);
   quiet = λ q. output;

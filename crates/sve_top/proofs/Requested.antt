@@ -9,10 +9,6 @@ use Rattle.command_answers.specs.Requests.{Asked, refused, all_went, IsRefusedEl
 use Rattle.command_answers.proofs.Asks.{none_asked, nothing_asks}
 use Rattle.sve_top.specs.Requested.{wants_of, AfterAll, AsksOf, AsksTo}
 
--- by another name of the line
-pub asked_as : (line other : Option Line) (held : Option HeldFiles) (before now : Option (List Request)) (answer : Answer) → other ≡ line → IfSome held (λ h. AsksOf line h before now answer) → IfSome held (λ h. AsksOf other h before now answer)
-asked_as line other held before now answer e a = subst (λ l. IfSome held (λ h. AsksOf l h before now answer)) (sym e) a
-
 -- want of memory before anything is asked for
 short_of : (line : Option Line) (held : HeldFiles) (now : Option (List Request)) (answer : Answer) → answer ≡ Err Memory → AsksOf line held now now answer
 short_of None held now answer e = nothing_asks now _ Memory answer tt e

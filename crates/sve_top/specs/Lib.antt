@@ -3,3 +3,4 @@ pub mod Commands
 pub mod Does
 pub mod Complete
 pub mod Requested
+pub mod Leaves

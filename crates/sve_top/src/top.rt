@@ -1,18 +1,19 @@
 //! The call that does a command.
 
-ghost use Rattle.std.specs.Prelude.{◌≡◌, ◌≢◌, ◌⊎◌, ℕ, List, Option, Some, None, IfSome, IsTrue, Err, OnOk, []};
+ghost use Rattle.std.specs.Prelude.{◌≡◌, ◌≢◌, ◌⊎◌, ℕ, List, Option, Some, None, IfSome, IsTrue, []};
 ghost use Rattle.io_edges.specs.Files.{Rose};
 ghost use Rattle.command_line.specs.Line.{Line};
 ghost use Rattle.command_line.specs.View.{command_view};
 ghost use Rattle.sve_top.specs.Asked.{asked};
-ghost use Rattle.command_answers.specs.Answer.{HeldFiles, Expected, answer_of, expected_text, status_of, IsAnswer, IsKept, IsQuiet, Unwritten};
+ghost use Rattle.command_answers.specs.Answer.{HeldFiles, Expected};
 ghost use Rattle.refusals.specs.Statuses.{status_of_refusal};
-ghost use Rattle.sve_top.specs.Commands.{Expects, WhereTold, IsSettled, IsInput, IsOf, IsListed, IsSilent, IsUnread, IsHeld, OnlyReads, StreamRose, NoneRose, Compiled, OthersKept, Swept, AsItComes, InTime};
+ghost use Rattle.sve_top.specs.Commands.{Expects, IsSettled, IsInput, IsListed, IsSilent, IsUnread, IsHeld, OnlyReads, StreamRose, NoneRose, Compiled, OthersKept, Swept, AsItComes, InTime};
 ghost use Rattle.command_answers.specs.Works.{SomeExpected};
-ghost use Rattle.sve_top.specs.Requested.{AsksOf, AsksTo};
+ghost use Rattle.sve_top.specs.Requested.{AsksTo};
+ghost use Rattle.sve_top.specs.Leaves.{seen, Leaves};
 ghost use Rattle.sve_top.specs.Does.{Does, outside};
 ghost use Rattle.sve_top.specs.Complete.{Completes};
-ghost use Rattle.command_answers.specs.Outputs.{Prints, Gains, error_line_by};
+ghost use Rattle.command_answers.specs.Outputs.{Gains, error_line_by};
 ghost use Rattle.refusals.specs.Lines.{line_of_refusal};
 
 use command_line::command::Command;
@@ -120,36 +121,12 @@ fn do_words<F: Files, I: Source, S: Sink>(
 ) -> Result<Done, Refusal>
     requires { (i : I) (s : S) → InTime (asked words.now) (F.held files.old)
         (I.left input.old) (I.left i) (S.taken out.old) (S.taken s) → I.may_take i }
-    ensures answer { WhereTold (F.held files.old) (I.left input.old) (asked words.now)
-        (λ work. IsAnswer (F.faults files.old) (F.faults files.new)
-        (StreamRose (asked words.now) (S.faults out.old) (S.faults out.new)
-        (I.faults input.old) (I.faults input.new)) (answer_of work) result) }
-    ensures listed { IsOf (asked words.now) result }
-    ensures file { OnOk result (IfSome (asked words.now)
-        (λ line. IfSome (F.held files.old) (λ old. IfSome (F.held files.new) (λ new. Compiled old new line)))) }
-    ensures others { IfSome (F.held files.old)
-        (λ old. IfSome (F.held files.new) (λ new. OthersKept old new (asked words.now))) }
-    ensures swept { Swept (asked words.now) (F.held files.new) (S.taken out.old) (S.taken out.new)
-        (status_of result) }
-    ensures kept { IsKept result → F.held files.new ≡ F.held files.old }
-    ensures reads { OnlyReads (asked words.now) → F.held files.new ≡ F.held files.old }
-    ensures failed { result ≡ Err Refusal.File → Rose (F.faults files.old) (F.faults files.new) }
-    ensures output { result ≡ Err Refusal.Output → StreamRose (asked words.now)
-        (S.faults out.old) (S.faults out.new) (I.faults input.old) (I.faults input.new) }
-    ensures steady { IsTrue (F.steady files.old)
-        → IfSome (asked words.now) (λ line. IfSome (F.held files.old)
-        (λ held. IsHeld held line → result ≢ Err Refusal.File)) }
-    ensures requested { IfSome (F.held files.old) (λ held. AsksOf (asked words.now) held
-        (F.requests files.old) (F.requests files.new) result) }
-    ensures as_it_comes { AsItComes (asked words.now) (F.held files.old) (I.left input.old) (I.left input.new)
-        (S.taken out.old) (S.taken out.new) (S.faults out.old) (S.faults out.new) (result ≡ Err Refusal.Output) }
-    ensures printed { WhereTold (F.held files.old) (I.left input.old) (asked words.now)
-        (λ work. Prints (S.taken out.old) (S.taken out.new) (expected_text work) result) }
-    ensures quiet { IsQuiet result → out.new ≡ out.old }
-    ensures unwritten { WhereTold (F.held files.old) (I.left input.old) (asked words.now)
-        (λ work. Unwritten work (F.held files.old) (F.held files.new)) }
-    ensures silent { IsSilent (asked words.now) → out.new ≡ out.old }
-    ensures unread { IsUnread (asked words.now) → input.new ≡ input.old }
+    ensures { Leaves (asked words.now)
+        (seen (F.held files.old) (F.faults files.old) (F.requests files.old) (S.taken out.old) (S.faults out.old)
+        (I.left input.old) (I.faults input.old))
+        (seen (F.held files.new) (F.faults files.new) (F.requests files.new) (S.taken out.new) (S.faults out.new)
+        (I.left input.new) (I.faults input.new))
+        (IsTrue (F.steady files.old)) (out.new ≡ out.old) (input.new ≡ input.old) result }
 {
     let Some(command) = read_line(alloc, words)? else {
         return Err(Refusal::Usage);
@@ -167,36 +144,12 @@ fn do_command<F: Files, I: Source, S: Sink>(
 ) -> Result<Done, Refusal>
     requires { (i : I) (s : S) → InTime (Some (command_view command.now)) (F.held files.old)
         (I.left input.old) (I.left i) (S.taken out.old) (S.taken s) → I.may_take i }
-    ensures answer { WhereTold (F.held files.old) (I.left input.old) (Some (command_view command.now))
-        (λ work. IsAnswer (F.faults files.old) (F.faults files.new)
-        (StreamRose (Some (command_view command.now)) (S.faults out.old) (S.faults out.new)
-        (I.faults input.old) (I.faults input.new)) (answer_of work) result) }
-    ensures listed { IsOf (Some (command_view command.now)) result }
-    ensures file { OnOk result (IfSome (F.held files.old)
-        (λ old. IfSome (F.held files.new) (λ new. Compiled old new (command_view command.now)))) }
-    ensures others { IfSome (F.held files.old)
-        (λ old. IfSome (F.held files.new) (λ new. OthersKept old new (Some (command_view command.now)))) }
-    ensures swept { Swept (Some (command_view command.now)) (F.held files.new) (S.taken out.old) (S.taken out.new)
-        (status_of result) }
-    ensures kept { IsKept result → F.held files.new ≡ F.held files.old }
-    ensures reads { OnlyReads (Some (command_view command.now)) → F.held files.new ≡ F.held files.old }
-    ensures failed { result ≡ Err Refusal.File → Rose (F.faults files.old) (F.faults files.new) }
-    ensures output { result ≡ Err Refusal.Output → StreamRose (Some (command_view command.now))
-        (S.faults out.old) (S.faults out.new) (I.faults input.old) (I.faults input.new) }
-    ensures steady { IsTrue (F.steady files.old)
-        → IfSome (F.held files.old) (λ held. IsHeld held (command_view command.now) → result ≢ Err Refusal.File) }
-    ensures requested { IfSome (F.held files.old) (λ held. AsksOf (Some (command_view command.now)) held
-        (F.requests files.old) (F.requests files.new) result) }
-    ensures as_it_comes { AsItComes (Some (command_view command.now)) (F.held files.old)
-        (I.left input.old) (I.left input.new)
-        (S.taken out.old) (S.taken out.new) (S.faults out.old) (S.faults out.new) (result ≡ Err Refusal.Output) }
-    ensures printed { WhereTold (F.held files.old) (I.left input.old) (Some (command_view command.now))
-        (λ work. Prints (S.taken out.old) (S.taken out.new) (expected_text work) result) }
-    ensures quiet { IsQuiet result → out.new ≡ out.old }
-    ensures unwritten { WhereTold (F.held files.old) (I.left input.old) (Some (command_view command.now))
-        (λ work. Unwritten work (F.held files.old) (F.held files.new)) }
-    ensures silent { IsSilent (Some (command_view command.now)) → out.new ≡ out.old }
-    ensures unread { IsUnread (Some (command_view command.now)) → input.new ≡ input.old }
+    ensures { Leaves (Some (command_view command.now))
+        (seen (F.held files.old) (F.faults files.old) (F.requests files.old) (S.taken out.old) (S.faults out.old)
+        (I.left input.old) (I.faults input.old))
+        (seen (F.held files.new) (F.faults files.new) (F.requests files.new) (S.taken out.new) (S.faults out.new)
+        (I.left input.new) (I.faults input.new))
+        (IsTrue (F.steady files.old)) (out.new ≡ out.old) (input.new ≡ input.old) result }
 {
     match command {
         Command::Compile { from, to } => compile(alloc, from.as_str(), to.as_str(), files),

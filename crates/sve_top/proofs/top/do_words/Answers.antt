@@ -4,9 +4,8 @@ use Rattle.command_line.specs.Line.{Line, line_of}
 use Rattle.command_line.specs.View.{texts, command_view}
 use Rattle.refusals.specs.declared.refusal.Refusal.TheVariants.{Usage, Memory}
 use Rattle.sve_top.specs.Commands.{InTime}
-use Rattle.command_answers.proofs.Reading.{is_err}
-use Rattle.sve_top.proofs.Requested.{asked_as, none_wanted, short_asked}
-use Rattle.sve_top.proofs.Leaves.{seen, by_name, short, not_asked}
+use Rattle.sve_top.specs.Leaves.{seen}
+use Rattle.sve_top.proofs.Leaves.{by_name, short, not_asked}
 use Rattle.sve_top.proofs.top.do_words.Goals as goal
 
 pub do_command-requires : goal.do_command-requires
@@ -17,91 +16,17 @@ do_command-requires g c i s may =
 
 pub returns-in_err-command : goal.returns-in_err-command
 returns-in_err-command g c =
-    let l = short (line_of (texts c.args.words.now)) (seen (g.F.Files.held c.args.files.now) (g.F.Files.faults c.args.files.now) (g.S.Sink.taken c.args.out.now) (g.S.Sink.faults c.args.out.now) (g.I.Source.left c.args.input.now) (g.I.Source.faults c.args.input.now)) (IsTrue (g.F.Files.steady c.args.files.now)) (c.args.out.now ≡ c.args.out.now) (c.args.input.now ≡ c.args.input.now) c.from_residual.result c.from_residual.ensures.1 refl refl in
-    record {
-      answer = l.answer;
-      listed = l.listed;
-      file = l.file;
-      others = l.others;
-      swept = l.swept;
-      kept = l.kept;
-      reads = l.reads;
-      failed = l.failed;
-      output = l.output;
-      steady = l.steady;
-      requested = short_asked (line_of (texts c.args.words.now)) (g.F.Files.held c.args.files.now) (g.F.Files.requests c.args.files.now) c.from_residual.result (is_err Memory c.from_residual.result c.from_residual.ensures.1);
-      as_it_comes = l.as_it_comes;
-      printed = l.printed;
-      quiet = l.quiet;
-      unwritten = l.unwritten;
-      silent = l.silent;
-      unread = l.unread;
-    }
+    short (line_of (texts c.args.words.now)) (seen (g.F.Files.held c.args.files.now) (g.F.Files.faults c.args.files.now) (g.F.Files.requests c.args.files.now) (g.S.Sink.taken c.args.out.now) (g.S.Sink.faults c.args.out.now) (g.I.Source.left c.args.input.now) (g.I.Source.faults c.args.input.now)) (IsTrue (g.F.Files.steady c.args.files.now)) (c.args.out.now ≡ c.args.out.now) (c.args.input.now ≡ c.args.input.now) c.from_residual.result c.from_residual.ensures.1 refl refl
 
 pub returns-in_default : goal.returns-in_default
 returns-in_default g c =
-    let before = (seen (g.F.Files.held c.args.files.now) (g.F.Files.faults c.args.files.now) (g.S.Sink.taken c.args.out.now) (g.S.Sink.faults c.args.out.now) (g.I.Source.left c.args.input.now) (g.I.Source.faults c.args.input.now)) in
-    let l = by_name None (line_of (texts c.args.words.now)) before before (IsTrue (g.F.Files.steady c.args.files.now)) (c.args.out.now ≡ c.args.out.now) (c.args.input.now ≡ c.args.input.now) (Err Usage) (sym c.in_ok-command.ensures ∙ ap (option_map command_view) c.in_default.is) (not_asked before (IsTrue (g.F.Files.steady c.args.files.now)) (c.args.out.now ≡ c.args.out.now) (c.args.input.now ≡ c.args.input.now) refl refl) in
-    record {
-      answer = l.answer;
-      listed = l.listed;
-      file = l.file;
-      others = l.others;
-      swept = l.swept;
-      kept = l.kept;
-      reads = l.reads;
-      failed = l.failed;
-      output = l.output;
-      steady = l.steady;
-      requested = asked_as None (line_of (texts c.args.words.now)) (g.F.Files.held c.args.files.now) (g.F.Files.requests c.args.files.now) (g.F.Files.requests c.args.files.now) (Err Usage) (sym c.in_ok-command.ensures ∙ ap (option_map command_view) c.in_default.is) (none_wanted (g.F.Files.held c.args.files.now) (g.F.Files.requests c.args.files.now));
-      as_it_comes = l.as_it_comes;
-      printed = l.printed;
-      quiet = l.quiet;
-      unwritten = l.unwritten;
-      silent = l.silent;
-      unread = l.unread;
-    }
+    let before = (seen (g.F.Files.held c.args.files.now) (g.F.Files.faults c.args.files.now) (g.F.Files.requests c.args.files.now) (g.S.Sink.taken c.args.out.now) (g.S.Sink.faults c.args.out.now) (g.I.Source.left c.args.input.now) (g.I.Source.faults c.args.input.now)) in
+    by_name None (line_of (texts c.args.words.now)) before before (IsTrue (g.F.Files.steady c.args.files.now)) (c.args.out.now ≡ c.args.out.now) (c.args.input.now ≡ c.args.input.now) (Err Usage) (sym c.in_ok-command.ensures ∙ ap (option_map command_view) c.in_default.is) (not_asked before (IsTrue (g.F.Files.steady c.args.files.now)) (c.args.out.now ≡ c.args.out.now) (c.args.input.now ≡ c.args.input.now) refl refl)
 
 pub returns : goal.returns
 returns g c =
-    let before = (seen (g.F.Files.held c.args.files.now) (g.F.Files.faults c.args.files.now) (g.S.Sink.taken c.args.out.now) (g.S.Sink.faults c.args.out.now) (g.I.Source.left c.args.input.now) (g.I.Source.faults c.args.input.now)) in
-    let after = (seen (g.F.Files.held c.do_command.new.files) (g.F.Files.faults c.do_command.new.files) (g.S.Sink.taken c.do_command.new.out) (g.S.Sink.faults c.do_command.new.out) (g.I.Source.left c.do_command.new.input) (g.I.Source.faults c.do_command.new.input)) in
+    let before = (seen (g.F.Files.held c.args.files.now) (g.F.Files.faults c.args.files.now) (g.F.Files.requests c.args.files.now) (g.S.Sink.taken c.args.out.now) (g.S.Sink.faults c.args.out.now) (g.I.Source.left c.args.input.now) (g.I.Source.faults c.args.input.now)) in
+    let after = (seen (g.F.Files.held c.do_command.new.files) (g.F.Files.faults c.do_command.new.files) (g.F.Files.requests c.do_command.new.files) (g.S.Sink.taken c.do_command.new.out) (g.S.Sink.faults c.do_command.new.out) (g.I.Source.left c.do_command.new.input) (g.I.Source.faults c.do_command.new.input)) in
     let line : Option Line = Some (command_view c.in-Some.command) in
-    let l = by_name line (line_of (texts c.args.words.now)) before after (IsTrue (g.F.Files.steady c.args.files.now)) (c.do_command.new.out ≡ c.args.out.now) (c.do_command.new.input ≡ c.args.input.now) c.do_command.result (sym c.in_ok-command.ensures ∙ ap (option_map command_view) c.in-Some.is)
-    (record {
-      answer = c.do_command.ensures.answer;
-      listed = c.do_command.ensures.listed;
-      file = c.do_command.ensures.file;
-      others = c.do_command.ensures.others;
-      swept = c.do_command.ensures.swept;
-      kept = c.do_command.ensures.kept;
-      reads = c.do_command.ensures.reads;
-      failed = c.do_command.ensures.failed;
-      output = c.do_command.ensures.output;
-      steady = c.do_command.ensures.steady;
-      as_it_comes = c.do_command.ensures.as_it_comes;
-      printed = c.do_command.ensures.printed;
-      quiet = c.do_command.ensures.quiet;
-      unwritten = c.do_command.ensures.unwritten;
-      silent = c.do_command.ensures.silent;
-      unread = c.do_command.ensures.unread;
-    }) in
-    record {
-      answer = l.answer;
-      listed = l.listed;
-      file = l.file;
-      others = l.others;
-      swept = l.swept;
-      kept = l.kept;
-      reads = l.reads;
-      failed = l.failed;
-      output = l.output;
-      steady = l.steady;
-      requested = asked_as line (line_of (texts c.args.words.now)) (g.F.Files.held c.args.files.now) (g.F.Files.requests c.args.files.now) (g.F.Files.requests c.do_command.new.files) c.do_command.result (sym c.in_ok-command.ensures ∙ ap (option_map command_view) c.in-Some.is) c.do_command.ensures.requested;
-      as_it_comes = l.as_it_comes;
-      printed = l.printed;
-      quiet = l.quiet;
-      unwritten = l.unwritten;
-      silent = l.silent;
-      unread = l.unread;
-    }
+    by_name line (line_of (texts c.args.words.now)) before after (IsTrue (g.F.Files.steady c.args.files.now)) (c.do_command.new.out ≡ c.args.out.now) (c.do_command.new.input ≡ c.args.input.now) c.do_command.result (sym c.in_ok-command.ensures ∙ ap (option_map command_view) c.in-Some.is)
+    c.do_command.ensures
