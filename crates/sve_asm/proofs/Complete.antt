@@ -14,7 +14,7 @@ use Rattle.sve_code.specs.Table as sve
 use Rattle.list_text.specs.A64Text as a64_text
 use Rattle.list_text.specs.SveText as sve_text
 use Rattle.list_text.specs.Text.{word_text, hex_word, unlisted_text, sve_text_or, a64_text_or}
-use Rattle.asm_forms.specs.Reading.{candidate, unlisted_candidate}
+use Rattle.asm_forms.specs.Reading.{candidate, if_word, unlisted_candidate}
 use Rattle.sve_asm.proofs.Words.{below, below-at}
 use Rattle.sve_asm.proofs.Cases.{bits_below}
 use Rattle.sve_asm.proofs.A64Rows.{a64_row}
@@ -89,6 +89,11 @@ unlisted_number w h =
 pub unlisted-back : (w : ℕ) → w < 2 ^ 32 → candidate (unlisted_text w) ≡ Some w
 unfolding candidate following unlisted_candidate
 unlisted-back w h = rw (unlisted_number w h, is_word w h) refl
+
+-- a word that is written by its digits
+pub digits_word : (digits : List ℕ) → candidate (codes ".word 0x" ++ digits) ≡ if_word (number_of (codes "0x" ++ digits))
+unfolding candidate following unlisted_candidate
+digits_word digits = refl
 
 -- ---- every word
 sve_back : (w : ℕ) (o : Option (Instruction sve.Name)) → reads sve.row sve.sve_names w ≡ o → w < 2 ^ 32 → candidate (sve_text_or w o) ≡ Some w

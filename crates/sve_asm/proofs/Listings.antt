@@ -1,5 +1,5 @@
 -- A listing, read back.
-use Rattle.std.proofs.Common.{◌≡◌, ℕ, suc, ◌+◌, ◌/◌, ◌%◌, ◌<◌, ◌≤◌, ◌^◌, List, [], ◌∷◌, ◌++◌, length, true, false, Some, None, Ok, refl, ap, ap₂, ◌∙◌, arith, append_assoc, length-append}
+use Rattle.std.proofs.Common.{◌≡◌, ℕ, suc, ◌+◌, ◌/◌, ◌%◌, ◌<◌, ◌≤◌, ◌^◌, List, [], ◌∷◌, ◌++◌, length, true, false, Some, None, Ok, refl, sym, ap, ap₂, ◌∙◌, arith, append_assoc, length-append}
 use Rattle.std.specs.Prelude.{codes, nat_lt, nat_le, nat_eq, not}
 use Rattle.std.specs.List.{list_all, AllByRecursion}
 use Rattle.std.proofs.lemmas.Bool.Decides.{nat_tests}
@@ -22,7 +22,7 @@ use Rattle.sve_asm.specs.Lines.{is_low_hex, is_listing, beside, worded, Word, as
 use Rattle.sve_asm.proofs.Words.{below, below-at}
 use Rattle.sve_asm.proofs.Cases.{bits_below}
 use Rattle.sve_asm.proofs.Clean.{is_clean, is_clean_byte, text-clean}
-use Rattle.sve_asm.proofs.Complete.{text-back, unlisted-back}
+use Rattle.sve_asm.proofs.Complete.{text-back, unlisted-back, digits_word}
 use Rattle.sve_asm.proofs.Spelling.{read-back}
 use Rattle.sve_asm.proofs.ListingLengths.{short_listing}
 
@@ -102,7 +102,7 @@ same_word w = rw (eq-eqb w w refl) refl
 
 line-worded : (high low word : ℕ) (text : List ℕ) → word < 2 ^ 32 → 0 < length text → word_of text ≡ Some word → worded (line_with high low word text) ≡ Some (Word word)
 line-worded high low word text small h e =
-    rw (line-listing high low word text h) (ap₂ beside (unlisted-back word small) e ∙ same_word word)
+    rw (line-listing high low word text h) (ap₂ beside (sym (digits_word (hex_word word)) ∙ unlisted-back word small) e ∙ same_word word)
 
 line-said : (high low word : ℕ) (text : List ℕ) → word < 2 ^ 32 → 0 < length text → word_of text ≡ Some word → asm_line_of (line_with high low word text) ≡ Some (Word word)
 unfolding asm_line_of

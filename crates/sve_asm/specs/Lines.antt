@@ -3,9 +3,9 @@
 -- count from 1.
 use Rattle.std.specs.Prelude.{ℕ, ◌+◌, ◌&&◌, ◌||◌, ◌==◌, Bool, List, [], ◌∷◌, ◌++◌, take, drop, length, Option, Some, None, Result, Ok, Err, nat_eq, nat_lt, nat_le, bytes_eq, codes, if◌then◌else◌}
 use Rattle.std.specs.List.{list_all}
-use Rattle.number_text.specs.Numbers.{is_digit}
+use Rattle.number_text.specs.Numbers.{is_digit, number_of}
 use Rattle.text_parts.specs.Parts.{lines_of}
-use Rattle.asm_forms.specs.Reading.{candidate}
+use Rattle.asm_forms.specs.Reading.{if_word}
 use Rattle.sve_asm.specs.WordOf.{word_of}
 use Rattle.sve_asm.specs.declared.fault.AsmFault.{AsmFault}
 use Rattle.sve_asm.specs.declared.fault.AsmFault.TheVariants.{TooLong, BadLine, Differs, TooManyWords}
@@ -26,9 +26,9 @@ is_listing line =
     nat_le 28 (length line) && (list_all is_low_hex (take 16 line) && (bytes_eq (take 2 (drop 16 line)) (codes ": ")
     && (list_all is_low_hex (take 8 (drop 18 line)) && bytes_eq (take 1 (drop 26 line)) (codes " "))))
 
--- the word that the eight digits of such a line spell, and the text behind them
+-- the word that the eight hexadecimal digits of such a line spell, and the text behind them
 abbrev pub found_in : List ℕ → Option ℕ
-found_in line = candidate (codes ".word 0x" ++ take 8 (drop 18 line))
+found_in line = if_word (number_of (codes "0x" ++ take 8 (drop 18 line)))
 
 abbrev pub text_in : List ℕ → List ℕ
 text_in line = drop 27 line

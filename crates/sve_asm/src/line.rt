@@ -50,6 +50,7 @@ fn is_listing(line: &[u8]) -> bool
 }
 
 // The word that the eight digits of a line of a listing spell.
+#[tactic(auto, using(crate::proofs::Complete::digits_word))]
 fn found_in(line: &[u8]) -> Option<u32>
     requires { 28 ≤ length line.now }
     ensures { result ≡ found_in line.now }
