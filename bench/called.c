@@ -17,6 +17,8 @@ struct row {
 };
 #include "rows.h" // written by from_c: ROWS
 
+static uint64_t misaligned = 1; // arrays begin at addresses that leave each number below this one by their elements' size
+
 // Pieces of memory, after each of which a page is missing.
 enum { PIECES = 4, SIZE = 8192, PAGE = 4096, STRIDE = SIZE + PAGE };
 static const uint64_t KEPT[] = {~0ull, 0x7f7f7f7f7f7f7f7f, 0x0303030303030303, ~0ull}, ONES[] = {0, 0, 0, 0x0101010101010101};
@@ -72,7 +74,7 @@ static void make(const struct row *row, uint64_t vector, uint8_t *memory, uint64
     for (int i = 0; i < 8; i++) given[i] = is_open ? 0 : below(3) ? below(0) : below(3) - 1;
     for (int i = 0; i < row->arrays; i++) {
         uint64_t spare = is_open || below(3) == 0 ? 0 : below(below(2) ? 8 : 200);
-        given[i] = (is_apart || is_open ? i * STRIDE : 0) + SIZE - (room + spare) * row->sizes[i];
+        given[i] = (is_apart || is_open ? i * STRIDE : 0) + SIZE - (room + spare) * row->sizes[i] - (is_open ? 0 : below(misaligned));
         if (is_open) memory[given[i] + room - 1] = row->stop;
         for (uint64_t j = 0; i == row->index && j < room; j++) ((uint64_t *)(memory + given[i]))[j] %= 256;
     }
@@ -85,6 +87,7 @@ enum { KEPT_REGISTERS = 18 };
     word " x19, x20, [%0]\n" word " x21, x22, [%0, 16]\n" word " x23, x24, [%0, 32]\n" word " x25, x26, [%0, 48]\n" word " x27, x28, [%0, 64]\n" \
     word " d8, d9, [%0, 80]\n" word " d10, d11, [%0, 96]\n" word " d12, d13, [%0, 112]\n" word " d14, d15, [%0, 128]"
 
+#ifndef GUARDED // bench/guarded.c has its own
 int main(int words, char **word) {
     uint8_t *first = new_memory(), *copies[3] = {new_memory(), new_memory(), new_memory()};
     void *code = words == 5 ? load_kernel(word[2]) : NULL;
@@ -118,3 +121,4 @@ int main(int words, char **word) {
     fflush(stdout);
     _exit(0);
 }
+#endif

@@ -13,7 +13,8 @@ _svec() {
     gdb) options='--vl --map --help' ;;
     annotate) options='--html --help' ;;
     cost) options='--svg --help' ;;
-    library | where) options='--help' ;;
+    library) options='--prefix --sources --help' ;;
+    where) options='--help' ;;
     pipe) options='--vl --steps --map --dump' ;;
     explain) options='--json --fast --help' ;;
     call) options='--vl --steps --overlap --keep --help' ;;
