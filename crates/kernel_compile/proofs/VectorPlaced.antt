@@ -23,7 +23,7 @@ use Rattle.loop_code.specs.Kernel.{begin_code, begin_labels, scalar_code, scalar
 use Rattle.scalar_words.proofs.Pieces.{word_put, const_put, binary_put, unplaced_put, once_put}
 use Rattle.loop_code.proofs.Placed.{begin_once, scalar_unplaced, scalar_once}
 use Rattle.vector_emit.proofs.FromBelow.{dup_code, identity, reduce_code, vectors, puts, update_of, layout_of_loop, is_loop_break, type_of_var, hold_code, holds_code, start_code, fold_one, folds_code, fold_code, lanes_word, chunk_words, iteration_words, plain_words}
-use Rattle.vector_emit.specs.VectorCode.{any_lane, times, passes_by, vector_code}
+use Rattle.vector_emit.specs.VectorCode.{any_lane, is_long, turn_passes, times, passes_by, vector_code}
 use Rattle.overlap_guard.specs.Guard.{label_by, is_free, guard_code}
 use Rattle.overlap_guard.proofs.Placed.{guard_unplaced, guard_once, grows_pairs}
 
@@ -79,7 +79,7 @@ passes_unplaced false k a b items n l rest ne next turn h =
     let w = lane_width_of k in
     let tail : Unplaced l (Put (lanes_word w (bound_place k)) ∷ Branch (If 1) n ∷ Place (suc n) ∷ rest) = (next, h) in
     let words = plain_words w (layout_of_loop k a b) items in
-    (turn, times_put (Unplaced l) (unplaced_put l) 4 words _ (ne, puts_put (Unplaced l) (unplaced_put l) words _ tail))
+    (turn, times_put (Unplaced l) (unplaced_put l) (turn_passes (is_long items)) words _ (ne, puts_put (Unplaced l) (unplaced_put l) words _ tail))
 
 next_other : (n : ℕ) → suc n ≢ n
 next_other n e = absurd (omega (arith, e))
@@ -106,7 +106,7 @@ passes_once false k a b items n rest u v x h =
     let once : Unplaced n last = (next_other n, u) in
     let turn : Unplaced (suc (suc n)) (Place n ∷ puts words last) = (later_other n, puts_put (Unplaced (suc (suc n))) (unplaced_put (suc (suc n))) words _ (later_other_next n, x)) in
     let passes : Once (Place n ∷ puts words last) = (puts_put (Unplaced n) (unplaced_put n) words _ once, puts_put Once once_put words _ (v, h)) in
-    (times_put (Unplaced (suc (suc n))) (unplaced_put (suc (suc n))) 4 words _ turn, times_put Once once_put 4 words _ passes)
+    (times_put (Unplaced (suc (suc n))) (unplaced_put (suc (suc n))) (turn_passes (is_long items)) words _ turn, times_put Once once_put (turn_passes (is_long items)) words _ passes)
 
 -- it places no label but its own
 pub vector_unplaced : (R : ℕ → ℕ) (k : Program) (a b : Assignment) (scalar n l : ℕ) (rest : List DraftEntry) → n ≢ l → suc n ≢ l → suc (suc n) ≢ l → Unplaced l rest → Unplaced l (vector_code R k a b scalar n rest)

@@ -30,7 +30,7 @@ use Rattle.chunk_emit.specs.ChunkCode.{vectors}
 use Rattle.chunk_emit.specs.KernelLayout.{layout_of_loop, update_of}
 use Rattle.first_fault.specs.BreakRegion.{is_loop_break}
 use Rattle.vector_emit.proofs.FromBelow.{reduce_name, reduce_code, type_of_var, hold_code, holds_code, fold_one, folds_code, chunk_words, iteration_words, plain_words}
-use Rattle.vector_emit.specs.VectorCode.{count_word, times, passes_by, vector_code}
+use Rattle.vector_emit.specs.VectorCode.{count_word, is_long, turn_passes, times, passes_by, vector_code}
 use Rattle.promises.specs.Reserved.{leaves_reserved}
 use Rattle.reserved_registers.specs.Alone.{AreAlone, StaysAlone}
 use Rattle.reserved_registers.proofs.FreeRegisters.{Unreserved, AreFree, names_free, name_kept, assigned_below}
@@ -89,7 +89,7 @@ passes_alone true k a b items n rest h =
 passes_alone false k a b items n rest h =
     let w = lane_width_of k in
     let l = layout_of_loop k a b in
-    (refl, (count_alone w, (refl, times_alone 4 (plain_words w l items) _ (plain_left w l items) (refl, (refl, puts_alone (plain_words w l items) _ (plain_left w l items) (refl, h))))))
+    (refl, (count_alone w, (refl, times_alone (turn_passes (is_long items)) (plain_words w l items) _ (plain_left w l items) (refl, (refl, puts_alone (plain_words w l items) _ (plain_left w l items) (refl, h))))))
 
 -- ---- the whole
 

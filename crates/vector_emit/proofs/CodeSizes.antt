@@ -20,7 +20,7 @@ use Rattle.chunk_emit.specs.ChunkCode.{puts}
 use Rattle.chunk_emit.specs.KernelLayout.{layout_of_loop}
 use Rattle.chunk_pass.specs.PassCode.{lanes_word, chunk_words, iteration_words, plain_words}
 use Rattle.reductions.proofs.StartCounts.{few_held}
-use Rattle.vector_emit.specs.VectorCode.{any_lane, times, words_by, passes_most, passes_by, passes_code}
+use Rattle.vector_emit.specs.VectorCode.{any_lane, is_long, turn_passes, times, words_by, passes_most, passes_by, passes_code}
 use Rattle.vector_emit.proofs.PassSizes.{chunk_few, iteration_few, plain_few}
 
 size-puts : (is : List Listed) (rest : List DraftEntry) → size (puts is rest) ≡ length is + size rest
@@ -32,6 +32,10 @@ size-puts (i ∷ is) rest = let more = size-puts is rest in omega (arith, more)
 size-times : (t : ℕ) (is : List Listed) (rest : List DraftEntry) → size (times t is rest) ≡ t * length is + size rest
 size-times zero is rest = omega arith
 size-times (suc t) is rest = let p = size-puts is (times t is rest) in let more = size-times t is rest in omega (arith, p, more)
+
+turn_few : (long : Bool) (n : ℕ) → turn_passes long * n ≤ 4 * n
+turn_few true n = omega arith
+turn_few false n = omega arith
 
 passes_few : (c : Bool) (k : Program) (a b : Assignment) (items : List Item) (n : ℕ) (rest : List DraftEntry) → size (passes_by c k a b items n rest) ≤ words_by c (items_steps c items + around_steps c) + size rest
 passes_few true k a b items n rest =
@@ -50,8 +54,9 @@ passes_few false k a b items n rest =
     let x = plain_few w l items in
     let last : List DraftEntry = Put (lanes_word w (bound_place k)) ∷ Branch (If 1) n ∷ Place (suc n) ∷ rest in
     let p = size-puts (plain_words w l items) last in
-    let q = size-times 4 (plain_words w l items) (ins subs (31 ∷ 9 ∷ 0 ∷ 8 ∷ 0 ∷ []) ∷ Branch (If 9) (suc (suc n)) ∷ Put (lanes_word w (bound_place k)) ∷ Branch (If 0) (suc n) ∷ Place n ∷ puts (plain_words w l items) last) in
-    omega (arith, x, p, q)
+    let q = size-times (turn_passes (is_long items)) (plain_words w l items) (ins subs (31 ∷ 9 ∷ 0 ∷ 8 ∷ 0 ∷ []) ∷ Branch (If 9) (suc (suc n)) ∷ Put (lanes_word w (bound_place k)) ∷ Branch (If 0) (suc n) ∷ Place n ∷ puts (plain_words w l items) last) in
+    let t = turn_few (is_long items) (length (plain_words w l items)) in
+    omega (arith, x, p, q, t)
 
 -- so many words more
 pub passes_appended : (k : Program) (a b : Assignment) (n : ℕ) (old new : List DraftEntry) → new ++ [] ≡ old ++ passes_code k a b n [] → size new ≤ size old + passes_most k

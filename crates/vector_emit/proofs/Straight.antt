@@ -1,6 +1,6 @@
--- The passes of a loop without a break: all lanes of a chunk come through, and WHILELO takes those of the next one. While four
--- whole chunks are left, P0 serves four passes.
-use Rattle.std.proofs.Common.{◌≡◌, ◌≢◌, ℕ, zero, suc, ◌+◌, ◌-◌, ◌*◌, ◌^◌, ◌<◌, ◌≤◌, inl, Bool, false, List, [], ◌∷◌, length, sym, ap, ◌∙◌, subst, arith, ⊎_elim}
+-- The passes of a loop without a break: all lanes of a chunk come through, and WHILELO takes those of the next one. While the whole
+-- chunks of a turn are left, P0 serves its passes.
+use Rattle.std.proofs.Common.{◌≡◌, ◌≢◌, ℕ, zero, suc, ◌+◌, ◌-◌, ◌*◌, ◌^◌, ◌<◌, ◌≤◌, inl, Bool, true, false, List, [], ◌∷◌, length, sym, ap, ◌∙◌, subst, arith, ⊎_elim}
 use Rattle.std.specs.Prelude.{ℤ, slice_index}
 use Rattle.std.specs.List.{list_any}
 use Rattle.std.proofs.lemmas.Bool.{cases_lt}
@@ -28,14 +28,14 @@ use Rattle.chunk_pass.specs.Chunks.{items_of}
 use Rattle.chunk_pass.specs.PassCode.{lanes_word, plain_words}
 use Rattle.chunk_pass.specs.Passes.{lanes_at, Passes, comes, stops}
 use Rattle.chunk_pass.proofs.PassLaws.{plain_law}
-use Rattle.vector_emit.specs.VectorCode.{count_word, times, straight_code}
+use Rattle.vector_emit.specs.VectorCode.{count_word, is_long, turn_passes, turn_shift, times, straight_code}
 use Rattle.vector_emit.proofs.PassLoop.{Passing, pays_lanes, pays_two, pays_last, leaves_here, stops_here, passes_on}
 use Rattle.vector_emit.proofs.KernelPassLoop.{loop_of, stop_of, has_lanes, head_at, Longer, following_goes}
 use Rattle.vector_emit.proofs.PassSizes.{plain_fits}
 use Rattle.vector_emit.proofs.While.{Taken, while_ends, while_begins, while_over, while_back}
 use Rattle.vector_emit.proofs.Tests.{Tests, limit_small}
 use Rattle.vector_emit.proofs.Grounds.{from_x, aside_same, ground_at, same_at, head_from}
-use Rattle.vector_emit.proofs.Turns.{few_left, four_left, turn_back, turn_over}
+use Rattle.vector_emit.proofs.Turns.{few_left, turn_left, turn_back, turn_over}
 use Rattle.vector_emit.proofs.Labels.{following_puts}
 
 -- The words lead to entries from which the passes run, as those of a ground that has the registers of that state.
@@ -47,6 +47,11 @@ pub record Enters (g : Ground) (b : Bool) (d : Laid) (rest c : List DraftEntry) 
   pub state : State
   pub goes : Goes d c s head state (2 + turning_steps b)
   pub passing : Passing (loop_of (from_x g x) b d rest) head state 0 cur m
+
+-- a turn has a chunk at least
+turn_more : (long : Bool) (L : ℕ) → L ≤ turn_passes long * L
+turn_more true L = omega arith
+turn_more false L = omega arith
 
 following_times : (d : Laid) (t : ℕ) (is : List Listed) (rest : List DraftEntry) → Resolves d (times t is rest) → Resolves d rest
 following_times d zero is rest h = h
@@ -126,8 +131,15 @@ module _ (g : Ground) (ground : IsGround g) (breaks_loop : list_any is_loop_brea
   abbrev words : List Listed
   words = plain_words (width g) (layout g) (items_of g)
 
+  abbrev long : Bool
+  long = is_long (items_of g)
+
   abbrev turn : List DraftEntry
-  turn = times 4 words ending
+  turn = times (turn_passes long) words ending
+
+  -- the iterations of a turn
+  abbrev turn_lanes : ℕ
+  turn_lanes = turn_passes long * most_lanes g
 
   -- a pass over a whole chunk: it stops, or leads before the next one
   data Whole (i : ℕ) (cur : Names) (m : Memory) (s : State) (es : List DraftEntry) : Type 0 where
@@ -187,16 +199,25 @@ module _ (g : Ground) (ground : IsGround g) (breaks_loop : list_any is_loop_brea
       lead_on i cur m s (times (suc (suc t)) words ending) (whole_pass i cur m sum s (times (suc (suc t)) words ending) (omega (arith, room)) h top)
       (λ now names sum1 end h1 top1. whole_passes t bottom (i + most_lanes g) names now sum1 end (omega (arith, low)) (omega (arith, room)) h1 top1 go)
 
-  -- X8 holds the last iteration from which four chunks are left
-  module _ (back : following d n ≡ head) (out : following d (suc n) ≡ rest) (again : following d (suc (suc n)) ≡ turn) (eight : slice_index g.x 8 ≡ difference (limit g) (4 * most_lanes g)) (four : 4 * most_lanes g ≤ limit g) where
-    eight_is : slice_index g.x 8 ≡ limit g - 4 * most_lanes g
-    eight_is = let some = has_lanes g ground in let small = limit_small g in eight ∙ (let e : difference (limit g) (4 * most_lanes g) ≡ limit g - 4 * most_lanes g = omega (arith, some, small, four) in e)
+  -- the passes of a turn
+  turn_runs : (l : Bool) (bottom i : ℕ) (cur : Names) (m : Memory) (sum : List ℕ → ℕ → ℤ) (s : State) → bottom ≤ i → i + turn_passes l * most_lanes g ≤ limit g → AtHead g i cur m sum s → IsTop (width g) (most_lanes g) (p_at s 0)
+      → ((i : ℕ) (cur : Names) (m : Memory) (sum : List ℕ → ℕ → ℤ) (s : State) → bottom < i → AtHead g i cur m sum s → IsTop (width g) (most_lanes g) (p_at s 0) → Continues i cur m s) → Runs (times (turn_passes l) words ending) i cur m s
+  turn_runs true bottom i cur m sum s low room h top go = whole_passes 0 bottom i cur m sum s low room h top go
+  turn_runs false bottom i cur m sum s low room h top go = whole_passes 2 bottom i cur m sum s low room h top go
+
+  -- X8 holds the last iteration from which the chunks of a turn are left
+  module _ (back : following d n ≡ head) (out : following d (suc n) ≡ rest) (again : following d (suc (suc n)) ≡ turn) (eight : slice_index g.x 8 ≡ difference (limit g) turn_lanes) (all_left : turn_lanes ≤ limit g) where
+    eight_is : slice_index g.x 8 ≡ limit g - turn_lanes
+    eight_is = eight ∙ less_is turn_lanes (limit_small g) all_left
+      where
+        less_is : (t : ℕ) → limit g < 2 ^ 64 → t ≤ limit g → difference (limit g) t ≡ limit g - t
+        less_is t small le = omega (arith, small, le)
 
     eight_small : slice_index g.x 8 < 2 ^ 64
     eight_small = let e = eight_is in let small = limit_small g in omega (arith, e, small)
 
     abbrev Turning : ℕ → Type 0
-    Turning fuel = (i : ℕ) (cur : Names) (m : Memory) (sum : List ℕ → ℕ → ℤ) (s : State) → limit g < i + fuel → i + 4 * most_lanes g ≤ limit g → AtHead g i cur m sum s → IsTop (width g) (most_lanes g) (p_at s 0) → Runs turn i cur m s
+    Turning fuel = (i : ℕ) (cur : Names) (m : Memory) (sum : List ℕ → ℕ → ℤ) (s : State) → limit g < i + fuel → i + turn_lanes ≤ limit g → AtHead g i cur m sum s → IsTop (width g) (most_lanes g) (p_at s 0) → Runs turn i cur m s
 
     -- after the passes of a turn
     ends_turn : (fuel i : ℕ) (cur : Names) (m : Memory) (sum : List ℕ → ℕ → ℤ) (s : State) → limit g < i + fuel → Turning fuel → AtHead g i cur m sum s → IsTop (width g) (most_lanes g) (p_at s 0) → Continues i cur m s
@@ -210,7 +231,7 @@ module _ (g : Ground) (ground : IsGround g) (breaks_loop : list_any is_loop_brea
               to = turn;
               end = x.end;
               goes = go_more 4 (omega arith) (subst (λ es. Goes d ending s es x.end 2) again x.goes);
-              passing = ih i cur m sum x.end less (omega (arith, le, e, four)) x.head (subst (IsTop (width g) (most_lanes g)) (sym x.p) top);
+              passing = ih i cur m sum x.end less (omega (arith, le, e, all_left)) x.head (subst (IsTop (width g) (most_lanes g)) (sym x.p) top);
             }
 
         over : slice_index g.x 8 < i → Continues i cur m s
@@ -241,7 +262,7 @@ module _ (g : Ground) (ground : IsGround g) (breaks_loop : list_any is_loop_brea
     turning : (fuel : ℕ) → Turning fuel
     turning zero i cur m sum s less room h top = absurd (omega (arith, less, room))
     turning (suc fuel) i cur m sum s less room h top =
-        whole_passes 2 i i cur m sum s (omega arith) (omega (arith, room)) h top (λ j cur2 m2 sum2 s2 lt h2 top2. ends_turn fuel j cur2 m2 sum2 s2 (omega (arith, less, lt)) (turning fuel) h2 top2)
+        turn_runs long i i cur m sum s (omega arith) room h top (λ j cur2 m2 sum2 s2 lt h2 top2. ends_turn fuel j cur2 m2 sum2 s2 (omega (arith, less, lt)) (turning fuel) h2 top2)
 
 -- ---- from the first iteration on
 
@@ -252,8 +273,11 @@ module _ (g : Ground) (ground : IsGround g) (breaks_loop : list_any is_loop_brea
   abbrev first_pass : List DraftEntry
   first_pass = head g ground breaks_loop d n rest
 
+  abbrev by : Bool
+  by = is_long (items_of g)
+
   abbrev turns : List DraftEntry
-  turns = Put (count_word (width g)) ∷ ins subs (8 ∷ bound_place g.kernel ∷ 2 ∷ 8 ∷ 0 ∷ []) ∷ Branch (If 3) n ∷ Place (suc (suc n)) ∷ turn g ground breaks_loop d n rest
+  turns = Put (count_word (width g)) ∷ ins subs (8 ∷ bound_place g.kernel ∷ turn_shift by ∷ 8 ∷ 0 ∷ []) ∷ Branch (If 3) n ∷ Place (suc (suc n)) ∷ turn g ground breaks_loop d n rest
 
   module _ (back : following d n ≡ first_pass) (out : following d (suc n) ≡ rest) (again : following d (suc (suc n)) ≡ turn g ground breaks_loop d n rest) {sum : List ℕ → ℕ → ℤ} {cur : Names} {m : Memory} {s : State} (h : AtHead g 0 cur m sum s) where
     enters_with_no_lanes : limit g ≤ 0 → Enters g false d rest whole s cur m
@@ -274,11 +298,11 @@ module _ (g : Ground) (ground : IsGround g) (breaks_loop : list_any is_loop_brea
     enters_with_some_lanes : 0 < limit g → Enters g false d rest whole s cur m
     enters_with_some_lanes lt =
         let x = while_begins d s (suc n) turns ground h lt in
-        ⊎_elim (few x) (many x) (cases_lt (limit g) (4 * most_lanes g))
+        ⊎_elim (few x) (many x) (cases_lt (limit g) (turn_passes by * most_lanes g))
       where
-        few : Taken g 0 cur m sum d whole s turns 2 → limit g < 4 * most_lanes g → Enters g false d rest whole s cur m
+        few : Taken g 0 cur m sum d whole s turns 2 → limit g < turn_passes by * most_lanes g → Enters g false d rest whole s cur m
         few x less =
-            let y = few_left d x.end n (Place (suc (suc n)) ∷ turn g ground breaks_loop d n rest) ground x.head less in
+            let y = few_left d x.end by n (Place (suc (suc n)) ∷ turn g ground breaks_loop d n rest) ground x.head less in
             record {
               x = y.x;
               ground = y.ground;
@@ -289,10 +313,11 @@ module _ (g : Ground) (ground : IsGround g) (breaks_loop : list_any is_loop_brea
               passing = follows (from_x g y.x) y.ground breaks_loop d n rest back out (suc (limit g)) 0 cur m sum y.end (omega arith) y.head lt (subst (IsTop (width g) (lanes_at g 0)) (sym y.p) x.top);
             }
 
-        many : Taken g 0 cur m sum d whole s turns 2 → 4 * most_lanes g ≤ limit g → Enters g false d rest whole s cur m
-        many x four =
-            let y = four_left d x.end n (Place (suc (suc n)) ∷ turn g ground breaks_loop d n rest) ground x.head four in
-            let all : lanes_at g 0 ≡ most_lanes g = omega (arith, four) in
+        many : Taken g 0 cur m sum d whole s turns 2 → turn_passes by * most_lanes g ≤ limit g → Enters g false d rest whole s cur m
+        many x le =
+            let y = turn_left d x.end by n (Place (suc (suc n)) ∷ turn g ground breaks_loop d n rest) ground x.head le in
+            let one = turn_more by (most_lanes g) in
+            let all : lanes_at g 0 ≡ most_lanes g = omega (arith, le, one) in
             record {
               x = y.x;
               ground = y.ground;
@@ -300,7 +325,7 @@ module _ (g : Ground) (ground : IsGround g) (breaks_loop : list_any is_loop_brea
               head = turn g ground breaks_loop d n rest;
               state = y.end;
               goes = chain 5 (omega arith) x.goes (chain 3 (omega arith) y.goes pass);
-              passing = turning (from_x g y.x) y.ground breaks_loop d n rest back out again y.eight four (suc (limit g)) 0 cur m sum y.end (omega arith) (omega (arith, four)) y.head
+              passing = turning (from_x g y.x) y.ground breaks_loop d n rest back out again y.eight le (suc (limit g)) 0 cur m sum y.end (omega arith) (omega (arith, le)) y.head
                   (subst (λ k. IsTop (width g) k (p_at y.end 0)) all (subst (IsTop (width g) (lanes_at g 0)) (sym y.p) x.top));
             }
 
@@ -309,6 +334,6 @@ module _ (g : Ground) (ground : IsGround g) (breaks_loop : list_any is_loop_brea
 
   pub straight_runs : {sum : List ℕ → ℕ → ℤ} {cur : Names} {m : Memory} {s : State} → Resolves d whole → AtHead g 0 cur m sum s → Enters g false d rest whole s cur m
   straight_runs res h =
-      let turned = following_times d 4 (plain_words (width g) (layout g) (items_of g)) _ res.1 in
+      let turned = following_times d (turn_passes by) (plain_words (width g) (layout g) (items_of g)) _ res.1 in
       let done = following_puts d (plain_words (width g) (layout g) (items_of g)) _ turned.1 in
       enter turned.0 done.0 res.0 h

@@ -1,7 +1,7 @@
 -- The vector code of a kernel's loop. Without a break its test stands at the end of a pass, and while four whole chunks are
--- left, four passes are done before a test; with one, a pass may begin with no lane, and where none came through a chunk, one
+-- left, four passes are done before a test, or two where a pass is long; with one, a pass may begin with no lane, and where none came through a chunk, one
 -- iteration is done by itself.
-use Rattle.std.specs.Prelude.{ℕ, zero, suc, ◌+◌, ◌*◌, List, [], ◌∷◌, Bool, true, false}
+use Rattle.std.specs.Prelude.{ℕ, zero, suc, ◌+◌, ◌*◌, List, [], ◌∷◌, length, Bool, true, false, nat_lt}
 use Rattle.std.specs.List.{list_any}
 use Rattle.guest_types.specs.declared.length.Width.{Width}
 use Rattle.guest_types.specs.declared.length.Width.TheVariants.{B, H, S, D}
@@ -38,6 +38,19 @@ count_name D = cntd
 abbrev pub count_word : Width → Listed
 count_word w = Vector (word (count_name w) (turn_limit ∷ []))
 
+-- A turn has four passes, or two where the loop has more than 32 items: so the words of a long pass do not stand in a file five times.
+abbrev pub is_long : List Item → Bool
+is_long items = nat_lt 32 (length items)
+
+abbrev pub turn_passes : (long : Bool) → ℕ
+turn_passes true = 2
+turn_passes false = 4
+
+-- the logarithm of this
+abbrev pub turn_shift : (long : Bool) → ℕ
+turn_shift true = 1
+turn_shift false = 2
+
 -- so many passes one after another
 abbrev pub times : ℕ → List Listed → List DraftEntry → List DraftEntry
 times zero is rest = rest
@@ -50,13 +63,13 @@ breaking_code k a b items n rest =
     (Put any_lane ∷ Branch (If conditions.ne) n ∷ ins subs (xzr ∷ iteration ∷ 0 ∷ bound_place k ∷ 0 ∷ []) ∷ Branch (If conditions.hs) (suc n)
     ∷ puts (iteration_words (lane_width_of k) (layout_of_loop k a b) items) (Put any_lane ∷ Branch (If conditions.ne) n ∷ Place (suc n) ∷ rest))
 
--- Without a break, and so with some lanes in P0: X8 = n - 4 * L for a bound n and chunks of L lanes, and where four chunks are
--- there, turns of four passes while X9 is no greater; then the lanes that are left. Label n is where they are in P0, the next one
+-- Without a break, and so with some lanes in P0: X8 = n - t * L for a bound n, turns of t passes and chunks of L lanes, and where so
+-- many chunks are there, turns while X9 is no greater; then the lanes that are left. Label n is where they are in P0, the next one
 -- after the loop, and the one after it before a turn.
 abbrev pub turns_code : Program → (a b : Assignment) → List Item → (n : ℕ) → List DraftEntry → List DraftEntry
 turns_code k a b items n rest =
-    Put (count_word (lane_width_of k)) ∷ ins subs (turn_limit ∷ bound_place k ∷ 2 ∷ turn_limit ∷ 0 ∷ []) ∷ Branch (If conditions.lo) n
-    ∷ Place (suc (suc n)) ∷ times 4 (plain_words (lane_width_of k) (layout_of_loop k a b) items)
+    Put (count_word (lane_width_of k)) ∷ ins subs (turn_limit ∷ bound_place k ∷ turn_shift (is_long items) ∷ turn_limit ∷ 0 ∷ []) ∷ Branch (If conditions.lo) n
+    ∷ Place (suc (suc n)) ∷ times (turn_passes (is_long items)) (plain_words (lane_width_of k) (layout_of_loop k a b) items)
     (ins subs (xzr ∷ iteration ∷ 0 ∷ turn_limit ∷ 0 ∷ []) ∷ Branch (If conditions.ls) (suc (suc n)) ∷ Put (lanes_word (lane_width_of k) (bound_place k)) ∷ Branch (If conditions.eq) (suc n) ∷ rest)
 
 -- turns, and then a pass at a time

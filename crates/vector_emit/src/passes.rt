@@ -62,15 +62,34 @@ fn count(width: Width) -> Word
     Word::V(Sve::ElementCount { op, rd: TURN_LIMIT })
 }
 
-// X8, the last iteration from which four chunks are left.
-fn limit(bound: Reg) -> Word
-    ensures { plain.Put (word_view result) ≡ ins subs (turn_limit ∷ bound.number ∷ 2 ∷ turn_limit ∷ 0 ∷ []) }
+// Whether a loop has so many items that a turn has two passes.
+fn is_long(items: &[LoopItem<'_>]) -> bool
+    ensures { result ≡ code.is_long (view items.now) }
+{
+    32 < items.len()
+}
+
+// The logarithm of the number of passes of a turn.
+fn turn_shift(long: bool) -> Bits<6>
+    ensures { result.number ≡ code.turn_shift long }
+{
+    if long {
+        Bits { number: 1 }
+    } else {
+        Bits { number: 2 }
+    }
+}
+
+// X8, the last iteration from which the chunks of a turn are left.
+fn limit(bound: Reg, long: bool) -> Word
+    ensures { let shift = code.turn_shift long in
+        plain.Put (word_view result) ≡ ins subs (turn_limit ∷ bound.number ∷ shift ∷ turn_limit ∷ 0 ∷ []) }
 {
     Word::A(A64::AddSubShifted {
         op: AddSubOp::Subs,
         rd: TURN_LIMIT,
         rn: bound,
-        imm6: Bits { number: 2 },
+        imm6: turn_shift(long),
         rm: TURN_LIMIT,
         shift: AddSubShift::Lsl,
     })
@@ -123,8 +142,8 @@ fn emit_iteration_part(
     draft.place(end)
 }
 
-// The passes of a turn.
-fn emit_four(
+// Two passes.
+fn emit_two(
     alloc: Global,
     layout: &LoopLayout<'_>,
     items: &[LoopItem<'_>],
@@ -132,12 +151,29 @@ fn emit_four(
 ) -> Result<(), AllocError>
     requires writable { AreWritable (width_in layout.now) (view items.now) }
     ensures { let words = plain_words (width_in layout.now) (layout_in layout.now) (view items.now) in
-        OnOk result (Emits draft.old draft.new draft.old.labels (code.times 4 words)) }
+        OnOk result (Emits draft.old draft.new draft.old.labels (code.times 2 words)) }
 {
     emit_plain(alloc, layout, items, draft)?;
-    emit_plain(alloc, layout, items, draft)?;
-    emit_plain(alloc, layout, items, draft)?;
     emit_plain(alloc, layout, items, draft)
+}
+
+// The passes of a turn.
+fn emit_turn(
+    alloc: Global,
+    layout: &LoopLayout<'_>,
+    items: &[LoopItem<'_>],
+    long: bool,
+    draft: &mut Draft,
+) -> Result<(), AllocError>
+    requires writable { AreWritable (width_in layout.now) (view items.now) }
+    ensures { let words = plain_words (width_in layout.now) (layout_in layout.now) (view items.now) in
+        OnOk result (Emits draft.old draft.new draft.old.labels (code.times (code.turn_passes long) words)) }
+{
+    if long {
+        return emit_two(alloc, layout, items, draft);
+    }
+    emit_two(alloc, layout, items, draft)?;
+    emit_two(alloc, layout, items, draft)
 }
 
 // The turns of a loop without a break.
@@ -146,6 +182,7 @@ fn emit_turns_part(
     layout: &LoopLayout<'_>,
     bound: Reg,
     items: &[LoopItem<'_>],
+    long: bool,
     head: Label,
     end: Label,
     turn: Label,
@@ -155,14 +192,14 @@ fn emit_turns_part(
     requires head { head < draft.old.labels }
     requires end { end < draft.old.labels }
     requires turn { turn < draft.old.labels }
-    ensures { let part = parts.turns_part (width_in layout.now) (layout_in layout.now) bound.number in
+    ensures { let part = parts.turns_part (width_in layout.now) (layout_in layout.now) long bound.number in
         OnOk result (Emits draft.old draft.new draft.old.labels (part (view items.now) head end turn)) }
 {
     draft.put(count(layout.width()))?;
-    draft.put(limit(bound))?;
+    draft.put(limit(bound, long))?;
     draft.branch(BranchKind::If(Cond::Lo), head)?;
     draft.place(turn)?;
-    emit_four(alloc, layout, items, draft)?;
+    emit_turn(alloc, layout, items, long, draft)?;
     draft.put(compare_iteration(TURN_LIMIT))?;
     draft.branch(BranchKind::If(Cond::Ls), turn)?;
     draft.put(lanes(layout.width(), bound))?;
@@ -230,9 +267,10 @@ fn emit_straight(
     let head = draft.label()?;
     let end = draft.label()?;
     let turn = draft.label()?;
+    let long = is_long(items);
     draft.put(lanes(layout.width(), bound))?;
     draft.branch(BranchKind::If(Cond::Eq), end)?;
-    emit_turns_part(alloc, layout, bound, items, head, end, turn, draft)?;
+    emit_turns_part(alloc, layout, bound, items, long, head, end, turn, draft)?;
     emit_plain_part(alloc, layout, bound, items, head, end, draft)
 }
 
