@@ -1,9 +1,9 @@
 //! Loading a file as an image.
 
-ghost use Rattle.std.specs.Prelude.{◌≡◌, ◌%◌, ◌<◌, length, nat_eq, if◌then◌else◌, IfOk, IfErr, Ok, Err};
-ghost use Rattle.machine_model.specs.Load.{load, code_end_of};
+ghost use Rattle.std.specs.Prelude.{◌≡◌, ◌%◌, ◌<◌, length, nat_eq, false, if◌then◌else◌, IfOk, IfErr, Ok, Err};
+ghost use Rattle.machine_model.specs.Load.{load, code_end_of, in_order};
 ghost use Rattle.elf_image.specs.Loaded.{Refuses, plain};
-ghost use Rattle.elf_image.specs.Loadable.{AllLoadable, placed};
+ghost use Rattle.elf_image.specs.Loadable.{AllLoadable, meets_from, placed};
 
 use crate::header::FileHeader;
 use crate::order::{any_meet, in_order};
@@ -38,8 +38,32 @@ fn code_from(code_end: u64, entry: u64) -> u64
     if code_end == 0 { 0 } else { entry }
 }
 
-// The image of segments that are loaded, unless they clash.
-fn image(
+// The image of segments that are loaded, with the same in order, of which none meet.
+fn laid(
+    alloc: Global,
+    bytes: &[u8],
+    entry: u64,
+    loaded: &[ProgramHeader],
+    segments: &[ProgramHeader],
+) -> Result<Image, ElfFault>
+    requires loadable { AllLoadable (length bytes.now) loaded.now }
+    requires order { segments.now ≡ in_order loaded.now }
+    requires apart { meets_from 0 segments.now ≡ false }
+    ensures image { IfOk result (λ image. placed bytes.now entry loaded.now ≡ Ok (plain image)) }
+    ensures refusal { IfErr result (λ fault. Refuses (placed bytes.now entry loaded.now) fault) }
+{
+    let pages = pages_of_all(alloc, bytes, segments).map_err(|_| ElfFault::Memory)?;
+    let code_end = code_end(loaded, bytes.len(), entry);
+    Ok(Image {
+        entry,
+        code_from: code_from(code_end, entry),
+        code_end,
+        pages,
+    })
+}
+
+// The same of segments that are not in order, unless they clash.
+fn image_in_order(
     alloc: Global,
     bytes: &[u8],
     entry: u64,
@@ -53,14 +77,24 @@ fn image(
     if any_meet(&segments) {
         return Err(ElfFault::SegmentsClash);
     }
-    let pages = pages_of_all(alloc, bytes, &segments).map_err(|_| ElfFault::Memory)?;
-    let code_end = code_end(loaded, bytes.len(), entry);
-    Ok(Image {
-        entry,
-        code_from: code_from(code_end, entry),
-        code_end,
-        pages,
-    })
+    laid(alloc, bytes, entry, loaded, &segments)
+}
+
+// The image of segments that are loaded, unless they clash. Those of most files are in order as they stand.
+fn image(
+    alloc: Global,
+    bytes: &[u8],
+    entry: u64,
+    loaded: &[ProgramHeader],
+) -> Result<Image, ElfFault>
+    requires { AllLoadable (length bytes.now) loaded.now }
+    ensures image { IfOk result (λ image. placed bytes.now entry loaded.now ≡ Ok (plain image)) }
+    ensures refusal { IfErr result (λ fault. Refuses (placed bytes.now entry loaded.now) fault) }
+{
+    if any_meet(loaded) {
+        return image_in_order(alloc, bytes, entry, loaded);
+    }
+    laid(alloc, bytes, entry, loaded, loaded)
 }
 
 /// The image of an ELF64 file of a static AArch64 program, or the first fault that calls for a refusal.
