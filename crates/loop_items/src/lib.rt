@@ -1,6 +1,7 @@
 //! What the items of a loop do.
 #![tactic(auto)]
 
+mod context;
 mod listed;
 mod loop_list;
 mod loop_names;

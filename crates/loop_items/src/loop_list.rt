@@ -6,6 +6,7 @@ ghost use Rattle.kernel_tree.specs.Checked.{kernel_of};
 ghost use Rattle.loop_form.specs.LoopItems.{loop_items_of};
 ghost use Rattle.loop_form.specs.LoopView.{view};
 
+use crate::context::Context;
 use crate::listed::Listed;
 use crate::loop_names::loop_names;
 use crate::loop_statements::list_block;
@@ -31,14 +32,12 @@ pub fn loop_items(alloc: Global, kernel: &Checked) -> Result<Vec<LoopItem<'_>>, 
     if let Some(for_loop) = &tree.body {
         let start = tree.params.len() as u32 + vars_size_of(kernel, &tree.vars);
         let mut names = loop_names(alloc, kernel, for_loop)?;
-        list_block(
+        let at = Context {
             kernel,
-            &mut names,
-            &mut listed,
-            None,
-            start + 1,
-            &for_loop.body,
-        );
+            mask: None,
+            from: start + 1,
+        };
+        list_block(at, &mut names, &mut listed, &for_loop.body);
     }
     if listed.short {
         return Err(AllocError);

@@ -7,6 +7,7 @@ ghost use Rattle.loop_form.specs.LoopView.{AppendsBreak, AppendsAction, AppendsB
 ghost use Rattle.loop_form.specs.Near.{NearTerm, NearAction, NearBlock};
 ghost use Rattle.loop_form.specs.View.{program};
 
+use crate::context::Context;
 use crate::listed::Listed;
 use crate::loop_values::{append, list_operand, list_truth};
 use crate::visible::{accumulator_type_of, array_type_of, first_type, operand_of, own_type};
@@ -18,52 +19,48 @@ use loop_form::{LoopOp, Operand, offset};
 
 // A `let`, whose name plays no part in its items, so that none stands for any: its value, and the `let`.
 fn list_let<'a>(
-    kernel: &Checked,
+    at: Context<'_>,
     names: &[Visible<'a>],
     listed: &mut Listed<'a>,
-    mask: Option<u32>,
-    from: u32,
     ty: Option<Ty>,
     value: &'a Expr,
 )
-    requires fits { from + (term_size (loop_index (program kernel.now)) (term_of value.now) + 1) ≤ 1000 }
-    requires near { NearTerm (loop_index (program kernel.now)) (term_of value.now) }
+    requires fits { at.from + (term_size (loop_index (program at.kernel.now)) (term_of value.now) + 1) ≤ 1000 }
+    requires near { NearTerm (loop_index (program at.kernel.now)) (term_of value.now) }
     ensures kept { listed.new.short ≡ false → listed.old.short ≡ false }
-    ensures items { listed.new.short ≡ false → AppendsAction (loop_index (program kernel.now)) names.now
-        mask from (Define [] ty (term_of value.now)) listed.old.items.items listed.new.items.items }
+    ensures items { listed.new.short ≡ false → AppendsAction (loop_index (program at.entry.kernel.now)) names.now
+        at.entry.mask at.entry.from (Define [] ty (term_of value.now)) listed.old.items.items listed.new.items.items }
 {
     let want = first_type(ty, own_type(names, value));
     let op = LoopOp::Let {
         ty: want,
-        arg: list_operand(kernel, names, listed, want, mask, from, value),
+        arg: list_operand(at, names, listed, want, value),
     };
-    append(listed, from + expr_size(kernel, value), mask, op);
+    append(listed, at.from + expr_size(at.kernel, value), at.mask, op);
 }
 
 // A store: its value, and the store.
 fn list_store<'a>(
-    kernel: &Checked,
+    at: Context<'_>,
     names: &[Visible<'a>],
     listed: &mut Listed<'a>,
-    mask: Option<u32>,
-    from: u32,
     array: &'a Name,
     index: &'a Expr,
     value: &'a Expr,
 )
-    requires fits { from + action_size (loop_index (program kernel.now))
+    requires fits { at.from + action_size (loop_index (program at.kernel.now))
         (Put (name_of array.now) (term_of index.now) (term_of value.now)) ≤ 1000 }
-    requires near { NearAction (loop_index (program kernel.now))
+    requires near { NearAction (loop_index (program at.kernel.now))
         (Put (name_of array.now) (term_of index.now) (term_of value.now)) }
     ensures kept { listed.new.short ≡ false → listed.old.short ≡ false }
-    ensures items { listed.new.short ≡ false → AppendsAction (loop_index (program kernel.now)) names.now
-        mask from (Put (name_of array.now) (term_of index.now) (term_of value.now))
+    ensures items { listed.new.short ≡ false → AppendsAction (loop_index (program at.entry.kernel.now)) names.now
+        at.entry.mask at.entry.from (Put (name_of array.now) (term_of index.now) (term_of value.now))
         listed.old.items.items listed.new.items.items }
 {
     let array = array.text();
     let want = array_type_of(names, array);
-    let stored = list_operand(kernel, names, listed, want, mask, from, value);
-    if let Some(offset) = offset(kernel, index) {
+    let stored = list_operand(at, names, listed, want, value);
+    if let Some(offset) = offset(at.kernel, index) {
         let op = LoopOp::Store {
             array,
             base: operand_of(names, array),
@@ -71,26 +68,25 @@ fn list_store<'a>(
             offset,
             value: stored,
         };
-        append(listed, from + expr_size(kernel, value), mask, op);
+        append(listed, at.from + expr_size(at.kernel, value), at.mask, op);
     }
 }
 
 // An update: its value, and the update.
 fn list_update<'a>(
-    kernel: &Checked,
+    at: Context<'_>,
     names: &[Visible<'a>],
     listed: &mut Listed<'a>,
-    mask: Option<u32>,
-    from: u32,
     name: &'a Name,
     op: UpdateOp,
     value: &'a Expr,
 )
-    requires fits { from + (term_size (loop_index (program kernel.now)) (term_of value.now) + 1) ≤ 1000 }
-    requires near { NearTerm (loop_index (program kernel.now)) (term_of value.now) }
+    requires fits { at.from + (term_size (loop_index (program at.kernel.now)) (term_of value.now) + 1) ≤ 1000 }
+    requires near { NearTerm (loop_index (program at.kernel.now)) (term_of value.now) }
     ensures kept { listed.new.short ≡ false → listed.old.short ≡ false }
-    ensures items { listed.new.short ≡ false → AppendsAction (loop_index (program kernel.now)) names.now
-        mask from (Update (name_of name.now) op (term_of value.now)) listed.old.items.items listed.new.items.items }
+    ensures items { listed.new.short ≡ false → AppendsAction (loop_index (program at.entry.kernel.now)) names.now
+        at.entry.mask at.entry.from (Update (name_of name.now) op (term_of value.now))
+        listed.old.items.items listed.new.items.items }
 {
     let name = name.text();
     let want = accumulator_type_of(names, name);
@@ -98,147 +94,148 @@ fn list_update<'a>(
         name,
         op,
         ty: want,
-        value: list_operand(kernel, names, listed, want, mask, from, value),
+        value: list_operand(at, names, listed, want, value),
     };
-    append(listed, from + expr_size(kernel, value), mask, op);
+    append(listed, at.from + expr_size(at.kernel, value), at.mask, op);
 }
 
 // A break on one condition: the condition, and the break.
 fn list_one_break<'a>(
-    kernel: &Checked,
+    at: Context<'_>,
     names: &[Visible<'a>],
     listed: &mut Listed<'a>,
-    mask: Option<u32>,
-    from: u32,
     cond: &'a Expr,
 )
-    requires fits { from + (term_size (loop_index (program kernel.now)) (term_of cond.now) + 1) ≤ 1000 }
-    requires near { NearTerm (loop_index (program kernel.now)) (term_of cond.now) }
+    requires fits { at.from + (term_size (loop_index (program at.kernel.now)) (term_of cond.now) + 1) ≤ 1000 }
+    requires near { NearTerm (loop_index (program at.kernel.now)) (term_of cond.now) }
     ensures kept { listed.new.short ≡ false → listed.old.short ≡ false }
-    ensures items { listed.new.short ≡ false → AppendsBreak (loop_index (program kernel.now)) names.now
-        mask from (term_of cond.now) listed.old.items.items listed.new.items.items }
+    ensures items { listed.new.short ≡ false → AppendsBreak (loop_index (program at.entry.kernel.now)) names.now
+        at.entry.mask at.entry.from (term_of cond.now) listed.old.items.items listed.new.items.items }
 {
-    let op = LoopOp::Break(list_truth(kernel, names, listed, mask, from, cond));
-    append(listed, from + expr_size(kernel, cond), mask, op);
+    let op = LoopOp::Break(list_truth(at, names, listed, cond));
+    append(listed, at.from + expr_size(at.kernel, cond), at.mask, op);
 }
 
 // A `break`: one on the left side of a `||` and then one on the right side, or one on its condition.
-fn list_break<'a>(
-    kernel: &Checked,
-    names: &[Visible<'a>],
-    listed: &mut Listed<'a>,
-    mask: Option<u32>,
-    from: u32,
-    cond: &'a Expr,
-)
-    requires fits { from + (term_size (loop_index (program kernel.now)) (term_of cond.now) + 1) ≤ 1000 }
-    requires near { NearTerm (loop_index (program kernel.now)) (term_of cond.now) }
+fn list_break<'a>(at: Context<'_>, names: &[Visible<'a>], listed: &mut Listed<'a>, cond: &'a Expr)
+    requires fits { at.from + (term_size (loop_index (program at.kernel.now)) (term_of cond.now) + 1) ≤ 1000 }
+    requires near { NearTerm (loop_index (program at.kernel.now)) (term_of cond.now) }
     ensures kept { listed.new.short ≡ false → listed.old.short ≡ false }
-    ensures items { listed.new.short ≡ false → AppendsAction (loop_index (program kernel.now)) names.now
-        mask from (Leave (term_of cond.now)) listed.old.items.items listed.new.items.items }
+    ensures items { listed.new.short ≡ false → AppendsAction (loop_index (program at.entry.kernel.now)) names.now
+        at.entry.mask at.entry.from (Leave (term_of cond.now)) listed.old.items.items listed.new.items.items }
 {
     match cond {
         Expr::Or { left, right } => {
-            let next = from + expr_size(kernel, left) + 1;
-            list_break(kernel, names, listed, mask, from, left);
-            list_one_break(kernel, names, listed, mask, next, right);
+            let next = at.from + expr_size(at.kernel, left) + 1;
+            list_break(at, names, listed, left);
+            list_one_break(Context { from: next, ..at }, names, listed, right);
         }
-        _ => list_one_break(kernel, names, listed, mask, from, cond),
+        _ => list_one_break(at, names, listed, cond),
     }
 }
 
 // A statement; the names after it are not yet declared.
 #[cycle(loop_statements)]
 fn list_stmt<'a>(
-    kernel: &Checked,
+    at: Context<'_>,
     names: &mut Vec<Visible<'a>>,
     listed: &mut Listed<'a>,
-    mask: Option<u32>,
-    from: u32,
     stmt: &'a Stmt,
 )
-    requires fits { from + action_size (loop_index (program kernel.now)) (action_of stmt.now) ≤ 1000 }
-    requires near { NearAction (loop_index (program kernel.now)) (action_of stmt.now) }
+    requires fits { at.from + action_size (loop_index (program at.kernel.now)) (action_of stmt.now) ≤ 1000 }
+    requires near { NearAction (loop_index (program at.kernel.now)) (action_of stmt.now) }
     ensures names { names.new.items ≡ names.old.items }
     ensures kept { listed.new.short ≡ false → listed.old.short ≡ false }
-    ensures items { listed.new.short ≡ false → AppendsAction (loop_index (program kernel.now)) names.old.items
-        mask from (action_of stmt.now) listed.old.items.items listed.new.items.items }
+    ensures items { listed.new.short ≡ false → AppendsAction (loop_index (program at.entry.kernel.now)) names.old.items
+        at.entry.mask at.entry.from (action_of stmt.now) listed.old.items.items listed.new.items.items }
 {
     match parts(stmt) {
-        Part::Let { ty, value, .. } => list_let(kernel, names, listed, mask, from, ty, value),
+        Part::Let { ty, value, .. } => list_let(at, names, listed, ty, value),
         Part::Store {
             array,
             index,
             value,
-        } => list_store(kernel, names, listed, mask, from, array, index, value),
-        Part::Update { name, op, value } => {
-            list_update(kernel, names, listed, mask, from, name, op, value)
-        }
-        Part::If { cond, block } => list_if(kernel, names, listed, mask, from, cond, block),
-        Part::IfElse { cond, block, other } => {
-            list_if_else(kernel, names, listed, mask, from, cond, block, other)
-        }
-        Part::Break { cond } => list_break(kernel, names, listed, mask, from, cond),
+        } => list_store(at, names, listed, array, index, value),
+        Part::Update { name, op, value } => list_update(at, names, listed, name, op, value),
+        Part::If { cond, block } => list_if(at, names, listed, cond, block),
+        Part::IfElse { cond, block, other } => list_if_else(at, names, listed, cond, block, other),
+        Part::Break { cond } => list_break(at, names, listed, cond),
     }
 }
 
 #[cycle(loop_statements)]
 fn list_if<'a>(
-    kernel: &Checked,
+    at: Context<'_>,
     names: &mut Vec<Visible<'a>>,
     listed: &mut Listed<'a>,
-    mask: Option<u32>,
-    from: u32,
     cond: &'a Expr,
     block: &'a [Stmt],
 )
-    requires fits { from + action_size (loop_index (program kernel.now))
+    requires fits { at.from + action_size (loop_index (program at.kernel.now))
         (Choose (term_of cond.now) (block_of block.now) Nothing) ≤ 1000 }
-    requires near { NearAction (loop_index (program kernel.now))
+    requires near { NearAction (loop_index (program at.kernel.now))
         (Choose (term_of cond.now) (block_of block.now) Nothing) }
     ensures names { names.new.items ≡ names.old.items }
     ensures kept { listed.new.short ≡ false → listed.old.short ≡ false }
-    ensures items { listed.new.short ≡ false → AppendsAction (loop_index (program kernel.now)) names.old.items
-        mask from (Choose (term_of cond.now)
+    ensures items { listed.new.short ≡ false → AppendsAction (loop_index (program at.entry.kernel.now)) names.old.items
+        at.entry.mask at.entry.from (Choose (term_of cond.now)
         (block_of block.now) Nothing) listed.old.items.items listed.new.items.items }
 {
-    let inner = from + expr_size(kernel, cond) + 1;
-    let first = list_truth(kernel, names, listed, mask, from, cond);
-    list_inner(kernel, names, listed, Some(first), inner, block);
+    let inner = at.from + expr_size(at.kernel, cond) + 1;
+    let first = list_truth(at, names, listed, cond);
+    list_inner(
+        Context {
+            mask: Some(first),
+            from: inner,
+            ..at
+        },
+        names,
+        listed,
+        block,
+    );
 }
 
 #[cycle(loop_statements)]
 fn list_if_else<'a>(
-    kernel: &Checked,
+    at: Context<'_>,
     names: &mut Vec<Visible<'a>>,
     listed: &mut Listed<'a>,
-    mask: Option<u32>,
-    from: u32,
     cond: &'a Expr,
     block: &'a [Stmt],
     other: &'a [Stmt],
 )
-    requires fits { from + action_size (loop_index (program kernel.now))
+    requires fits { at.from + action_size (loop_index (program at.kernel.now))
         (Choose (term_of cond.now) (block_of block.now) (Else (block_of other.now))) ≤ 1000 }
-    requires near { NearAction (loop_index (program kernel.now))
+    requires near { NearAction (loop_index (program at.kernel.now))
         (Choose (term_of cond.now) (block_of block.now) (Else (block_of other.now))) }
     ensures names { names.new.items ≡ names.old.items }
     ensures kept { listed.new.short ≡ false → listed.old.short ≡ false }
-    ensures items { listed.new.short ≡ false → AppendsAction (loop_index (program kernel.now)) names.old.items
-        mask from (Choose (term_of cond.now) (block_of block.now)
+    ensures items { listed.new.short ≡ false → AppendsAction (loop_index (program at.entry.kernel.now)) names.old.items
+        at.entry.mask at.entry.from (Choose (term_of cond.now) (block_of block.now)
         (Else (block_of other.now))) listed.old.items.items listed.new.items.items }
 {
-    let inner = from + expr_size(kernel, cond) + 1;
-    let other_side = inner + statements_size(kernel, block);
-    let first = list_truth(kernel, names, listed, mask, from, cond);
-    list_inner(kernel, names, listed, Some(first), inner, block);
-    append(listed, other_side, mask, LoopOp::Not(first));
+    let inner = at.from + expr_size(at.kernel, cond) + 1;
+    let other_side = inner + statements_size(at.kernel, block);
+    let first = list_truth(at, names, listed, cond);
     list_inner(
-        kernel,
+        Context {
+            mask: Some(first),
+            from: inner,
+            ..at
+        },
         names,
         listed,
-        Some(other_side),
-        other_side + 1,
+        block,
+    );
+    append(listed, other_side, at.mask, LoopOp::Not(first));
+    list_inner(
+        Context {
+            mask: Some(other_side),
+            from: other_side + 1,
+            ..at
+        },
+        names,
+        listed,
         other,
     );
 }
@@ -246,49 +243,45 @@ fn list_if_else<'a>(
 // A block inside another, whose names end with it.
 #[cycle(loop_statements)]
 fn list_inner<'a>(
-    kernel: &Checked,
+    at: Context<'_>,
     names: &mut Vec<Visible<'a>>,
     listed: &mut Listed<'a>,
-    mask: Option<u32>,
-    from: u32,
     block: &'a [Stmt],
 )
-    requires fits { from + block_size (loop_index (program kernel.now)) (block_of block.now) ≤ 1000 }
-    requires near { NearBlock (loop_index (program kernel.now)) (block_of block.now) }
+    requires fits { at.from + block_size (loop_index (program at.kernel.now)) (block_of block.now) ≤ 1000 }
+    requires near { NearBlock (loop_index (program at.kernel.now)) (block_of block.now) }
     ensures names { names.new.items ≡ names.old.items }
     ensures kept { listed.new.short ≡ false → listed.old.short ≡ false }
-    ensures items { listed.new.short ≡ false → AppendsBlock (loop_index (program kernel.now)) names.old.items
-        mask from (block_of block.now) listed.old.items.items listed.new.items.items }
+    ensures items { listed.new.short ≡ false → AppendsBlock (loop_index (program at.entry.kernel.now)) names.old.items
+        at.entry.mask at.entry.from (block_of block.now) listed.old.items.items listed.new.items.items }
 {
     let outer = names.len();
-    list_block(kernel, names, listed, mask, from, block);
+    list_block(at, names, listed, block);
     names.truncate(outer);
 }
 
 /// Lists the statements of a block, whose names come after those that are visible.
 #[cycle(loop_statements)]
 pub fn list_block<'a>(
-    kernel: &Checked,
+    at: Context<'_>,
     names: &mut Vec<Visible<'a>>,
     listed: &mut Listed<'a>,
-    mask: Option<u32>,
-    from: u32,
     block: &'a [Stmt],
 )
-    requires fits { from + block_size (loop_index (program kernel.now)) (block_of block.now) ≤ 1000 }
-    requires near { NearBlock (loop_index (program kernel.now)) (block_of block.now) }
+    requires fits { at.from + block_size (loop_index (program at.kernel.now)) (block_of block.now) ≤ 1000 }
+    requires near { NearBlock (loop_index (program at.kernel.now)) (block_of block.now) }
     ensures names { take (length names.old.items) names.new.items ≡ names.old.items }
     ensures kept { listed.new.short ≡ false → listed.old.short ≡ false }
-    ensures items { listed.new.short ≡ false → AppendsBlock (loop_index (program kernel.now)) names.old.items
-        mask from (block_of block.now) listed.old.items.items listed.new.items.items }
+    ensures items { listed.new.short ≡ false → AppendsBlock (loop_index (program at.entry.kernel.now)) names.old.items
+        at.entry.mask at.entry.from (block_of block.now) listed.old.items.items listed.new.items.items }
 {
     let [stmt, rest @ ..] = block else {
         return;
     };
-    list_stmt(kernel, names, listed, mask, from, stmt);
-    declare(kernel, names, &mut listed.short, from, stmt);
-    let next = from + count_items(kernel, stmt);
-    list_block(kernel, names, listed, mask, next, rest);
+    list_stmt(at, names, listed, stmt);
+    declare(at.kernel, names, &mut listed.short, at.from, stmt);
+    let next = at.from + count_items(at.kernel, stmt);
+    list_block(Context { from: next, ..at }, names, listed, rest);
 }
 
 // The name that a statement declares.

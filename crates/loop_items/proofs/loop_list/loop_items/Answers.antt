@@ -59,7 +59,7 @@ overflow_add-start c =
     let start = started c.args.kernel.now c.kernel-tree.result.now c.kernel-tree.ensures c.len.result c.vars_size_of.result c.deref.result.now c.len.ensures c.vars_size_of.ensures c.deref.ensures.value in
     record { fits = omega (arith, start, c.few_items.ensures.size) }
 
-pub overflow_add-start-in-Some : goal.overflow_add-start-in-Some
-overflow_add-start-in-Some c =
+pub overflow_add-at : goal.overflow_add-at
+overflow_add-at c =
     let start = started c.args.kernel.now c.kernel-tree.result.now c.kernel-tree.ensures c.len.result c.vars_size_of.result c.deref.result.now c.len.ensures c.vars_size_of.ensures c.deref.ensures.value in
     record { fits = omega (arith, start, c.few_items.ensures.size) }
