@@ -19,16 +19,12 @@ use Rattle.machine_model.specs.Machine.{State, Step, Went, Ended, Stopped, x_at,
 use Rattle.machine_model.specs.OneStep.{does}
 use Rattle.machine_model.specs.VectorEffects.{vector_act, after_load, after_early, after_store, field_of}
 use Rattle.machine_model.proofs.ListedWords.{listed_spell}
-use Rattle.call_code.specs.Returning.{exit_word}
+use Rattle.promises.specs.OneExit.{exit_call, exit_word, is_svc}
 
 abbrev pub is_end : Step → Bool
 is_end (Went t) = false
 is_end (Ended r) = true
 is_end (Stopped kind pc at m) = false
-
-abbrev is_call : a64.Name → Bool
-is_call a64.svc = true
-is_call _ = false
 
 -- ---- A64
 
@@ -52,7 +48,7 @@ store_go s (Err fault) = refl
 store_on : (s : State) (d address size : ℕ) → is_end (store_from s d address size) ≡ false
 store_on s d address size = store_go s (stored s.memory address size (x_at s d))
 
-scalar_on : (n : a64.Name) (ns : List ℕ) (s : State) → is_call n ≡ false → is_end (act n ns s) ≡ false
+scalar_on : (n : a64.Name) (ns : List ℕ) (s : State) → is_svc n ≡ false → is_end (act n ns s) ≡ false
 scalar_on a64.svc ns s h = absurd cc
 scalar_on a64.ldrb ns s h = load_on s (arg ns 0) (at_offset 1 ns s) 1 as_it_is
 scalar_on a64.ldrsb ns s h = load_on s (arg ns 0) (at_offset 1 ns s) 1 from_byte
@@ -107,10 +103,6 @@ vector_on _ f s = refl
 
 -- ---- the exit call
 
--- SVC #0
-abbrev pub exit_call : Listed
-exit_call = Scalar (record { name = a64.svc; numbers = 0 ∷ [] })
-
 pub exit_listed : IsListed exit_call
 exit_listed = is_instruction _ (omega arith, tt) refl
 
@@ -133,12 +125,12 @@ call_ends (n ∷ []) s h e =
     ap (λ k. spells a64.row (record { name = a64.svc; numbers = k ∷ [] })) zero_at
 call_ends (n ∷ m ∷ ns) s h e = absurd h.1
 
-ends_by : (n : a64.Name) (ns : List ℕ) (s : State) → Fill (a64.row n).fields ns → (b : Bool) → is_call n ≡ b → is_end (act n ns s) ≡ true → spells a64.row (record { name = n; numbers = ns }) ≡ exit_word
+ends_by : (n : a64.Name) (ns : List ℕ) (s : State) → Fill (a64.row n).fields ns → (b : Bool) → is_svc n ≡ b → is_end (act n ns s) ≡ true → spells a64.row (record { name = n; numbers = ns }) ≡ exit_word
 ends_by n ns s h false c e = let off = scalar_on n ns s c in absurd cc
 ends_by a64.svc ns s h true c e = call_ends ns s h e
 ends_by _ ns s h true c e = absurd cc
 
 -- where an instruction ends the run, its word is that of the exit call
 pub ends_by_exit : (i : Listed) (s : State) → IsListed i → is_end (does i s) ≡ true → spell i ≡ exit_word
-ends_by_exit (Scalar i) s h e = ends_by i.name i.numbers s h.fits (is_call i.name) refl e
+ends_by_exit (Scalar i) s h e = ends_by i.name i.numbers s h.fits (is_svc i.name) refl e
 ends_by_exit (Vector v) s h e = let off = vector_on v.name (field_of v.name v.numbers) s in absurd cc

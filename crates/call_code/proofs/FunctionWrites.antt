@@ -9,11 +9,12 @@ use Rattle.machine_model.specs.InstructionTable.{Listed, Scalar}
 use Rattle.promises.specs.Reserved.{register_written}
 use Rattle.call_code.specs.Called.{function_words}
 use Rattle.call_code.specs.Frame.{Saved, frame_size, a64_of, move_sp, back, save_x, save_z, restore_x, restore_z, enter, leave}
-use Rattle.call_code.specs.Returning.{exit_word, trap_word, branch_by, returning_word, returning}
+use Rattle.promises.specs.OneExit.{exit_call, exit_word}
+use Rattle.call_code.specs.Returning.{trap_word, branch_by, returning_word, returning}
 use Rattle.call_code.specs.Written.{kept_x, kept_z, is_number, word_writes, is_written, written_among, vector_written, saved_by}
 use Rattle.call_code.proofs.Among.{spelled_writes, unwritten_absent}
 use Rattle.call_code.proofs.AroundWords.{AreSaved, are_saved, enter_listed, leave_listed}
-use Rattle.call_code.proofs.Exits.{exit_call, exit_listed}
+use Rattle.call_code.proofs.Exits.{exit_listed}
 use Rattle.call_code.proofs.Restores.{Absent, AreRegisters, absent, registers}
 
 not_number : (r d : ℕ) → r ≢ d → is_number r (Some d) ≡ false

@@ -18,9 +18,10 @@ use Rattle.label_fix.specs.DraftRun.{Kind, Always, DraftEntry, Put, Branch, Plac
 use Rattle.label_fix.specs.Suppressions.{count_on, walk_cuts, cuts}
 use Rattle.label_fix.specs.Finished.{size, branch_of, is_plain, AreFit, StandAt, words_from, words_of}
 use Rattle.label_fix.proofs.PlacedRuns.{size-append, address_at, branch_listed}
-use Rattle.call_code.specs.Returning.{exit_word, trap_word, returning_word, returning}
+use Rattle.promises.specs.OneExit.{exit_call, exit_word}
+use Rattle.call_code.specs.Returning.{trap_word, returning_word, returning}
 use Rattle.call_code.proofs.Draft.{branch_does, target_forward, before, parts, placed, place-small, onward, next_place, passes}
-use Rattle.call_code.proofs.Exits.{is_end, exit_call, is_exit, ends_by_exit}
+use Rattle.call_code.proofs.Exits.{is_end, is_exit, ends_by_exit}
 
 -- ---- the words in memory
 

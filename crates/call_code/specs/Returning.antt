@@ -3,10 +3,7 @@
 use Rattle.std.specs.Prelude.{ℕ, ◌+◌, List, [], ◌∷◌, length, nat_eq, if◌then◌else◌}
 use Rattle.word_rows.specs.Row.{spells}
 use Rattle.a64_code.specs.Table as a64
-
--- SVC #0, by which a program ends
-abbrev pub exit_word : ℕ
-exit_word = 0xD4000001
+use Rattle.promises.specs.OneExit.{exit_word}
 
 -- BRK #0
 abbrev pub trap_word : ℕ

@@ -1,3 +1,4 @@
 pub mod Faithful
+pub mod OneExit
 pub mod Refusals
 pub mod Reserved
