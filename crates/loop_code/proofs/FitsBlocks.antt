@@ -20,7 +20,7 @@ use Rattle.scalar_words.specs.Layout.{Layout, Home, Homes, is_home, register_of,
 use Rattle.value_code.specs.Fits.{Fits, FitsTruth, IndexAt, IsSome}
 use Rattle.loop_code.specs.Statements.{let_home, defined_homes, after_homes, FitsPut, FitsAction, FitsBlock, FitsOtherwise}
 use Rattle.scalar_words.proofs.AssignedOf.{counted-low}
-use Rattle.value_code.proofs.FitsOf.{some_of, no_untyped, no_offset, Sits, drop_head, AreUsed, untils, untils_on, value_fits, truth_fits}
+use Rattle.value_code.proofs.FitsOf.{some_of, no_untyped, no_offset, Sits, drop_head, AreUsed, last_uses, last_uses_on, value_fits, truth_fits}
 use Rattle.loop_code.proofs.LooseHomes.{var_lasts}
 use Rattle.scalar_words.proofs.NameHomes.{AccumulatorRegisters, LetHome, AreHomes, homes_later, homes_on, is_at, name_lasts, array_lasts, is_var, only_of}
 use Rattle.kernel_tree.specs.declared.fault.Binding.TheVariants as binding
@@ -33,16 +33,16 @@ pub sits_next : (us : List ℕ) (b y : ℕ) (ys : List ℕ) → Sits us b (y ∷
 sits_next us b y ys h = let n : suc b ≡ b + 1 = omega arith in subst (λ p. Sits us p ys) n (drop_next us b y ys h)
 
 -- the list after as many entries
-pub sits_on : (all es : List Entry) (us : List ℕ) (b p n : ℕ) (rest : List ℕ) → length es ≡ n → p ≡ b + n → Sits us b (untils all es rest) → Sits us p rest
+pub sits_on : (all es : List Entry) (us : List ℕ) (b p n : ℕ) (rest : List ℕ) → length es ≡ n → p ≡ b + n → Sits us b (last_uses all es rest) → Sits us p rest
 sits_on all [] us b p n rest e f h = let g : b ≡ p = omega (arith, e, f) in subst (λ q. Sits us q rest) g h
 sits_on all (x ∷ es) us b p n rest e f h = sits_on all es us (suc b) p (length es) rest refl (omega (arith, e, f)) (drop_next us b _ _ h)
 
 -- the first of two parts of the listing, and the second
-pub sits_first : (all : List Entry) (us : List ℕ) (es fs : List Entry) (b : ℕ) (rest : List ℕ) → Sits us b (untils all (es ++ fs) rest) → Sits us b (untils all es (untils all fs rest))
-sits_first all us es fs b rest h = h ∙ untils_on all es fs rest
+pub sits_first : (all : List Entry) (us : List ℕ) (es fs : List Entry) (b : ℕ) (rest : List ℕ) → Sits us b (last_uses all (es ++ fs) rest) → Sits us b (last_uses all es (last_uses all fs rest))
+sits_first all us es fs b rest h = h ∙ last_uses_on all es fs rest
 
-pub sits_second : (all : List Entry) (us : List ℕ) (es fs : List Entry) (b p n : ℕ) (rest : List ℕ) → length es ≡ n → p ≡ b + n → Sits us b (untils all (es ++ fs) rest) → Sits us p (untils all fs rest)
-sits_second all us es fs b p n rest e f h = sits_on all es us b p n (untils all fs rest) e f (sits_first all us es fs b rest h)
+pub sits_second : (all : List Entry) (us : List ℕ) (es fs : List Entry) (b p n : ℕ) (rest : List ℕ) → length es ≡ n → p ≡ b + n → Sits us b (last_uses all (es ++ fs) rest) → Sits us p (last_uses all fs rest)
+sits_second all us es fs b p n rest e f h = sits_on all es us b p n (last_uses all fs rest) e f (sits_first all us es fs b rest h)
 
 -- ---- what is known where no fault is found
 
@@ -184,15 +184,15 @@ module _ (k : Program) (R : ℕ → ℕ) (L : Layout) (all : List Entry) where
 
     -- ---- expressions where they stand
 
-    pub value_stands : (t : Term) (T : Ty) (b user : ℕ) (rest : List ℕ) → faults S b (Value (Some T)) t ≡ [] → Sits L.untils b (untils all (term_entries k b user t) rest) → AreUsesCounted all (term_entries k b user t) → Fits L hs S (Some T) b user t
+    pub value_stands : (t : Term) (T : Ty) (b user : ℕ) (rest : List ℕ) → faults S b (Value (Some T)) t ≡ [] → Sits L.last_uses b (last_uses all (term_entries k b user t) rest) → AreUsesCounted all (term_entries k b user t) → Fits L hs S (Some T) b user t
     value_stands t T b user rest e h c = value_fits k L all hs v tk ins t T b b user rest e h (term_used t b b user (Value (Some T)) e c)
 
     -- a value of a type that is wanted
-    pub wanted_stands : (t : Term) (want : Option Ty) (T : Ty) (b user : ℕ) (rest : List ℕ) → want ≡ Some T → faults S b (Value want) t ≡ [] → Sits L.untils b (untils all (term_entries k b user t) rest) → AreUsesCounted all (term_entries k b user t) → IsSome want × Fits L hs S want b user t
+    pub wanted_stands : (t : Term) (want : Option Ty) (T : Ty) (b user : ℕ) (rest : List ℕ) → want ≡ Some T → faults S b (Value want) t ≡ [] → Sits L.last_uses b (last_uses all (term_entries k b user t) rest) → AreUsesCounted all (term_entries k b user t) → IsSome want × Fits L hs S want b user t
     wanted_stands t want T b user rest w e h c =
         subst (λ o. IsSome o × Fits L hs S o b user t) (sym w) (tt, value_stands t T b user rest (subst (λ o. faults S b (Value o) t ≡ []) w e) h c)
 
-    pub truth_stands : (t : Term) (b user : ℕ) (rest : List ℕ) → faults S b Condition t ≡ [] → Sits L.untils b (untils all (term_entries k b user t) rest) → AreUsesCounted all (term_entries k b user t) → FitsTruth L hs S b t
+    pub truth_stands : (t : Term) (b user : ℕ) (rest : List ℕ) → faults S b Condition t ≡ [] → Sits L.last_uses b (last_uses all (term_entries k b user t) rest) → AreUsesCounted all (term_entries k b user t) → FitsTruth L hs S b t
     truth_stands t b user rest e h c = truth_fits k L all hs v tk ins t b b user rest e h (term_used t b b user Condition e c)
 
   -- ---- statements
@@ -207,7 +207,7 @@ module _ (k : Program) (R : ℕ → ℕ) (L : Layout) (all : List Entry) where
     are : AreHomes k R L all (b + action_size i a) 0 visible homes
     indexed : IsIndexed ins homes
 
-  names_after : (a : Action) (v : List Local) (tk : List (List ℕ)) (ins : Bool) (hs : Homes) (b : ℕ) (rest : List ℕ) → AreHomes k R L all b 0 v hs → IsIndexed ins hs → action_faults (scope v tk ins) b a ≡ [] → Sits L.untils b (untils all (action_entries k b a) rest) → AfterNames ins hs (scope v tk ins) b a
+  names_after : (a : Action) (v : List Local) (tk : List (List ℕ)) (ins : Bool) (hs : Homes) (b : ℕ) (rest : List ℕ) → AreHomes k R L all b 0 v hs → IsIndexed ins hs → action_faults (scope v tk ins) b a ≡ [] → Sits L.last_uses b (last_uses all (action_entries k b a) rest) → AfterNames ins hs (scope v tk ins) b a
   names_after (Define x t e) v tk ins hs b rest are indexed f h =
       let S = scope v tk ins in
       let q = b + term_size i e in
@@ -215,7 +215,7 @@ module _ (k : Program) (R : ℕ → ℕ) (L : Layout) (all : List Entry) where
       let w = some_of want (no_untyped q want (nil-right (twice q S x) _ (nil-right (faults S b (Value want) e) _ f))) in
       let T = w.0 in
       let es = term_entries k b q e in
-      let at : last_use_at L q ≡ last_use_from x q all = drop_head L.untils q _ _ (sits_second all L.untils es _ b q (term_size i e) rest (term-listed k b q e (omega arith)).count refl h) in
+      let at : last_use_at L q ≡ last_use_from x q all = drop_head L.last_uses q _ _ (sits_second all L.last_uses es _ b q (term_size i e) rest (term-listed k b q e (omega arith)).count refl h) in
       let new : LetHome L all (b + (term_size i e + 1)) (let_home L q x) = record { item = q; before = omega arith; register' = refl; last_use' = refl; from = q; last = at } in
       record {
         visible = v ++ local x (binding.Value T) ∷ [];
@@ -267,7 +267,7 @@ module _ (k : Program) (R : ℕ → ℕ) (L : Layout) (all : List Entry) where
 
   module _ (few : length k.params ≤ 8) (accumulators : AccumulatorRegisters R L (length k.vars)) where
     update_fits : (v : List Local) (tk : List (List ℕ)) (ins : Bool) (hs : Homes) (b : ℕ) (rest : List ℕ) (x : List ℕ) (e : Term) → AreHomes k R L all b 0 v hs → IsIndexed ins hs
-        → faults (scope v tk ins) b (Value (option_and_then accumulator_type (lookup (scope v tk ins) x))) e ≡ [] → IsKind accumulator_type (lookup (scope v tk ins) x) → Sits L.untils b (untils all (term_entries k b (b + term_size i e) e) rest) → AreUsesCounted all (term_entries k b (b + term_size i e) e) → (op : _) → FitsAction L hs (scope v tk ins) b (Update x op e)
+        → faults (scope v tk ins) b (Value (option_and_then accumulator_type (lookup (scope v tk ins) x))) e ≡ [] → IsKind accumulator_type (lookup (scope v tk ins) x) → Sits L.last_uses b (last_uses all (term_entries k b (b + term_size i e) e) rest) → AreUsesCounted all (term_entries k b (b + term_size i e) e) → (op : _) → FitsAction L hs (scope v tk ins) b (Update x op e)
     update_fits v tk ins hs b rest x e are indexed f kind h c op =
         let S = scope v tk ins in
         let q = b + term_size i e in
@@ -279,14 +279,14 @@ module _ (k : Program) (R : ℕ → ℕ) (L : Layout) (all : List Entry) where
         (r.0, r.1, var_lasts k R L all hs b q x kind.bd kind.type kind.kind at, (let l = counted-low (R n.number) in omega (arith, l, reg)), only_of k R L all few accumulators b 0 (q + 1) v hs x kind.type are (omega arith) (register_at hs x) w refl)
 
     mutual
-      pub action_fits : (a : Action) (v : List Local) (tk : List (List ℕ)) (ins : Bool) (hs : Homes) (b : ℕ) (rest : List ℕ) → AreHomes k R L all b 0 v hs → IsIndexed ins hs → ins ≡ true → action_faults (scope v tk ins) b a ≡ [] → Sits L.untils b (untils all (action_entries k b a) rest) → AreUsesCounted all (action_entries k b a) → FitsAction L hs (scope v tk ins) b a
+      pub action_fits : (a : Action) (v : List Local) (tk : List (List ℕ)) (ins : Bool) (hs : Homes) (b : ℕ) (rest : List ℕ) → AreHomes k R L all b 0 v hs → IsIndexed ins hs → ins ≡ true → action_faults (scope v tk ins) b a ≡ [] → Sits L.last_uses b (last_uses all (action_entries k b a) rest) → AreUsesCounted all (action_entries k b a) → FitsAction L hs (scope v tk ins) b a
       action_fits (Define x t e) v tk ins hs b rest are indexed on f h c =
           let S = scope v tk ins in
           let q = b + term_size i e in
           let want = first t (own S e) in
           let w = some_of want (no_untyped q want (nil-right (twice q S x) _ (nil-right (faults S b (Value want) e) _ f))) in
           let es = term_entries k b q e in
-          wanted_stands v tk ins hs b are indexed e want w.0 b q _ w.1 (nil-left (faults S b (Value want) e) _ f) (sits_first all L.untils es _ b rest h) (counted_left all es _ c)
+          wanted_stands v tk ins hs b are indexed e want w.0 b q _ w.1 (nil-left (faults S b (Value want) e) _ f) (sits_first all L.last_uses es _ b rest h) (counted_left all es _ c)
       action_fits (Put a o e) v tk ins hs b rest are indexed on f h c =
           let S = scope v tk ins in
           let q = b + term_size i e in
@@ -295,7 +295,7 @@ module _ (k : Program) (R : ℕ → ℕ) (L : Layout) (all : List Entry) where
           let kind = target_known q (lookup S a) (nil-left (target_faults q (lookup S a)) _ f2) in
           let w : want ≡ Some kind.type = ap (option_and_then element_type) kind.known ∙ kind.kind in
           let es = term_entries k b q e in
-          let r = wanted_stands v tk ins hs b are indexed e want kind.type b q _ w (nil-left (faults S b (Value want) e) _ f) (sits_first all L.untils es _ b rest h) (counted_left all es _ c) in
+          let r = wanted_stands v tk ins hs b are indexed e want kind.type b q _ w (nil-left (faults S b (Value want) e) _ f) (sits_first all L.last_uses es _ b rest h) (counted_left all es _ c) in
           let at = is_at k R L all b 0 v hs a kind.bd are kind.known in
           (r.0, r.1, stream_fits q (stream_offset i o) (IndexAt hs (loop_index k) q) (nil-right (target_faults q (lookup S a)) _ f2) (indexed on q), array_lasts k R L all b q hs a kind.bd kind.type kind.kind at)
       action_fits (Update x op e) v tk ins hs b rest are indexed on f h c =
@@ -304,7 +304,7 @@ module _ (k : Program) (R : ℕ → ℕ) (L : Layout) (all : List Entry) where
           let want = option_and_then accumulator_type (lookup S x) in
           let kind = update_known q (lookup S x) (nil-right (faults S b (Value want) e) _ f) in
           let es = term_entries k b q e in
-          update_fits v tk ins hs b _ x e are indexed (nil-left (faults S b (Value want) e) _ f) kind (sits_first all L.untils es _ b rest h) (counted_left all es _ c) op
+          update_fits v tk ins hs b _ x e are indexed (nil-left (faults S b (Value want) e) _ f) kind (sits_first all L.last_uses es _ b rest h) (counted_left all es _ c) op
       action_fits (Choose d blk o) v tk ins hs b rest are indexed on f h c =
           let S = scope v tk ins in
           let b1 = b + term_size i d in let g = b1 + 1 + block_size i blk in let end = g + otherwise_size i o in
@@ -312,22 +312,22 @@ module _ (k : Program) (R : ℕ → ℕ) (L : Layout) (all : List Entry) where
           let bs = block_entries k (b1 + 1) blk in
           let os = otherwise_entries k g end o in
           let f2 = nil-right (faults S b Condition d) _ f in
-          let h2 = sits_second all L.untils ds _ b b1 (term_size i d) rest (term-listed k b g d (omega arith)).count refl h in
-          let h4 = sits_next L.untils b1 _ _ h2 in
-          let h5 = sits_second all L.untils bs _ (b1 + 1) g (block_size i blk) rest (block-listed k (b1 + 1) blk).count refl h4 in
+          let h2 = sits_second all L.last_uses ds _ b b1 (term_size i d) rest (term-listed k b g d (omega arith)).count refl h in
+          let h4 = sits_next L.last_uses b1 _ _ h2 in
+          let h5 = sits_second all L.last_uses bs _ (b1 + 1) g (block_size i blk) rest (block-listed k (b1 + 1) blk).count refl h4 in
           let c2 = (counted_right all ds _ c).1 in
           let c3 = counted_right all bs _ c2 in
           let tk2 = (after_block S blk).taken in (
-            truth_stands v tk ins hs b are indexed d b g _ (nil-left (faults S b Condition d) _ f) (sits_first all L.untils ds _ b rest h) (counted_left all ds _ c),
-            block_fits blk v tk ins hs (b1 + 1) _ (homes_later k R L all b (b1 + 1) 0 v hs (omega arith) are) indexed on (nil-left (block_faults S (b1 + 1) blk) _ f2) (sits_first all L.untils bs _ (b1 + 1) rest h4) (counted_left all bs _ c2),
-            otherwise_fits o v tk2 ins hs g end _ (homes_later k R L all b g 0 v hs (omega arith) are) indexed on (nil-right (block_faults S (b1 + 1) blk) _ f2) (sits_first all L.untils os _ g rest h5) (counted_left all os _ c3),
+            truth_stands v tk ins hs b are indexed d b g _ (nil-left (faults S b Condition d) _ f) (sits_first all L.last_uses ds _ b rest h) (counted_left all ds _ c),
+            block_fits blk v tk ins hs (b1 + 1) _ (homes_later k R L all b (b1 + 1) 0 v hs (omega arith) are) indexed on (nil-left (block_faults S (b1 + 1) blk) _ f2) (sits_first all L.last_uses bs _ (b1 + 1) rest h4) (counted_left all bs _ c2),
+            otherwise_fits o v tk2 ins hs g end _ (homes_later k R L all b g 0 v hs (omega arith) are) indexed on (nil-right (block_faults S (b1 + 1) blk) _ f2) (sits_first all L.last_uses os _ g rest h5) (counted_left all os _ c3),
           )
       action_fits (Leave d) v tk ins hs b rest are indexed on f h c =
           let q = b + term_size i d in
           let es = term_entries k b q d in
-          truth_stands v tk ins hs b are indexed d b q _ f (sits_first all L.untils es _ b rest h) (counted_left all es _ c)
+          truth_stands v tk ins hs b are indexed d b q _ f (sits_first all L.last_uses es _ b rest h) (counted_left all es _ c)
 
-      pub block_fits : (blk : Block) (v : List Local) (tk : List (List ℕ)) (ins : Bool) (hs : Homes) (b : ℕ) (rest : List ℕ) → AreHomes k R L all b 0 v hs → IsIndexed ins hs → ins ≡ true → block_faults (scope v tk ins) b blk ≡ [] → Sits L.untils b (untils all (block_entries k b blk) rest) → AreUsesCounted all (block_entries k b blk) → FitsBlock L hs (scope v tk ins) b blk
+      pub block_fits : (blk : Block) (v : List Local) (tk : List (List ℕ)) (ins : Bool) (hs : Homes) (b : ℕ) (rest : List ℕ) → AreHomes k R L all b 0 v hs → IsIndexed ins hs → ins ≡ true → block_faults (scope v tk ins) b blk ≡ [] → Sits L.last_uses b (last_uses all (block_entries k b blk) rest) → AreUsesCounted all (block_entries k b blk) → FitsBlock L hs (scope v tk ins) b blk
       block_fits Done v tk ins hs b rest are indexed on f h c = tt
       block_fits (Then a more) v tk ins hs b rest are indexed on f h c =
           let S = scope v tk ins in
@@ -335,15 +335,15 @@ module _ (k : Program) (R : ℕ → ℕ) (L : Layout) (all : List Entry) where
           let es = action_entries k b a in
           let fa = nil-left (action_faults S b a) _ f in
           let fm = nil-right (action_faults S b a) _ f in
-          let ha = sits_first all L.untils es _ b rest h in
+          let ha = sits_first all L.last_uses es _ b rest h in
           let n = names_after a v tk ins hs b _ are indexed fa ha in
-          let hm = sits_second all L.untils es _ b b1 (action_size i a) rest (action-listed k b a).count refl h in
+          let hm = sits_second all L.last_uses es _ b b1 (action_size i a) rest (action-listed k b a).count refl h in
           let rest2 = block_fits more n.visible n.taken ins n.homes b1 rest n.are n.indexed on (subst (λ s. block_faults s b1 more ≡ []) n.scope_is fm) hm (counted_right all es _ c) in (
             action_fits a v tk ins hs b _ are indexed on fa ha (counted_left all es _ c),
             subst (λ h. FitsBlock L h (after_action S a) b1 more) (sym n.homes_is) (subst (λ s. FitsBlock L n.homes s b1 more) (sym n.scope_is) rest2),
           )
 
-      pub otherwise_fits : (d : Otherwise) (v : List Local) (tk : List (List ℕ)) (ins : Bool) (hs : Homes) (b end : ℕ) (rest : List ℕ) → AreHomes k R L all b 0 v hs → IsIndexed ins hs → ins ≡ true → otherwise_faults (scope v tk ins) b d ≡ [] → Sits L.untils b (untils all (otherwise_entries k b end d) rest) → AreUsesCounted all (otherwise_entries k b end d) → FitsOtherwise L hs (scope v tk ins) b d
+      pub otherwise_fits : (d : Otherwise) (v : List Local) (tk : List (List ℕ)) (ins : Bool) (hs : Homes) (b end : ℕ) (rest : List ℕ) → AreHomes k R L all b 0 v hs → IsIndexed ins hs → ins ≡ true → otherwise_faults (scope v tk ins) b d ≡ [] → Sits L.last_uses b (last_uses all (otherwise_entries k b end d) rest) → AreUsesCounted all (otherwise_entries k b end d) → FitsOtherwise L hs (scope v tk ins) b d
       otherwise_fits Nothing v tk ins hs b end rest are indexed on f h c = tt
       otherwise_fits (Else blk) v tk ins hs b end rest are indexed on f h c =
-          block_fits blk v tk ins hs (b + 1) rest (homes_later k R L all b (b + 1) 0 v hs (omega arith) are) indexed on f (sits_next L.untils b _ _ h) c.1
+          block_fits blk v tk ins hs (b + 1) rest (homes_later k R L all b (b + 1) 0 v hs (omega arith) are) indexed on f (sits_next L.last_uses b _ _ h) c.1

@@ -54,7 +54,7 @@ total_registers j = slice_index (0 ∷ 1 ∷ 1 ∷ 1 ∷ 1 ∷ []) j
 
 total-layout : layout_of_kernel total_registers total ≡ record {
   regs = 0 ∷ 0 ∷ 11 ∷ 0 ∷ 0 ∷ 11 ∷ 11 ∷ 0 ∷ 11 ∷ 0 ∷ 0 ∷ 0 ∷ [];
-  untils = 0 ∷ 0 ∷ 3 ∷ 0 ∷ 0 ∷ 6 ∷ 8 ∷ 0 ∷ 9 ∷ 0 ∷ 0 ∷ 0 ∷ [];
+  last_uses = 0 ∷ 0 ∷ 3 ∷ 0 ∷ 0 ∷ 6 ∷ 8 ∷ 0 ∷ 9 ∷ 0 ∷ 0 ∷ 0 ∷ [];
   constants = [];
   loose = [];
 }

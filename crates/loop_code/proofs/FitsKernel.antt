@@ -27,7 +27,7 @@ use Rattle.scalar_words.specs.KernelRegisters.{counted_x, x_last_use, layout_of_
 use Rattle.loop_code.specs.Kernel.{FitsVars}
 use Rattle.loop_code.specs.KernelFits.{AreSafeVars, KernelFits}
 use Rattle.scalar_words.proofs.AccumulatorRegisters.{accumulator_registers}
-use Rattle.value_code.proofs.FitsOf.{Sits, untils}
+use Rattle.value_code.proofs.FitsOf.{Sits, last_uses}
 use Rattle.scalar_words.proofs.NameHomes.{AccumulatorRegisters, numbers, AreHomes, homes_later, homes_on, is_at, register_is, others_new, are_safe}
 use Rattle.loop_code.proofs.FitsBlocks.{sits_first, sits_second, sits_next, IsIndexed, value_stands, block_fits}
 use Rattle.loop_code.proofs.LooseHomes.{no_home-append, no_param_home, no_var_home, AreNamed, held_loose, loop_named, loop_distinct}
@@ -50,9 +50,9 @@ index_at x hs p h =
     let e = index_found x hs h in
     (ap (λ o. unwrap_or (option_map register_of o) 31) e, subst (λ o. LastsAt o p) (sym e) tt)
 
-map_untils : (entries es : List Entry) → map (x_last_use entries) es ≡ untils entries es []
-map_untils entries [] = refl
-map_untils entries (e ∷ es) = ap (λ l. x_last_use entries e ∷ l) (map_untils entries es)
+map_last_uses : (entries es : List Entry) → map (x_last_use entries) es ≡ last_uses entries es []
+map_last_uses entries [] = refl
+map_last_uses entries (e ∷ es) = ap (λ l. x_last_use entries e ∷ l) (map_last_uses entries es)
 
 drop_none : (xs : List ℕ) → drop 0 xs ≡ xs
 drop_none [] = refl
@@ -73,15 +73,15 @@ module _ (R : ℕ → ℕ) (k : Program) (L : Layout) (all : List Entry) where
 
   -- ---- accumulators
 
-  vars_fit : (vs : List Accumulator) (v : List Local) (tk : List (List ℕ)) (hs : Homes) (j b : ℕ) (rest : List ℕ) → AreHomes k R L all b 0 v hs → numbers 0 v ≡ j → j + length vs ≤ length k.vars → vars_faults (scope_at k v tk false) b vs ≡ [] → Sits L.untils b (untils all (vars_entries k b vs) rest) → AreUsesCounted all (vars_entries k b vs) → FitsVars L R hs (scope_at k v tk false) j b vs
+  vars_fit : (vs : List Accumulator) (v : List Local) (tk : List (List ℕ)) (hs : Homes) (j b : ℕ) (rest : List ℕ) → AreHomes k R L all b 0 v hs → numbers 0 v ≡ j → j + length vs ≤ length k.vars → vars_faults (scope_at k v tk false) b vs ≡ [] → Sits L.last_uses b (last_uses all (vars_entries k b vs) rest) → AreUsesCounted all (vars_entries k b vs) → FitsVars L R hs (scope_at k v tk false) j b vs
   vars_fit [] v tk hs j b rest are n le f h c = tt
   vars_fit (a ∷ vs) v tk hs j b rest are n le f h c =
       let S = scope_at k v tk false in
       let q = b + term_size (loop_index k) a.init in
       let es = term_entries k b q a.init in
       let f2 = nil-right (twice q S a.name) _ (nil-right (faults S b (Value (Some a.type)) a.init) _ f) in
-      let h2 = sits_next L.untils q _ _ (sits_second all L.untils es _ b q (term_size (loop_index k) a.init) rest (term-listed k b q a.init (omega arith)).count refl h) in (
-        value_stands k R L all v tk false hs b are (no_reads hs) a.init a.type b q _ (nil-left (faults S b (Value (Some a.type)) a.init) _ f) (sits_first all L.untils es _ b rest h) (counted_left all es _ c),
+      let h2 = sits_next L.last_uses q _ _ (sits_second all L.last_uses es _ b q (term_size (loop_index k) a.init) rest (term-listed k b q a.init (omega arith)).count refl h) in (
+        value_stands k R L all v tk false hs b are (no_reads hs) a.init a.type b q _ (nil-left (faults S b (Value (Some a.type)) a.init) _ f) (sits_first all L.last_uses es _ b rest h) (counted_left all es _ c),
         vars_fit vs (v ++ local a.name (binding.Accumulator a.type) ∷ []) (insert_name tk a.name) (hs ++ var_home R j a ∷ []) (j + 1) (q + 1) rest (homes_of_var (q + 1) j v hs a (homes_later k R L all b (q + 1) 0 v hs (omega arith) are) n (omega (arith, le))) (one_number j v a n) (omega (arith, le)) f2 h2 (counted_right all es _ c).1,
       )
 
@@ -96,12 +96,12 @@ module _ (R : ℕ → ℕ) (k : Program) (L : Layout) (all : List Entry) where
           vars_safe vs (v ++ local a.name (binding.Accumulator a.type) ∷ []) (insert_name tk a.name) (hs ++ var_home R j a ∷ []) (j + 1) (q + 1) (homes_of_var (q + 1) j v hs a later n (omega (arith, le))) (one_number j v a n) (omega (arith, le)),
         )
 
-    answer_fits : (o : Option Returned) (v : List Local) (tk : List (List ℕ)) (hs : Homes) (b : ℕ) → AreHomes k R L all b 0 v hs → answer_faults (scope_at k v tk false) b o ≡ [] → Sits L.untils b (untils all (answer_entries k b o) []) → AreUsesCounted all (answer_entries k b o) → FitsAnswer L hs (scope_at k v tk false) b o
+    answer_fits : (o : Option Returned) (v : List Local) (tk : List (List ℕ)) (hs : Homes) (b : ℕ) → AreHomes k R L all b 0 v hs → answer_faults (scope_at k v tk false) b o ≡ [] → Sits L.last_uses b (last_uses all (answer_entries k b o) []) → AreUsesCounted all (answer_entries k b o) → FitsAnswer L hs (scope_at k v tk false) b o
     answer_fits None v tk hs b are f h c = tt
     answer_fits (Some a) v tk hs b are f h c =
         let q = b + term_size (loop_index k) a.value in
         let es = term_entries k b q a.value in
-        value_stands k R L all v tk false hs b are (no_reads hs) a.value a.type b q _ f (sits_first all L.untils es _ b [] h) (counted_left all es _ c)
+        value_stands k R L all v tk false hs b are (no_reads hs) a.value a.type b q _ f (sits_first all L.last_uses es _ b [] h) (counted_left all es _ c)
 
 -- ---- the loop
 
@@ -112,7 +112,7 @@ IndexLasts hs (Some x) p = NameLasts hs x p
 
 module _ (R : ℕ → ℕ) (k : Program) (L : Layout) (all : List Entry) (few : length k.params ≤ 8) (accumulators : AccumulatorRegisters R L (length k.vars)) where
   loop_fits : (l : PlainLoop) (tk : List (List ℕ)) (b b2 : ℕ) (rest : List ℕ) → AreNamed (with_index (kernel_homes R k) l) → k.for_loop ≡ Some l → held_loosely k ≡ for_loop_loose (scope_at k (locals_of k.params ++ accs_of k.vars) tk false) (Some l) k.answer → loop_index k ≡ Some l.index → NoHome l.index (kernel_homes R k) → b ≤ b2 → for_loop_faults (scope_at k (locals_of k.params ++ accs_of k.vars) tk false) b (Some l) ≡ [] → answer_faults (after_for_loop (scope_at k (locals_of k.params ++ accs_of k.vars) tk false) (Some l)) b2 k.answer ≡ []
-      → Sits L.untils b (untils all (for_loop_entries k b (Some l)) rest) → AreUsesCounted all (for_loop_entries k b (Some l)) → Sits L.untils b2 (untils all (answer_entries k b2 k.answer) []) → AreUsesCounted all (answer_entries k b2 k.answer)
+      → Sits L.last_uses b (last_uses all (for_loop_entries k b (Some l)) rest) → AreUsesCounted all (for_loop_entries k b (Some l)) → Sits L.last_uses b2 (last_uses all (answer_entries k b2 k.answer) []) → AreUsesCounted all (answer_entries k b2 k.answer)
       → FitsLoop (with_loose (with_constants L (held_numbers R k)) (held_loosely k)) (kernel_homes R k) (scope_at k (locals_of k.params ++ accs_of k.vars) tk false) l b b2 k.answer
   loop_fits l tk b b2 rest named for_loop loose ix alone le f fa h c ha ca =
       let N = with_loose (with_constants L (held_numbers R k)) (held_loosely k) in
@@ -136,7 +136,7 @@ module _ (R : ℕ → ℕ) (k : Program) (L : Layout) (all : List Entry) (few : 
         bound_low = omega (arith, reg, low, few);
         bound_known = known;
         free = alone;
-        body = block_fits k R N all few inner l.body (v ++ local l.index binding.Index ∷ []) (insert_name tk l.index) true (with_index hs l) (b + 1) rest inside (λ e p. index p) refl body (sits_next L.untils b _ _ h) c.1;
+        body = block_fits k R N all few inner l.body (v ++ local l.index binding.Index ∷ []) (insert_name tk l.index) true (with_index hs l) (b + 1) rest inside (λ e p. index p) refl body (sits_next L.last_uses b _ _ h) c.1;
         nine = others-append (param_homes 0 k.params) (var_homes R 0 k.vars) 9 b (params_nine 0 b k.params (omega (arith, few))) (vars_nine R 0 b k.vars);
         params = p;
         next = numbers_next R k;
@@ -177,13 +177,13 @@ module _ (R : ℕ → ℕ) (k : Program) (checked : check_fault k ≡ None) (few
   abbrev us : List ℕ
   us = map (x_last_use (entries_of k)) (entries_of k)
 
-  at_vars : Sits us (length k.params) (untils all (vs ++ (ls ++ xs)) [])
-  at_vars = sits_second all us ps (vs ++ (ls ++ xs)) 0 (length k.params) (length k.params) [] (params-listed k 0 k.params).count (omega arith) (drop_none us ∙ map_untils all all)
+  at_vars : Sits us (length k.params) (last_uses all (vs ++ (ls ++ xs)) [])
+  at_vars = sits_second all us ps (vs ++ (ls ++ xs)) 0 (length k.params) (length k.params) [] (params-listed k 0 k.params).count (omega arith) (drop_none us ∙ map_last_uses all all)
 
-  at_loop : Sits us (loop_start k) (untils all (ls ++ xs) [])
+  at_loop : Sits us (loop_start k) (last_uses all (ls ++ xs) [])
   at_loop = sits_second all us vs (ls ++ xs) (length k.params) (loop_start k) (vars_size (loop_index k) k.vars) [] (vars-listed k (length k.params) k.vars).count refl at_vars
 
-  at_answer : Sits us (loop_end k) (untils all xs [])
+  at_answer : Sits us (loop_end k) (last_uses all xs [])
   at_answer = sits_second all us ls xs (loop_start k) (loop_end k) (for_loop_size k.for_loop) [] (loop-listed k).count refl at_loop
 
   counted_vars : AreUsesCounted all (vs ++ (ls ++ xs))
@@ -213,7 +213,7 @@ module _ (R : ℕ → ℕ) (k : Program) (checked : check_fault k ≡ None) (few
       let ix : loop_index k ≡ Some l.index = ap (option_map index_of) e in
       let f0 : for_loop_faults (var_scope k) (loop_start k) (Some l) ≡ [] = for_loop_faultless k l checked e in
       let a0 : answer_faults (after_for_loop (var_scope k) (Some l)) (loop_end k) k.answer ≡ [] = subst (λ o. answer_faults (after_for_loop (var_scope k) o) (loop_end k) k.answer ≡ []) e (answer_faultless k checked) in
-      let h : Sits us (loop_start k) (untils all (for_loop_entries k (loop_start k) (Some l)) (untils all xs [])) = subst (λ o. Sits us (loop_start k) (untils all (for_loop_entries k (loop_start k) o) (untils all xs []))) e (sits_first all us ls xs (loop_start k) [] at_loop) in
+      let h : Sits us (loop_start k) (last_uses all (for_loop_entries k (loop_start k) (Some l)) (last_uses all xs [])) = subst (λ o. Sits us (loop_start k) (last_uses all (for_loop_entries k (loop_start k) o) (last_uses all xs []))) e (sits_first all us ls xs (loop_start k) [] at_loop) in
       let u : AreUsesCounted all (for_loop_entries k (loop_start k) (Some l)) = subst (λ o. AreUsesCounted all (for_loop_entries k (loop_start k) o)) e (counted_left all ls xs counted_loop) in
       subst (λ s. FitsLoop (loop_layout R k) (kernel_homes R k) s l (loop_start k) (loop_end k) k.answer) (sym s)
       (loop_fits R k L all few accumulators l (var_scope k).taken (loop_start k) (loop_end k) _ (loop_named R k l checked (index_homeless R k l checked e)) e (ap (λ o. for_loop_loose (var_scope k) o k.answer) e ∙ ap (λ s. for_loop_loose s (Some l) k.answer) s) ix (index_homeless R k l checked e) (omega arith) (subst (λ s. for_loop_faults s (loop_start k) (Some l) ≡ []) s f0) (subst (λ s. answer_faults (after_for_loop s (Some l)) (loop_end k) k.answer ≡ []) s a0) h u at_answer (counted_right all ls xs counted_loop))

@@ -5,7 +5,7 @@ ghost use Rattle.kernel_tree.specs.Plain.{Define, Put, Update, name_of, term_of,
 ghost use Rattle.kernel_scope.specs.Scopes.{scope_of, in_body};
 ghost use Rattle.scalar_words.specs.View.{form_of, loose_of, looses_of};
 ghost use Rattle.scalar_words.specs.Layout.{with_loose};
-ghost use Rattle.scalar_words.specs.Layout as layout;
+ghost use Rattle.scalar_words.specs.Layout as layouts;
 ghost use Rattle.kernel_meaning.specs.Operators as operators;
 ghost use Rattle.kernel_tree.specs.Typing as typing;
 ghost use Rattle.loop_code.specs.Loosening as loosening;
@@ -20,8 +20,7 @@ use kernel_tree::fault::Binding;
 use kernel_tree::{Answer, Expr, Kernel, Loop, Name, Part, Stmt, Ty, UpdateOp, parts};
 use scalar_words::instructions::is_narrow;
 use scalar_words::operations::update_operator;
-use scalar_words::places::Places;
-use scalar_words::{Form, Loose, loose_form};
+use scalar_words::{Form, KernelLayout, Loose, loose_form};
 use std::alloc::{AllocError, Global};
 use value_code::covers::{covers, covers_index, covers_truth, held_extent, is_enough, is_whole};
 use value_code::extent::{Extent, binary_extent, extent_at};
@@ -256,7 +255,7 @@ fn moved_names<'a>(
     ensures scope { OnOk result (scope_of scope.new ≡ scope_of scope.old) }
     ensures loose { OnOk result (looses_of loose.new.items
         ≡ loosening.block_arrays (in_body (scope_of scope.old)) (block_of for_loop.now.body.items)
-        (looses_of loose.old.items ++ record { name = name_of for_loop.now.index; form = layout.Behind } ∷ [])) }
+        (looses_of loose.old.items ++ record { name = name_of for_loop.now.index; form = layouts.Behind } ∷ [])) }
 {
     let name = for_loop.index.text();
     let form = Form::Behind;
@@ -330,7 +329,7 @@ fn keep_moved<'a>(
 /// The names that a loop holds loosely. The scope is left as it was, before the loop variable is declared.
 pub fn loosen_names<'a>(
     alloc: Global,
-    places: &mut Places<'a>,
+    layout: &mut KernelLayout<'a>,
     scope: &mut Scope<'a>,
     kernel: &Kernel,
     for_loop: &'a Loop,
@@ -338,8 +337,8 @@ pub fn loosen_names<'a>(
     requires for_loop { (program_of kernel.now).for_loop ≡ Some (for_loop_of for_loop.now) }
     requires scope { scope_of scope.old ≡ typing.var_scope (program_of kernel.now) }
     ensures scope { OnOk result (scope_of scope.new ≡ scope_of scope.old) }
-    ensures places { OnOk result (places.new
-        ≡ with_loose places.old (loosening.held_loosely (program_of kernel.now))) }
+    ensures layout { OnOk result (layout.new
+        ≡ with_loose layout.old (loosening.held_loosely (program_of kernel.now))) }
 {
     let visible = visible_count(scope);
     let taken = declared_count(scope);
@@ -348,7 +347,7 @@ pub fn loosen_names<'a>(
     moved_names(scope, for_loop, &mut loose)?;
     keep_moved(alloc, scope, kernel, for_loop, &mut loose)?;
     loosen_block(scope, &for_loop.body, &mut loose, &for_loop.body)?;
-    places.loosen(loose);
+    layout.loosen(loose);
     close(scope, visible, taken);
     Ok(())
 }

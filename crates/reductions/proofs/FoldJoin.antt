@@ -47,7 +47,7 @@ low_wrap t n v low h =
 
 -- no values of items
 abbrev bare : Layout
-bare = record { regs = []; untils = []; constants = []; loose = [] }
+bare = record { regs = []; last_uses = []; constants = []; loose = [] }
 
 bare_assigned : Assigned bare
 bare_assigned = record {

@@ -9,6 +9,7 @@ ghost use Rattle.kernel_tree.specs.Wrap.{log_bytes};
 ghost use Rattle.kernel_scope.specs.Scopes.{scope_of};
 ghost use Rattle.loop_code.specs.Statements.{block_labels, block_code};
 ghost use Rattle.label_fix.specs.Emits.{Emits};
+ghost use Rattle.scalar_words.specs.Sites.{at, index_at};
 ghost use Rattle.scalar_words.specs.View.{form_of, homes_of, looses_of};
 ghost use Rattle.scalar_words.specs.Words.{word_code};
 ghost use Rattle.scalar_words.specs.Layout.{loose_in};
@@ -21,15 +22,14 @@ use crate::branches::branch_ahead;
 use crate::numbers::emit_numbers;
 use crate::statements::emit_block;
 use a64_code::{A64, AddSubOp, AddSubShift, Cond, Reg};
-use kernel_scope::{Scope, close, declare, declared_count, visible_count};
+use kernel_scope::{close, declare, declared_count, visible_count};
 use kernel_tree::fault::Binding;
 use kernel_tree::{Loop, Ty};
 use label_fix::registers::{ITERATION, compare_iteration};
 use label_fix::{BranchKind, Draft, Label, Word};
 use scalar_words::instructions::add_sub;
 use scalar_words::operations::emit_settle;
-use scalar_words::places::Places;
-use scalar_words::{Form, Home, Loose, register_at, register_named};
+use scalar_words::{Form, Home, KernelLayout, Loose, Site, register_at, register_named};
 use std::alloc::AllocError;
 use value_code::instructions::next_iteration;
 use word_rows::Bits;
@@ -37,34 +37,33 @@ use word_rows::Bits;
 // The statements of a loop whose variable is declared, after which the scope and the names are those before them.
 fn emit_inside<'a>(
     draft: &mut Draft,
-    places: &Places,
-    homes: &mut Vec<Home<'a>>,
-    scope: &mut Scope<'a>,
+    site: &mut Site<'a>,
     last: Label,
     for_loop: &'a Loop,
     item: &mut usize,
 ) -> Result<(), AllocError>
     requires last { last < draft.old.labels }
     requires kinds { BlockKinds (block_of for_loop.now.body.items) }
-    requires fits { item.old + items.block_size (scope_of scope.old).index (block_of for_loop.now.body.items) < 2 ^ 32 }
-    ensures scope { OnOk result (scope_of scope.new ≡ scope_of scope.old) }
-    ensures homes { OnOk result (homes_of homes.new.items ≡ homes_of homes.old.items) }
-    ensures item { OnOk result (item.new ≡ item.old + items.block_size (scope_of scope.old).index
+    requires fits { item.old + items.block_size (index_at site.old) (block_of for_loop.now.body.items) < 2 ^ 32 }
+    ensures layout { OnOk result (site.new.layout ≡ site.old.layout) }
+    ensures scope { OnOk result (scope_of site.new.scope ≡ scope_of site.old.scope) }
+    ensures homes { OnOk result (homes_of site.new.homes.items ≡ homes_of site.old.homes.items) }
+    ensures item { OnOk result (item.new ≡ item.old + items.block_size (index_at site.old)
         (block_of for_loop.now.body.items)) }
     ensures emits { OnOk result (Emits draft.old draft.new
-        (draft.old.labels + block_labels (scope_of scope.old).index (block_of for_loop.now.body.items))
-        (block_code places.now (homes_of homes.old.items) (loops.inside_of (scope_of scope.old)) last item.old
-        draft.old.labels (block_of for_loop.now.body.items))) }
+        (draft.old.labels + block_labels (index_at site.old) (block_of for_loop.now.body.items))
+        (block_code site.old.layout (homes_of site.old.homes.items) (loops.inside_of (scope_of site.old.scope)) last
+        item.old draft.old.labels (block_of for_loop.now.body.items))) }
 {
-    let known = homes.len();
-    let visible = visible_count(scope);
-    let taken = declared_count(scope);
-    let inside = scope.inside;
-    scope.inside = true;
-    emit_block(draft, places, homes, scope, last, &for_loop.body, item)?;
-    homes.truncate(known);
-    close(scope, visible, taken);
-    scope.inside = inside;
+    let known = site.homes.len();
+    let visible = visible_count(&site.scope);
+    let taken = declared_count(&site.scope);
+    let inside = site.scope.inside;
+    site.scope.inside = true;
+    emit_block(draft, site, last, &for_loop.body, item)?;
+    site.homes.truncate(known);
+    close(&mut site.scope, visible, taken);
+    site.scope.inside = inside;
     Ok(())
 }
 
@@ -136,7 +135,7 @@ fn emit_moves(
 // The head of a loop: its first test, and what stands in registers while iterations last.
 fn emit_entry(
     draft: &mut Draft,
-    places: &Places,
+    layout: &KernelLayout,
     homes: &[Home],
     bound: Reg,
 ) -> Result<LoopLabels, AllocError>
@@ -145,13 +144,13 @@ fn emit_entry(
     ensures top { IfOk result (λ l. l.top ≡ draft.old.labels + 2) }
     ensures last { IfOk result (λ l. l.last ≡ draft.old.labels + 3) }
     ensures emits { OnOk result (Emits draft.old draft.new (draft.old.labels + 4)
-        (loops.entry_code bound.number draft.old.labels (homes_of homes.now) places.now)) }
+        (loops.entry_code bound.number draft.old.labels (homes_of homes.now) layout.now)) }
 {
     let head = emit_head(draft)?;
     draft.put(compare_iteration(bound))?;
     let exit = branch_ahead(draft, BranchKind::If(Cond::Hs))?;
-    emit_moves(draft, bound, homes, places.loose())?;
-    emit_numbers(draft, places.constants())?;
+    emit_moves(draft, bound, homes, layout.loose())?;
+    emit_numbers(draft, layout.constants())?;
     let top = emit_head(draft)?;
     let last = draft.label()?;
     Ok(LoopLabels {
@@ -163,7 +162,7 @@ fn emit_entry(
 }
 
 // What stands in a register after the last iteration.
-fn emit_settled(draft: &mut Draft, bound: Reg, to: Reg, form: Form) -> Result<(), AllocError>
+fn emit_form_back(draft: &mut Draft, bound: Reg, to: Reg, form: Form) -> Result<(), AllocError>
     ensures { OnOk result (Emits draft.old draft.new draft.old.labels
         (word_code (loops.settle_form bound.number to.number (form_of form)))) }
 {
@@ -175,7 +174,7 @@ fn emit_settled(draft: &mut Draft, bound: Reg, to: Reg, form: Form) -> Result<()
 }
 
 // The same of the names that were held loosely.
-fn emit_extended(
+fn emit_moves_back(
     draft: &mut Draft,
     bound: Reg,
     homes: &[Home],
@@ -185,7 +184,7 @@ fn emit_extended(
         (loops.settle_code bound.number (homes_of homes.now) (looses_of loose.now))) }
 {
     for held in loose {
-        emit_settled(draft, bound, register_named(homes, held.name), held.form)?;
+        emit_form_back(draft, bound, register_named(homes, held.name), held.form)?;
     }
     Ok(())
 }
@@ -215,7 +214,7 @@ fn emit_back(
 // The end of an iteration, and of the loop.
 fn emit_again(
     draft: &mut Draft,
-    places: &Places,
+    layout: &KernelLayout,
     homes: &[Home],
     for_loop: &Loop,
     bound: Reg,
@@ -226,53 +225,51 @@ fn emit_again(
     requires last { labels.last ≡ labels.head + 3 }
     requires given { labels.last < draft.old.labels }
     ensures { OnOk result (Emits draft.old draft.new draft.old.labels
-        (loops.again_code (loose_in places.now.loose (name_of for_loop.now.index)) bound.number labels.head
-        (homes_of homes.now) places.now.loose)) }
+        (loops.again_code (loose_in layout.now.loose (name_of for_loop.now.index)) bound.number labels.head
+        (homes_of homes.now) layout.now.loose)) }
 {
     draft.put(next_iteration())?;
-    let form = places.loose_form(&for_loop.index);
+    let form = layout.loose_form(&for_loop.index);
     emit_back(draft, form, bound, labels.head, labels.top)?;
     draft.place(labels.last)?;
-    emit_extended(draft, bound, homes, places.loose())?;
+    emit_moves_back(draft, bound, homes, layout.loose())?;
     draft.place(labels.exit)
 }
 
 /// The loop from its head to its end; answers the label of the head.
 pub fn emit_loop<'a>(
     draft: &mut Draft,
-    places: &Places,
-    homes: &mut Vec<Home<'a>>,
-    scope: &mut Scope<'a>,
+    site: &mut Site<'a>,
     for_loop: &'a Loop,
     item: &mut usize,
 ) -> Result<Label, AllocError>
     requires kinds { BlockKinds (block_of for_loop.now.body.items) }
-    requires fits { item.old + (1 + items.block_size (scope_of scope.old).index (block_of for_loop.now.body.items)) < 2 ^
+    requires fits { item.old + (1 + items.block_size (index_at site.old) (block_of for_loop.now.body.items)) < 2 ^
         32 }
     ensures head { IfOk result (λ l. l ≡ draft.old.labels) }
-    ensures scope { OnOk result (scope_of scope.new
-        ≡ typing.after_for_loop (scope_of scope.old) (Some (for_loop_of for_loop.now))) }
-    ensures homes { OnOk result (homes_of homes.new.items
-        ≡ loops.with_index (homes_of homes.old.items) (for_loop_of for_loop.now)) }
+    ensures layout { OnOk result (site.new.layout ≡ site.old.layout) }
+    ensures scope { OnOk result (scope_of site.new.scope
+        ≡ typing.after_for_loop (scope_of site.old.scope) (Some (for_loop_of for_loop.now))) }
+    ensures homes { OnOk result (homes_of site.new.homes.items
+        ≡ loops.with_index (homes_of site.old.homes.items) (for_loop_of for_loop.now)) }
     ensures item { OnOk result (item.new ≡ item.old +
-        (1 + items.block_size (scope_of scope.old).index (block_of for_loop.now.body.items))) }
+        (1 + items.block_size (index_at site.old) (block_of for_loop.now.body.items))) }
     ensures emits { OnOk result (Emits draft.old draft.new
-        (draft.old.labels + 4 + block_labels (scope_of scope.old).index (block_of for_loop.now.body.items))
-        (loops.iterations_code places.now (homes_of homes.old.items) (scope_of scope.old) (for_loop_of for_loop.now) item.old
-        draft.old.labels)) }
+        (draft.old.labels + 4 + block_labels (index_at site.old) (block_of for_loop.now.body.items))
+        (at site.old loops.iterations_code (for_loop_of for_loop.now) item.old draft.old.labels)) }
 {
-    let bound = register_at(homes, &for_loop.bound);
+    let bound = register_at(&site.homes, &for_loop.bound);
     let name = for_loop.index.text();
-    homes.push(Home {
+    site.homes.push(Home {
         name,
         register: ITERATION,
         last_use: None,
     })?;
-    declare(scope, &for_loop.index, Binding::Index)?;
-    let labels = emit_entry(draft, places, homes, bound)?;
+    declare(&mut site.scope, &for_loop.index, Binding::Index)?;
+    let labels = emit_entry(draft, &site.layout, &site.homes, bound)?;
     let LoopLabels { head, last, .. } = labels;
     *item += 1;
-    emit_inside(draft, places, homes, scope, last, for_loop, item)?;
-    emit_again(draft, places, homes, for_loop, bound, labels)?;
+    emit_inside(draft, site, last, for_loop, item)?;
+    emit_again(draft, &site.layout, &site.homes, for_loop, bound, labels)?;
     Ok(head)
 }

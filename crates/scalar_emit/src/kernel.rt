@@ -11,6 +11,7 @@ ghost use Rattle.loop_form.specs.Listing.{listing_of};
 ghost use Rattle.loop_form.specs.View.{program};
 ghost use Rattle.scalar_words.specs.KernelRegisters.{register_in};
 ghost use Rattle.label_fix.specs.Emits.{Emits, AppendsWords};
+ghost use Rattle.scalar_words.specs.Sites.{at, index_at};
 ghost use Rattle.scalar_words.specs.View.{homes_of};
 ghost use Rattle.scalar_words.specs.Layout.{with_constants};
 ghost use Rattle.loop_code.specs.LoopNumbers as numbers;
@@ -32,11 +33,11 @@ use loop_form::laws::few_items;
 use loop_form::{Item, vars_size_of};
 use reg_assign::Assigned;
 use scalar_values::emit_value;
-use scalar_words::Home;
+use scalar_words::kernel_layout::{counted_register, lay_out};
 use scalar_words::laws::each_has_a_register;
 use scalar_words::names::{declare_names, declare_params, declare_var};
 use scalar_words::operations::{emit_copy, emit_settle};
-use scalar_words::places::{Places, counted_register, places_of};
+use scalar_words::{Home, KernelLayout, Site};
 use std::alloc::{AllocError, Global};
 use value_code::instructions::{exit_call, small};
 use word_rows::Bits;
@@ -61,10 +62,8 @@ fn emit_arguments(draft: &mut Draft, params: &[Param]) -> Result<(), AllocError>
 
 fn emit_var<'a>(
     draft: &mut Draft,
-    places: &Places,
+    site: &mut Site<'a>,
     regs: &Assigned,
-    homes: &mut Vec<Home<'a>>,
-    scope: &mut Scope<'a>,
     place: usize,
     var: &'a Var,
     item: &mut usize,
@@ -72,46 +71,47 @@ fn emit_var<'a>(
     requires assigned { IsAssignment 15 regs.now }
     requires within { place < length regs.now.registers }
     requires kind { IsValue (term_of var.now.init) }
-    requires fits { item.old + (items.term_size (scope_of scope.old).index (term_of var.now.init) + 1) < 2 ^ 32 }
-    ensures scope { OnOk result (scope_of scope.new ≡ after_var (scope_of scope.old) (accumulator_of var.now)) }
-    ensures homes { OnOk result (homes_of homes.new.items
-        ≡ homes_of homes.old.items ++ registers.var_home (register_in regs.now) place (accumulator_of var.now) ∷ []) }
-    ensures item { OnOk result (item.new ≡ item.old + items.term_size (scope_of scope.old).index
+    requires fits { item.old + (items.term_size (index_at site.old) (term_of var.now.init) + 1) < 2 ^ 32 }
+    ensures layout { OnOk result (site.new.layout ≡ site.old.layout) }
+    ensures scope { OnOk result (scope_of site.new.scope
+        ≡ after_var (scope_of site.old.scope) (accumulator_of var.now)) }
+    ensures homes { OnOk result (homes_of site.new.homes.items
+        ≡ homes_of site.old.homes.items
+        ++ registers.var_home (register_in regs.now) place (accumulator_of var.now) ∷ []) }
+    ensures item { OnOk result (item.new ≡ item.old + items.term_size (index_at site.old)
         (term_of var.now.init) + 1) }
     ensures emits { OnOk result (Emits draft.old draft.new
-        (draft.old.labels + kernels.var_labels (scope_of scope.old).index (accumulator_of var.now))
-        (kernels.var_code places.now (register_in regs.now) (homes_of homes.old.items) (scope_of scope.old) place
-        item.old draft.old.labels (accumulator_of var.now))) }
+        (draft.old.labels + kernels.var_labels (index_at site.old) (accumulator_of var.now))
+        (kernels.var_code site.old.layout (register_in regs.now) (homes_of site.old.homes.items)
+        (scope_of site.old.scope) place item.old draft.old.labels (accumulator_of var.now))) }
 {
-    let from = emit_value(draft, places, homes, scope, Some(var.ty), &var.init, item)?;
+    let from = emit_value(draft, site, Some(var.ty), &var.init, item)?;
     emit_copy(draft, counted_register(regs, place), from)?;
     *item += 1;
-    declare_var(scope, homes, regs, place, var)
+    declare_var(&mut site.scope, &mut site.homes, regs, place, var)
 }
 
 // The accumulators in their order.
 fn emit_vars<'a>(
     draft: &mut Draft,
-    places: &Places,
+    site: &mut Site<'a>,
     regs: &Assigned,
-    homes: &mut Vec<Home<'a>>,
-    scope: &mut Scope<'a>,
     vars: &'a [Var],
     item: usize,
 ) -> Result<(), AllocError>
     requires assigned { IsAssignment 15 regs.now }
     requires within { length vars.now ≤ length regs.now.registers }
     requires kinds { VarsKinds (accumulators_of vars.now) }
-    requires fits { item + items.vars_size (scope_of scope.old).index (accumulators_of vars.now) < 2 ^ 32 }
+    requires fits { item + items.vars_size (index_at site.old) (accumulators_of vars.now) < 2 ^ 32 }
     ensures { OnOk result (Emits draft.old draft.new
-        (draft.old.labels + kernels.vars_labels (scope_of scope.old).index (accumulators_of vars.now))
-        (kernels.vars_code places.now (register_in regs.now) (homes_of homes.old.items) (scope_of scope.old) 0 item
-        draft.old.labels (accumulators_of vars.now))) }
+        (draft.old.labels + kernels.vars_labels (index_at site.old) (accumulators_of vars.now))
+        (kernels.vars_code site.old.layout (register_in regs.now) (homes_of site.old.homes.items)
+        (scope_of site.old.scope) 0 item draft.old.labels (accumulators_of vars.now))) }
 {
     let mut next = item;
     let mut place = 0;
     for var in vars {
-        emit_var(draft, places, regs, homes, scope, place, var, &mut next)?;
+        emit_var(draft, site, regs, place, var, &mut next)?;
         place += 1;
     }
     Ok(())
@@ -120,10 +120,8 @@ fn emit_vars<'a>(
 // The code before the loop, with no name declared yet.
 fn emit_first<'a>(
     draft: &mut Draft,
-    places: &Places,
+    site: &mut Site<'a>,
     regs: &Assigned,
-    homes: &mut Vec<Home<'a>>,
-    scope: &mut Scope<'a>,
     kernel: &'a Kernel,
 ) -> Result<(), AllocError>
     requires assigned { IsAssignment 15 regs.now }
@@ -131,16 +129,16 @@ fn emit_first<'a>(
     requires params { length (program_of kernel.now).params ≤ 8 }
     requires kinds { VarsKinds (program_of kernel.now).vars }
     requires few { items.size_of (program_of kernel.now) ≤ 1000 }
-    requires places { places.now ≡ registers.layout_of_kernel (register_in regs.now) (program_of kernel.now) }
-    requires scope { scope_of scope.old ≡ typing.empty (items.loop_index (program_of kernel.now)) }
-    requires homes { homes.old.items ≡ [] }
+    requires layout { site.old.layout ≡ registers.layout_of_kernel (register_in regs.now) (program_of kernel.now) }
+    requires scope { scope_of site.old.scope ≡ typing.empty (items.loop_index (program_of kernel.now)) }
+    requires homes { site.old.homes.items ≡ [] }
     ensures { OnOk result (Emits draft.old draft.new (draft.old.labels + kernels.begin_labels (program_of kernel.now))
         (kernels.begin_code (register_in regs.now) (program_of kernel.now) draft.old.labels)) }
 {
-    declare_params(scope, homes, &kernel.params)?;
+    declare_params(&mut site.scope, &mut site.homes, &kernel.params)?;
     emit_arguments(draft, &kernel.params)?;
     let first = kernel.params.len();
-    emit_vars(draft, places, regs, homes, scope, &kernel.vars, first)?;
+    emit_vars(draft, site, regs, &kernel.vars, first)?;
     draft.put(small(ITERATION.number, 0))
 }
 
@@ -165,11 +163,16 @@ pub fn emit_begin(
     few_params(kernel);
     right_kinds(kernel);
     each_has_a_register(kernel, regs);
-    let places = places_of(alloc, kernel, listing, regs)?;
+    let layout = lay_out(alloc, kernel, listing, regs)?;
     let tree = kernel.kernel();
-    let mut scope = empty(alloc, loop_index(&tree.body));
-    let mut homes = Vec::new(alloc);
-    emit_first(draft, &places, regs, &mut homes, &mut scope, tree)
+    let scope = empty(alloc, loop_index(&tree.body));
+    let homes = Vec::new(alloc);
+    let mut site = Site {
+        layout,
+        homes,
+        scope,
+    };
+    emit_first(draft, &mut site, regs, tree)
 }
 
 // ---- the loop and the end
@@ -193,18 +196,15 @@ fn emit_exit(draft: &mut Draft) -> Result<(), AllocError>
 // The returned value, and the end.
 fn emit_answer(
     draft: &mut Draft,
-    places: &Places,
-    homes: &[Home],
-    scope: &Scope,
+    site: &Site,
     answer: &Option<Answer>,
     item: usize,
 ) -> Result<(), AllocError>
     requires kind { AnswerKinds (option_map returned_of answer.now) }
-    requires fits { item + items.answer_size (scope_of scope.now).index (option_map returned_of answer.now) < 2 ^ 32 }
+    requires fits { item + items.answer_size (index_at site.now) (option_map returned_of answer.now) < 2 ^ 32 }
     ensures { OnOk result (Emits draft.old draft.new
-        (draft.old.labels + loops.answer_labels (scope_of scope.now).index (option_map returned_of answer.now))
-        (loops.answer_code places.now (homes_of homes.now) (scope_of scope.now) item draft.old.labels
-        (option_map returned_of answer.now))) }
+        (draft.old.labels + loops.answer_labels (index_at site.now) (option_map returned_of answer.now))
+        (at site.now loops.answer_code item draft.old.labels (option_map returned_of answer.now))) }
 {
     match answer {
         None => {
@@ -213,15 +213,7 @@ fn emit_answer(
         }
         Some(answer) => {
             let mut next = item;
-            let from = emit_value(
-                draft,
-                places,
-                homes,
-                scope,
-                Some(answer.ty),
-                &answer.value,
-                &mut next,
-            )?;
+            let from = emit_value(draft, site, Some(answer.ty), &answer.value, &mut next)?;
             emit_copy(draft, Bits { number: 0 }, from)?;
             emit_exit(draft)
         }
@@ -231,29 +223,29 @@ fn emit_answer(
 // What a loop holds, with so many parameters and the names before it.
 fn hold_numbers(
     alloc: Global,
-    places: &mut Places,
+    layout: &mut KernelLayout,
     params: usize,
     homes: &[Home],
     scope: &Scope,
     for_loop: &Loop,
 ) -> Result<(), AllocError>
     requires { params ≤ 8 }
-    ensures { OnOk result (places.new ≡ with_constants places.old
+    ensures { OnOk result (layout.new ≡ with_constants layout.old
         (numbers.hold_block params (homes_of homes.now) (scope_of scope.now) (block_of for_loop.now.body.items) [])) }
 {
     let mut constants = Vec::new(alloc);
     hold_block(&mut constants, params, homes, scope, &for_loop.body)?;
-    places.hold(constants);
+    layout.hold(constants);
     Ok(())
 }
 
 // What is held after a loop: the arrays that stand ahead.
-fn leave_loop(alloc: Global, places: &mut Places) -> Result<(), AllocError>
-    ensures { OnOk result (places.new ≡ loops.bare places.old) }
+fn leave_loop(alloc: Global, layout: &mut KernelLayout) -> Result<(), AllocError>
+    ensures { OnOk result (layout.new ≡ loops.bare layout.old) }
 {
-    let ahead = after_loop(alloc, places.loose())?;
-    places.hold(Vec::new(alloc));
-    places.loosen(ahead);
+    let ahead = after_loop(alloc, layout.loose())?;
+    layout.hold(Vec::new(alloc));
+    layout.loosen(ahead);
     Ok(())
 }
 
@@ -261,10 +253,8 @@ fn leave_loop(alloc: Global, places: &mut Places) -> Result<(), AllocError>
 fn emit_for_loop<'a>(
     alloc: Global,
     draft: &mut Draft,
-    places: &mut Places<'a>,
+    site: &mut Site<'a>,
     regs: &Assigned,
-    homes: &mut Vec<Home<'a>>,
-    scope: &mut Scope<'a>,
     kernel: &Kernel,
     for_loop: &'a Loop,
     item: usize,
@@ -273,10 +263,11 @@ fn emit_for_loop<'a>(
     requires for_loop { (program_of kernel.now).for_loop ≡ Some (for_loop_of for_loop.now) }
     requires kinds { KernelKinds (program_of kernel.now) }
     requires few { items.size_of (program_of kernel.now) ≤ 1000 }
-    requires places { places.old ≡ registers.layout_of_kernel (register_in regs.now) (program_of kernel.now) }
+    requires layout { site.old.layout ≡ registers.layout_of_kernel (register_in regs.now) (program_of kernel.now) }
     requires start { item ≡ items.loop_start (program_of kernel.now) }
-    requires scope { scope_of scope.old ≡ typing.var_scope (program_of kernel.now) }
-    requires homes { homes_of homes.old.items ≡ registers.kernel_homes (register_in regs.now) (program_of kernel.now) }
+    requires scope { scope_of site.old.scope ≡ typing.var_scope (program_of kernel.now) }
+    requires homes { homes_of site.old.homes.items
+        ≡ registers.kernel_homes (register_in regs.now) (program_of kernel.now) }
     ensures entry { IfOk result (λ e. e.at_iteration ≡ draft.old.labels) }
     ensures emits { OnOk result (Emits draft.old draft.new
         (draft.old.labels + kernels.scalar_labels (program_of kernel.now))
@@ -284,11 +275,18 @@ fn emit_for_loop<'a>(
 {
     let mut next = item;
     let params = kernel.params.len();
-    hold_numbers(alloc, places, params, homes, scope, for_loop)?;
-    loosen_names(alloc, places, scope, kernel, for_loop)?;
-    let at_iteration = emit_loop(draft, places, homes, scope, for_loop, &mut next)?;
-    leave_loop(alloc, places)?;
-    emit_answer(draft, places, homes, scope, &kernel.answer, next)?;
+    hold_numbers(
+        alloc,
+        &mut site.layout,
+        params,
+        &site.homes,
+        &site.scope,
+        for_loop,
+    )?;
+    loosen_names(alloc, &mut site.layout, &mut site.scope, kernel, for_loop)?;
+    let at_iteration = emit_loop(draft, site, for_loop, &mut next)?;
+    leave_loop(alloc, &mut site.layout)?;
+    emit_answer(draft, site, &kernel.answer, next)?;
     Ok(ScalarEntry { at_iteration })
 }
 
@@ -296,10 +294,8 @@ fn emit_for_loop<'a>(
 fn emit_rest<'a>(
     alloc: Global,
     draft: &mut Draft,
-    places: &mut Places<'a>,
+    site: &mut Site<'a>,
     regs: &Assigned,
-    homes: &mut Vec<Home<'a>>,
-    scope: &mut Scope<'a>,
     kernel: &'a Kernel,
     item: usize,
 ) -> Result<ScalarEntry, AllocError>
@@ -308,25 +304,23 @@ fn emit_rest<'a>(
     requires params { length (program_of kernel.now).params ≤ 8 }
     requires kinds { KernelKinds (program_of kernel.now) }
     requires few { items.size_of (program_of kernel.now) ≤ 1000 }
-    requires places { places.old ≡ registers.layout_of_kernel (register_in regs.now) (program_of kernel.now) }
+    requires layout { site.old.layout ≡ registers.layout_of_kernel (register_in regs.now) (program_of kernel.now) }
     requires start { item ≡ items.loop_start (program_of kernel.now) }
-    requires scope { scope_of scope.old ≡ typing.empty (items.loop_index (program_of kernel.now)) }
-    requires homes { homes.old.items ≡ [] }
+    requires scope { scope_of site.old.scope ≡ typing.empty (items.loop_index (program_of kernel.now)) }
+    requires homes { site.old.homes.items ≡ [] }
     ensures entry { IfOk result (λ e. e.at_iteration ≡ draft.old.labels) }
     ensures emits { OnOk result (Emits draft.old draft.new
         (draft.old.labels + kernels.scalar_labels (program_of kernel.now))
         (kernels.scalar_code (register_in regs.now) (program_of kernel.now) draft.old.labels)) }
 {
-    declare_names(scope, homes, regs, kernel)?;
+    declare_names(&mut site.scope, &mut site.homes, regs, kernel)?;
     match &kernel.body {
         None => {
             let at_iteration = emit_head(draft)?;
-            emit_answer(draft, places, homes, scope, &kernel.answer, item)?;
+            emit_answer(draft, site, &kernel.answer, item)?;
             Ok(ScalarEntry { at_iteration })
         }
-        Some(for_loop) => emit_for_loop(
-            alloc, draft, places, regs, homes, scope, kernel, for_loop, item,
-        ),
+        Some(for_loop) => emit_for_loop(alloc, draft, site, regs, kernel, for_loop, item),
     }
 }
 
@@ -351,19 +345,15 @@ pub fn emit_scalar(
     few_params(kernel);
     right_kinds(kernel);
     each_has_a_register(kernel, regs);
-    let mut places = places_of(alloc, kernel, listing, regs)?;
+    let layout = lay_out(alloc, kernel, listing, regs)?;
     let tree = kernel.kernel();
     let item = tree.params.len() + vars_size_of(kernel, &tree.vars) as usize;
-    let mut scope = empty(alloc, loop_index(&tree.body));
-    let mut homes = Vec::new(alloc);
-    emit_rest(
-        alloc,
-        draft,
-        &mut places,
-        regs,
-        &mut homes,
-        &mut scope,
-        tree,
-        item,
-    )
+    let scope = empty(alloc, loop_index(&tree.body));
+    let homes = Vec::new(alloc);
+    let mut site = Site {
+        layout,
+        homes,
+        scope,
+    };
+    emit_rest(alloc, draft, &mut site, regs, tree, item)
 }

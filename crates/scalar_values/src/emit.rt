@@ -6,9 +6,9 @@ ghost use Rattle.kernel_tree.specs.Items.{term_size, index_items};
 ghost use Rattle.kernel_tree.specs.Kinds.{IsValue, IsTruth};
 ghost use Rattle.kernel_scope.specs.Scopes.{scope_of};
 ghost use Rattle.label_fix.specs.Emits.{Emits};
-ghost use Rattle.scalar_words.specs.View.{homes_of};
+ghost use Rattle.scalar_words.specs.Sites.{at, at_index, index_at};
 ghost use Rattle.value_code.specs.ValueRegisters as placed;
-ghost use Rattle.scalar_words.specs.Layout as layout;
+ghost use Rattle.scalar_words.specs.Layout as layouts;
 ghost use Rattle.value_code.specs.declared.extent.Extent.TheVariants.{Whole};
 ghost use Rattle.value_code.specs.Code as code;
 ghost use Rattle.scalar_values.specs.Sides.{side_view};
@@ -16,20 +16,19 @@ ghost use Rattle.scalar_values.specs.Sides.{side_view};
 use crate::fusion::{is_fused, is_led, part_side};
 use crate::literal::emit_literal;
 use crate::operations::{
-    emit_branch, emit_chosen, emit_load, emit_offset, emit_pick, emit_placed, want_cast,
+    Made, emit_branch, emit_chosen, emit_load, emit_offset, emit_pick, emit_placed, want_cast,
     want_operator, want_shift, want_unary,
 };
 use crate::registers::{home_of, take, take_held};
 use crate::side::Side;
 use a64_code::Reg;
-use kernel_scope::{Scope, array_type, first, own_type, side_type};
+use kernel_scope::{array_type, first, own_type, side_type};
 use kernel_tree::{BinaryOp, Expr, Name, Ty};
 use label_fix::registers::ITERATION;
 use label_fix::{Draft, Label};
-use scalar_words::places::Places;
-use scalar_words::{Home, register_at};
+use scalar_words::Site;
 use std::alloc::AllocError;
-use value_code::extent::{Extent, converted_extent, within_type};
+use value_code::extent::{Asked, Extent, converted_extent, within_type};
 use value_code::instructions::{added_number, compare_word, compared_number, index_word};
 use value_code::leaving::{binary_asks, shift_asks, unary_asks};
 use value_code::place::place_of;
@@ -38,32 +37,29 @@ use value_code::place::place_of;
 #[cycle(terms)]
 pub fn emit_loose(
     draft: &mut Draft,
-    places: &Places,
-    homes: &[Home],
-    scope: &Scope,
-    extent: Extent,
-    want: Option<Ty>,
+    site: &Site,
+    asked: Asked,
     expr: &Expr,
     item: &mut usize,
 ) -> Result<Reg, AllocError>
     requires kind { IsValue (term_of expr.now) }
-    requires fits { item.old + term_size (scope_of scope.now).index (term_of expr.now) < 2 ^ 32 }
-    ensures register { IfOk result (λ r. r.number
-        ≡ placed.home places.now (homes_of homes.now) (scope_of scope.now).index item.old (term_of expr.now)) }
-    ensures item { OnOk result (item.new ≡ item.old + term_size (scope_of scope.now).index (term_of expr.now)) }
+    requires fits { item.old + term_size (index_at site.now) (term_of expr.now) < 2 ^ 32 }
+    ensures register { IfOk result (λ r. r.number ≡ at_index site.now placed.home item.old (term_of expr.now)) }
+    ensures item { OnOk result (item.new ≡ item.old + term_size (index_at site.now) (term_of expr.now)) }
     ensures emits { OnOk result (Emits draft.old draft.new
-        (draft.old.labels + code.labels (scope_of scope.now).index (term_of expr.now))
-        (code.loose_code places.now (homes_of homes.now) (scope_of scope.now) extent want item.old draft.old.labels
-        (term_of expr.now))) }
+        (draft.old.labels + code.labels (index_at site.now) (term_of expr.now))
+        (at site.now code.loose_code asked.extent asked.want item.old draft.old.labels (term_of expr.now))) }
 {
+    let Asked { extent, want } = asked;
+    let scope = &site.scope;
     match expr {
-        Expr::Lit(value) => emit_literal(draft, places, want, *value, item),
-        Expr::Var(name) => Ok(take_held(homes, name, item)),
+        Expr::Lit(value) => emit_literal(draft, &site.layout, want, *value, item),
+        Expr::Var(name) => Ok(take_held(site, name, item)),
         Expr::Unary { op, arg } => {
             let arg = &**arg;
-            let (asked, leaves) = unary_asks(scope, want, *op, arg, extent);
-            let a = emit_loose(draft, places, homes, scope, asked, want, arg, item)?;
-            want_unary(draft, places, *op, leaves, want, a, item)
+            let (extent, leaves) = unary_asks(scope, want, *op, arg, extent);
+            let a = emit_loose(draft, site, Asked { extent, want }, arg, item)?;
+            want_unary(draft, &site.layout, *op, Made { want, leaves }, a, item)
         }
         Expr::Shift {
             left_shift,
@@ -71,27 +67,25 @@ pub fn emit_loose(
             count,
         } => {
             let arg = &**arg;
-            let (asked, leaves) = shift_asks(scope, want, *left_shift, arg, *count, extent);
-            let a = emit_loose(draft, places, homes, scope, asked, want, arg, item)?;
-            want_shift(draft, places, leaves, *left_shift, *count, want, a, item)
+            let (extent, leaves) = shift_asks(scope, want, *left_shift, arg, *count, extent);
+            let a = emit_loose(draft, site, Asked { extent, want }, arg, item)?;
+            let made = Made { want, leaves };
+            want_shift(draft, &site.layout, made, *left_shift, *count, a, item)
         }
         Expr::Cast { arg, ty } => {
             let arg = &**arg;
             let from = own_type(scope, arg);
-            let asked = converted_extent(extent, from, *ty);
-            let a = emit_loose(draft, places, homes, scope, asked, from, arg, item)?;
-            want_cast(draft, places, within_type(extent, *ty), from, *ty, a, item)
+            let extent = converted_extent(extent, from, *ty);
+            let a = emit_loose(draft, site, Asked { extent, want: from }, arg, item)?;
+            let low = within_type(asked.extent, *ty);
+            want_cast(draft, &site.layout, low, from, *ty, a, item)
         }
-        Expr::Binary { op, left, right } => emit_two(
-            draft, places, homes, scope, extent, want, *op, left, right, item,
-        ),
-        Expr::Read { array, index } => emit_read(
-            draft, places, homes, scope, extent, array, index, item,
-        ),
+        Expr::Binary { op, left, right } => emit_two(draft, site, asked, *op, left, right, item),
+        Expr::Read { array, index } => emit_read(draft, site, extent, array, index, item),
         Expr::Select { cond, yes, no } => {
-            let a = emit_loose(draft, places, homes, scope, extent, want, yes, item)?;
-            let b = emit_loose(draft, places, homes, scope, extent, want, no, item)?;
-            emit_one_of(draft, places, homes, scope, cond, a, b, item)
+            let a = emit_loose(draft, site, asked, yes, item)?;
+            let b = emit_loose(draft, site, asked, no, item)?;
+            emit_one_of(draft, site, cond, a, b, item)
         }
         _ => unreachable!(),
     }
@@ -101,11 +95,8 @@ pub fn emit_loose(
 #[cycle(terms)]
 fn emit_two(
     draft: &mut Draft,
-    places: &Places,
-    homes: &[Home],
-    scope: &Scope,
-    extent: Extent,
-    want: Option<Ty>,
+    site: &Site,
+    asked: Asked,
     op: BinaryOp,
     left: &Expr,
     right: &Expr,
@@ -113,25 +104,23 @@ fn emit_two(
 ) -> Result<Reg, AllocError>
     requires left { IsValue (term_of left.now) }
     requires right { IsValue (term_of right.now) }
-    requires fits { item.old + term_size (scope_of scope.now).index (Operation op (term_of left.now)
+    requires fits { item.old + term_size (index_at site.now) (Operation op (term_of left.now)
         (term_of right.now)) < 2 ^ 32 }
-    ensures register { IfOk result (λ r. r.number
-        ≡ placed.home places.now (homes_of homes.now) (scope_of scope.now).index item.old (Operation op
+    ensures register { IfOk result (λ r. r.number ≡ at_index site.now placed.home item.old (Operation op
         (term_of left.now) (term_of right.now))) }
-    ensures item { OnOk result (item.new ≡ item.old + term_size (scope_of scope.now).index (Operation op
+    ensures item { OnOk result (item.new ≡ item.old + term_size (index_at site.now) (Operation op
         (term_of left.now) (term_of right.now))) }
     ensures emits { OnOk result (Emits draft.old draft.new
-        (draft.old.labels + code.labels (scope_of scope.now).index
+        (draft.old.labels + code.labels (index_at site.now)
         (Operation op (term_of left.now) (term_of right.now)))
-        (code.loose_code places.now (homes_of homes.now) (scope_of scope.now) extent want item.old draft.old.labels
+        (at site.now code.loose_code asked.extent asked.want item.old draft.old.labels
         (Operation op (term_of left.now) (term_of right.now)))) }
 {
-    let (asked, leaves) = binary_asks(scope, want, op, left, right, extent);
-    let sides = emit_sides(
-        draft, places, homes, scope, op, asked, want, left, right, item,
-    )?;
-    let r = take(places, item);
-    want_operator(draft, op, sides.0, leaves, want, r, sides.1).and(Ok(r))
+    let Asked { extent, want } = asked;
+    let (extent, leaves) = binary_asks(&site.scope, want, op, left, right, extent);
+    let sides = emit_sides(draft, site, op, Asked { extent, want }, left, right, item)?;
+    let r = take(&site.layout, item);
+    want_operator(draft, op, sides.0, Made { want, leaves }, r, sides.1).and(Ok(r))
 }
 
 // Both sides of an operator, of which so much is asked for; answers what its word takes of one, and the register of the
@@ -139,41 +128,38 @@ fn emit_two(
 #[cycle(terms)]
 fn emit_sides(
     draft: &mut Draft,
-    places: &Places,
-    homes: &[Home],
-    scope: &Scope,
+    site: &Site,
     op: BinaryOp,
-    extent: Extent,
-    want: Option<Ty>,
+    asked: Asked,
     left: &Expr,
     right: &Expr,
     item: &mut usize,
 ) -> Result<(Side, Reg), AllocError>
     requires left { IsValue (term_of left.now) }
     requires right { IsValue (term_of right.now) }
-    requires fits { item.old + term_size (scope_of scope.now).index (Operation op (term_of left.now)
+    requires fits { item.old + term_size (index_at site.now) (Operation op (term_of left.now)
         (term_of right.now)) < 2 ^ 32 }
-    ensures side { IfOk result (λ r. side_view r.0 ≡ code.taken_side places.now (homes_of homes.now)
-        (scope_of scope.now) op extent want item.old (term_of left.now) (term_of right.now)) }
-    ensures other { IfOk result (λ r. r.1.number ≡ code.other_home places.now (homes_of homes.now)
-        (scope_of scope.now) op extent want item.old (term_of left.now) (term_of right.now)) }
-    ensures item { OnOk result (item.new ≡ item.old + term_size (scope_of scope.now).index (term_of left.now)
-        + term_size (scope_of scope.now).index (term_of right.now)) }
+    ensures side { IfOk result (λ r. side_view r.0 ≡ at site.now code.taken_side op asked.extent asked.want item.old
+        (term_of left.now) (term_of right.now)) }
+    ensures other { IfOk result (λ r. r.1.number ≡ at site.now code.other_home op asked.extent asked.want item.old
+        (term_of left.now) (term_of right.now)) }
+    ensures item { OnOk result (item.new ≡ item.old + term_size (index_at site.now) (term_of left.now)
+        + term_size (index_at site.now) (term_of right.now)) }
     ensures emits { OnOk result (Emits draft.old draft.new
-        (draft.old.labels + code.labels (scope_of scope.now).index
+        (draft.old.labels + code.labels (index_at site.now)
         (Operation op (term_of left.now) (term_of right.now)))
-        (code.sides_code places.now (homes_of homes.now) (scope_of scope.now) extent want item.old draft.old.labels op
+        (at site.now code.sides_code asked.extent asked.want item.old draft.old.labels op
         (term_of left.now) (term_of right.now))) }
 {
-    if is_led(places, homes, scope, op, extent, want, left, right, *item) {
-        let side = part_side(places, homes, scope, want, left, *item);
-        emit_parts(draft, places, homes, scope, extent, want, left, item)?;
+    if is_led(site, op, asked, left, right, *item) {
+        let side = part_side(site, asked.want, left, *item);
+        emit_parts(draft, site, asked, left, item)?;
         *item += 1;
-        let r = emit_loose(draft, places, homes, scope, extent, want, right, item)?;
+        let r = emit_loose(draft, site, asked, right, item)?;
         Ok((side, r))
     } else {
-        let r = emit_loose(draft, places, homes, scope, extent, want, left, item)?;
-        let side = emit_side(draft, places, homes, scope, op, extent, want, right, item)?;
+        let r = emit_loose(draft, site, asked, left, item)?;
+        let side = emit_side(draft, site, op, asked, right, item)?;
         Ok((side, r))
     }
 }
@@ -182,42 +168,39 @@ fn emit_sides(
 #[cycle(terms)]
 pub fn emit_side(
     draft: &mut Draft,
-    places: &Places,
-    homes: &[Home],
-    scope: &Scope,
+    site: &Site,
     op: BinaryOp,
-    extent: Extent,
-    want: Option<Ty>,
+    asked: Asked,
     expr: &Expr,
     item: &mut usize,
 ) -> Result<Side, AllocError>
     requires kind { IsValue (term_of expr.now) }
-    requires fits { item.old + term_size (scope_of scope.now).index (term_of expr.now) < 2 ^ 32 }
-    ensures side { IfOk result (λ s. side_view s ≡ code.right_side places.now (homes_of homes.now)
-        (scope_of scope.now) op extent want item.old (term_of expr.now)) }
-    ensures item { OnOk result (item.new ≡ item.old + term_size (scope_of scope.now).index (term_of expr.now)) }
+    requires fits { item.old + term_size (index_at site.now) (term_of expr.now) < 2 ^ 32 }
+    ensures side { IfOk result (λ s. side_view s ≡ at site.now code.right_side op asked.extent asked.want
+        item.old (term_of expr.now)) }
+    ensures item { OnOk result (item.new ≡ item.old + term_size (index_at site.now) (term_of expr.now)) }
     ensures emits { OnOk result (Emits draft.old draft.new
-        (draft.old.labels + code.labels (scope_of scope.now).index (term_of expr.now))
-        (code.side_code (code.added_number op want (term_of expr.now))
-        (code.is_fused (scope_of scope.now) op extent want (term_of expr.now)) (code.loose_code places.now
-        (homes_of homes.now) (scope_of scope.now) extent want item.old draft.old.labels (term_of expr.now))
-        (code.parts_code places.now (homes_of homes.now) (scope_of scope.now) extent want item.old draft.old.labels
+        (draft.old.labels + code.labels (index_at site.now) (term_of expr.now))
+        (code.side_code (code.added_number op asked.want (term_of expr.now))
+        (code.is_fused (scope_of site.now.scope) op asked.extent asked.want (term_of expr.now))
+        (at site.now code.loose_code asked.extent asked.want item.old draft.old.labels (term_of expr.now))
+        (at site.now code.parts_code asked.extent asked.want item.old draft.old.labels
         (term_of expr.now)))) }
 {
-    let fused = is_fused(scope, op, extent, want, expr);
-    match added_number(op, want, expr) {
+    let fused = is_fused(&site.scope, op, asked, expr);
+    match added_number(op, asked.want, expr) {
         Some(number) => {
             *item += 1;
             Ok(Side::Number(number))
         }
         None => {
             if fused {
-                let side = part_side(places, homes, scope, want, expr, *item);
-                emit_parts(draft, places, homes, scope, extent, want, expr, item)?;
+                let side = part_side(site, asked.want, expr, *item);
+                emit_parts(draft, site, asked, expr, item)?;
                 *item += 1;
                 Ok(side)
             } else {
-                let r = emit_loose(draft, places, homes, scope, extent, want, expr, item)?;
+                let r = emit_loose(draft, site, asked, expr, item)?;
                 Ok(Side::Register(r))
             }
         }
@@ -228,29 +211,27 @@ pub fn emit_side(
 #[cycle(terms)]
 fn emit_parts(
     draft: &mut Draft,
-    places: &Places,
-    homes: &[Home],
-    scope: &Scope,
-    extent: Extent,
-    want: Option<Ty>,
+    site: &Site,
+    asked: Asked,
     expr: &Expr,
     item: &mut usize,
 ) -> Result<Reg, AllocError>
     requires kind { IsValue (term_of expr.now) }
     requires parts { code.HasParts true (term_of expr.now) }
-    requires fits { item.old + term_size (scope_of scope.now).index (term_of expr.now) < 2 ^ 32 }
-    ensures item { OnOk result (item.new + 1 ≡ item.old + term_size (scope_of scope.now).index (term_of expr.now)) }
+    requires fits { item.old + term_size (index_at site.now) (term_of expr.now) < 2 ^ 32 }
+    ensures item { OnOk result (item.new + 1 ≡ item.old + term_size (index_at site.now) (term_of expr.now)) }
     ensures emits { OnOk result (Emits draft.old draft.new
-        (draft.old.labels + code.labels (scope_of scope.now).index (term_of expr.now))
-        (code.parts_code places.now (homes_of homes.now) (scope_of scope.now) extent want item.old draft.old.labels
-        (term_of expr.now))) }
+        (draft.old.labels + code.labels (index_at site.now) (term_of expr.now))
+        (at site.now code.parts_code asked.extent asked.want item.old draft.old.labels (term_of expr.now))) }
 {
+    let Asked { extent, want } = asked;
+    let scope = &site.scope;
     match expr {
         Expr::Binary { op, left, right } => {
             let (left, right) = (&**left, &**right);
-            let (asked, _) = binary_asks(scope, want, *op, left, right, extent);
-            emit_loose(draft, places, homes, scope, asked, want, left, item)?;
-            emit_loose(draft, places, homes, scope, asked, want, right, item)
+            let (extent, _) = binary_asks(scope, want, *op, left, right, extent);
+            emit_loose(draft, site, Asked { extent, want }, left, item)?;
+            emit_loose(draft, site, Asked { extent, want }, right, item)
         }
         Expr::Shift {
             left_shift,
@@ -258,14 +239,14 @@ fn emit_parts(
             count,
         } => {
             let arg = &**arg;
-            let (asked, _) = shift_asks(scope, want, *left_shift, arg, *count, extent);
-            emit_loose(draft, places, homes, scope, asked, want, arg, item)
+            let (extent, _) = shift_asks(scope, want, *left_shift, arg, *count, extent);
+            emit_loose(draft, site, Asked { extent, want }, arg, item)
         }
         Expr::Cast { arg, ty } => {
             let arg = &**arg;
             let from = own_type(scope, arg);
-            let asked = converted_extent(extent, from, *ty);
-            emit_loose(draft, places, homes, scope, asked, from, arg, item)
+            let extent = converted_extent(extent, from, *ty);
+            emit_loose(draft, site, Asked { extent, want: from }, arg, item)
         }
         _ => unreachable!(),
     }
@@ -276,33 +257,31 @@ fn emit_parts(
 #[tactic(auto, using(value_code::proofs::NearOffsets::no_items))]
 fn emit_read(
     draft: &mut Draft,
-    places: &Places,
-    homes: &[Home],
-    scope: &Scope,
+    site: &Site,
     extent: Extent,
     array: &Name,
     index: &Expr,
     item: &mut usize,
 ) -> Result<Reg, AllocError>
     requires kind { IsValue (term_of index.now) }
-    requires fits { item.old + term_size (scope_of scope.now).index (Element (name_of array.now)
+    requires fits { item.old + term_size (index_at site.now) (Element (name_of array.now)
         (term_of index.now)) < 2 ^ 32 }
     ensures register { IfOk result (λ r. r.number
-        ≡ placed.home places.now (homes_of homes.now) (scope_of scope.now).index item.old (Element
+        ≡ at_index site.now placed.home item.old (Element
         (name_of array.now) (term_of index.now))) }
-    ensures item { OnOk result (item.new ≡ item.old + term_size (scope_of scope.now).index (Element
+    ensures item { OnOk result (item.new ≡ item.old + term_size (index_at site.now) (Element
         (name_of array.now) (term_of index.now))) }
     ensures emits { OnOk result (Emits draft.old draft.new
-        (draft.old.labels + code.labels (scope_of scope.now).index (Element (name_of array.now) (term_of index.now)))
-        (code.loose_code places.now (homes_of homes.now) (scope_of scope.now) extent None item.old draft.old.labels
+        (draft.old.labels + code.labels (index_at site.now) (Element (name_of array.now) (term_of index.now)))
+        (at site.now code.loose_code extent None item.old draft.old.labels
         (Element (name_of array.now) (term_of index.now)))) }
 {
-    let ty = array_type(scope, array);
-    match place_of(places, homes, scope, array, index) {
-        Some(place) => emit_load(draft, places, ty, place, ITERATION, item),
+    let ty = array_type(&site.scope, array);
+    match place_of(site, array, index) {
+        Some(place) => emit_load(draft, &site.layout, ty, place, ITERATION, item),
         None => {
-            let x = emit_number(draft, places, homes, scope, index, item)?;
-            emit_load(draft, places, ty, register_at(homes, array), x, item)
+            let x = emit_number(draft, site, index, item)?;
+            emit_load(draft, &site.layout, ty, site.register(array), x, item)
         }
     }
 }
@@ -311,23 +290,21 @@ fn emit_read(
 #[cycle(terms)]
 fn emit_one_of(
     draft: &mut Draft,
-    places: &Places,
-    homes: &[Home],
-    scope: &Scope,
+    site: &Site,
     cond: &Expr,
     a: Reg,
     b: Reg,
     item: &mut usize,
 ) -> Result<Reg, AllocError>
     requires kind { IsTruth (term_of cond.now) }
-    requires fits { item.old + (term_size (scope_of scope.now).index (term_of cond.now) + 1) < 2 ^ 32 }
+    requires fits { item.old + (term_size (index_at site.now) (term_of cond.now) + 1) < 2 ^ 32 }
     ensures register { IfOk result (λ r. r.number
-        ≡ layout.reg_of places.now (item.old + term_size (scope_of scope.now).index (term_of cond.now))) }
+        ≡ layouts.reg_of site.now.layout (item.old + term_size (index_at site.now) (term_of cond.now))) }
     ensures item { OnOk result (item.new
-        ≡ item.old + term_size (scope_of scope.now).index (term_of cond.now) + 1) }
+        ≡ item.old + term_size (index_at site.now) (term_of cond.now) + 1) }
     ensures emits { OnOk result (Emits draft.old draft.new
-        (draft.old.labels + (2 + code.labels (scope_of scope.now).index (term_of cond.now)))
-        (code.one_of_code places.now (homes_of homes.now) (scope_of scope.now) item.old draft.old.labels
+        (draft.old.labels + (2 + code.labels (index_at site.now) (term_of cond.now)))
+        (at site.now code.one_of_code item.old draft.old.labels
         (term_of cond.now) a.number b.number)) }
 {
     let other = draft.label()?;
@@ -335,18 +312,16 @@ fn emit_one_of(
     match cond {
         Expr::Compare { op, left, right } => {
             let (left, right) = (&**left, &**right);
-            let want = side_type(scope, left, right);
+            let want = side_type(&site.scope, left, right);
             let number = compared_number(want, right);
-            let (p, q) = emit_compared(
-                draft, places, homes, scope, want, number, left, right, item,
-            )?;
+            let (p, q) = emit_compared(draft, site, want, number, left, right, item)?;
             *item += 1;
             draft.put(compare_word(number, p, q))?;
-            emit_chosen(draft, places, *op, want, a, b, item)
+            emit_chosen(draft, &site.layout, *op, want, (a, b), item)
         }
         _ => {
-            emit_jump(draft, places, homes, scope, false, other, cond, item)?;
-            emit_pick(draft, places, a, b, other, end, item)
+            emit_jump(draft, site, false, other, cond, item)?;
+            emit_pick(draft, &site.layout, (a, b), other, end, item)
         }
     }
 }
@@ -356,9 +331,7 @@ fn emit_one_of(
 #[cycle(terms)]
 fn emit_compared(
     draft: &mut Draft,
-    places: &Places,
-    homes: &[Home],
-    scope: &Scope,
+    site: &Site,
     want: Option<Ty>,
     number: Option<u64>,
     left: &Expr,
@@ -368,33 +341,32 @@ fn emit_compared(
     requires left { IsValue (term_of left.now) }
     requires right { IsValue (term_of right.now) }
     requires held { code.IsHeld number (term_of right.now) }
-    requires fits { item.old + term_size (scope_of scope.now).index (term_of left.now)
-        + term_size (scope_of scope.now).index (term_of right.now) < 2 ^ 32 }
+    requires fits { item.old + term_size (index_at site.now) (term_of left.now)
+        + term_size (index_at site.now) (term_of right.now) < 2 ^ 32 }
     ensures left { IfOk result (λ r. r.0.number
-        ≡ placed.home places.now (homes_of homes.now) (scope_of scope.now).index item.old (term_of left.now)) }
-    ensures right { IfOk result (λ r. r.1.number ≡ placed.home places.now (homes_of homes.now)
-        (scope_of scope.now).index (item.old + term_size (scope_of scope.now).index (term_of left.now))
-        (term_of right.now)) }
-    ensures item { OnOk result (item.new ≡ item.old + term_size (scope_of scope.now).index (term_of left.now)
-        + term_size (scope_of scope.now).index (term_of right.now)) }
+        ≡ at_index site.now placed.home item.old (term_of left.now)) }
+    ensures right { IfOk result (λ r. r.1.number ≡ at_index site.now placed.home
+        (item.old + term_size (index_at site.now) (term_of left.now)) (term_of right.now)) }
+    ensures item { OnOk result (item.new ≡ item.old + term_size (index_at site.now) (term_of left.now)
+        + term_size (index_at site.now) (term_of right.now)) }
     ensures emits { OnOk result (Emits draft.old draft.new
-        (draft.old.labels + code.labels (scope_of scope.now).index (term_of left.now)
-        + code.labels (scope_of scope.now).index (term_of right.now))
-        (λ rest. code.loose_code places.now (homes_of homes.now) (scope_of scope.now) Whole want item.old
-        draft.old.labels (term_of left.now) (code.right_code number (code.loose_code places.now (homes_of homes.now)
-        (scope_of scope.now) Whole want (item.old + term_size (scope_of scope.now).index (term_of left.now))
-        (draft.old.labels + code.labels (scope_of scope.now).index (term_of left.now)) (term_of right.now)) rest))) }
+        (draft.old.labels + code.labels (index_at site.now) (term_of left.now)
+        + code.labels (index_at site.now) (term_of right.now))
+        (λ rest. at site.now code.loose_code Whole want item.old draft.old.labels (term_of left.now)
+        (code.right_code number (at site.now code.loose_code Whole want
+        (item.old + term_size (index_at site.now) (term_of left.now))
+        (draft.old.labels + code.labels (index_at site.now) (term_of left.now)) (term_of right.now)) rest))) }
 {
-    let whole = Extent::Whole;
-    let a = emit_loose(draft, places, homes, scope, whole, want, left, item)?;
+    let extent = Extent::Whole;
+    let a = emit_loose(draft, site, Asked { extent, want }, left, item)?;
     match number {
         Some(_) => {
-            let b = home_of(places, homes, scope, right, *item);
+            let b = home_of(site, right, *item);
             *item += 1;
             Ok((a, b))
         }
         None => {
-            let b = emit_loose(draft, places, homes, scope, whole, want, right, item)?;
+            let b = emit_loose(draft, site, Asked { extent, want }, right, item)?;
             Ok((a, b))
         }
     }
@@ -404,9 +376,7 @@ fn emit_compared(
 #[cycle(terms)]
 pub fn emit_jump(
     draft: &mut Draft,
-    places: &Places,
-    homes: &[Home],
-    scope: &Scope,
+    site: &Site,
     sense: bool,
     to: Label,
     expr: &Expr,
@@ -414,33 +384,26 @@ pub fn emit_jump(
 ) -> Result<(), AllocError>
     requires given { to < draft.old.labels }
     requires kind { IsTruth (term_of expr.now) }
-    requires fits { item.old + term_size (scope_of scope.now).index (term_of expr.now) < 2 ^ 32 }
-    ensures item { OnOk result (item.new ≡ item.old + term_size (scope_of scope.now).index
+    requires fits { item.old + term_size (index_at site.now) (term_of expr.now) < 2 ^ 32 }
+    ensures item { OnOk result (item.new ≡ item.old + term_size (index_at site.now)
         (term_of expr.now)) }
     ensures emits { OnOk result (Emits draft.old draft.new
-        (draft.old.labels + code.labels (scope_of scope.now).index (term_of expr.now))
-        (code.jump_code places.now (homes_of homes.now) (scope_of scope.now) sense to item.old draft.old.labels
-        (term_of expr.now))) }
+        (draft.old.labels + code.labels (index_at site.now) (term_of expr.now))
+        (at site.now code.jump_code sense to item.old draft.old.labels (term_of expr.now))) }
 {
     match expr {
         Expr::Compare { op, left, right } => {
             let (left, right) = (&**left, &**right);
-            let want = side_type(scope, left, right);
+            let want = side_type(&site.scope, left, right);
             let number = compared_number(want, right);
-            let (a, b) = emit_compared(
-                draft, places, homes, scope, want, number, left, right, item,
-            )?;
+            let (a, b) = emit_compared(draft, site, want, number, left, right, item)?;
             *item += 1;
-            emit_branch(draft, *op, sense, want, number, a, b, to)
+            emit_branch(draft, *op, sense, want, number, (a, b), to)
         }
-        Expr::And { left, right } => emit_both(
-            draft, places, homes, scope, sense, to, left, right, item,
-        ),
-        Expr::Or { left, right } => emit_either(
-            draft, places, homes, scope, sense, to, left, right, item,
-        ),
+        Expr::And { left, right } => emit_both(draft, site, sense, to, left, right, item),
+        Expr::Or { left, right } => emit_either(draft, site, sense, to, left, right, item),
         Expr::Not { arg } => {
-            emit_jump(draft, places, homes, scope, !sense, to, arg, item)?;
+            emit_jump(draft, site, !sense, to, arg, item)?;
             *item += 1;
             Ok(())
         }
@@ -452,9 +415,7 @@ pub fn emit_jump(
 #[cycle(terms)]
 fn emit_both(
     draft: &mut Draft,
-    places: &Places,
-    homes: &[Home],
-    scope: &Scope,
+    site: &Site,
     sense: bool,
     to: Label,
     left: &Expr,
@@ -464,19 +425,19 @@ fn emit_both(
     requires given { to < draft.old.labels }
     requires left { IsTruth (term_of left.now) }
     requires right { IsTruth (term_of right.now) }
-    requires fits { item.old + term_size (scope_of scope.now).index
+    requires fits { item.old + term_size (index_at site.now)
         (Both (term_of left.now) (term_of right.now)) < 2 ^ 32 }
-    ensures item { OnOk result (item.new ≡ item.old + term_size (scope_of scope.now).index
+    ensures item { OnOk result (item.new ≡ item.old + term_size (index_at site.now)
         (Both (term_of left.now) (term_of right.now))) }
     ensures emits { OnOk result (Emits draft.old draft.new
-        (draft.old.labels + code.labels (scope_of scope.now).index (Both (term_of left.now) (term_of right.now)))
-        (code.jump_code places.now (homes_of homes.now) (scope_of scope.now) sense to item.old draft.old.labels
+        (draft.old.labels + code.labels (index_at site.now) (Both (term_of left.now) (term_of right.now)))
+        (at site.now code.jump_code sense to item.old draft.old.labels
         (Both (term_of left.now) (term_of right.now)))) }
 {
     let over = draft.label()?;
     let first = if sense { over } else { to };
-    emit_jump(draft, places, homes, scope, false, first, left, item)?;
-    emit_jump(draft, places, homes, scope, sense, to, right, item)?;
+    emit_jump(draft, site, false, first, left, item)?;
+    emit_jump(draft, site, sense, to, right, item)?;
     *item += 1;
     emit_placed(draft, sense, over)
 }
@@ -485,9 +446,7 @@ fn emit_both(
 #[cycle(terms)]
 fn emit_either(
     draft: &mut Draft,
-    places: &Places,
-    homes: &[Home],
-    scope: &Scope,
+    site: &Site,
     sense: bool,
     to: Label,
     left: &Expr,
@@ -497,20 +456,20 @@ fn emit_either(
     requires given { to < draft.old.labels }
     requires left { IsTruth (term_of left.now) }
     requires right { IsTruth (term_of right.now) }
-    requires fits { item.old + term_size (scope_of scope.now).index
+    requires fits { item.old + term_size (index_at site.now)
         (Either (term_of left.now) (term_of right.now)) < 2 ^ 32 }
-    ensures item { OnOk result (item.new ≡ item.old + term_size (scope_of scope.now).index
+    ensures item { OnOk result (item.new ≡ item.old + term_size (index_at site.now)
         (Either (term_of left.now) (term_of right.now))) }
     ensures emits { OnOk result (Emits draft.old draft.new
-        (draft.old.labels + code.labels (scope_of scope.now).index (Either (term_of left.now) (term_of right.now)))
-        (code.jump_code places.now (homes_of homes.now) (scope_of scope.now) sense to item.old draft.old.labels
+        (draft.old.labels + code.labels (index_at site.now) (Either (term_of left.now) (term_of right.now)))
+        (at site.now code.jump_code sense to item.old draft.old.labels
         (Either (term_of left.now) (term_of right.now)))) }
 {
     let over = draft.label()?;
     let first = if sense { to } else { over };
-    emit_jump(draft, places, homes, scope, true, first, left, item)?;
+    emit_jump(draft, site, true, first, left, item)?;
     *item += 1;
-    emit_jump(draft, places, homes, scope, sense, to, right, item)?;
+    emit_jump(draft, site, sense, to, right, item)?;
     *item += 1;
     emit_placed(draft, !sense, over)
 }
@@ -520,28 +479,27 @@ fn emit_either(
 #[tactic(auto, using(value_code::proofs::IndexCode::index_is))]
 fn emit_number(
     draft: &mut Draft,
-    places: &Places,
-    homes: &[Home],
-    scope: &Scope,
+    site: &Site,
     number: &Expr,
     item: &mut usize,
 ) -> Result<Reg, AllocError>
     requires kind { IsValue (term_of number.now) }
-    requires fits { item.old + index_items (scope_of scope.now).index (term_of number.now) < 2 ^ 32 }
+    requires fits { item.old + index_items (index_at site.now) (term_of number.now) < 2 ^ 32 }
     ensures register { IfOk result (λ r. r.number
-        ≡ code.index_home places.now (homes_of homes.now) (scope_of scope.now) item.old (term_of number.now)) }
-    ensures item { OnOk result (item.new ≡ item.old + index_items (scope_of scope.now).index (term_of number.now)) }
+        ≡ at site.now code.index_home item.old (term_of number.now)) }
+    ensures item { OnOk result (item.new ≡ item.old + index_items (index_at site.now) (term_of number.now)) }
     ensures emits { OnOk result (Emits draft.old draft.new
-        (draft.old.labels + code.index_labels (scope_of scope.now).index (term_of number.now))
-        (code.index_code places.now (homes_of homes.now) (scope_of scope.now) item.old draft.old.labels
+        (draft.old.labels + code.index_labels (index_at site.now) (term_of number.now))
+        (at site.now code.index_code item.old draft.old.labels
         (term_of number.now))) }
 {
+    let scope = &site.scope;
     match index_word(scope, number) {
         Some(moved) => emit_offset(draft, moved),
         None => {
             let want = first(own_type(scope, number), Some(Ty::U64));
-            let whole = Extent::Whole;
-            emit_loose(draft, places, homes, scope, whole, want, number, item)
+            let extent = Extent::Whole;
+            emit_loose(draft, site, Asked { extent, want }, number, item)
         }
     }
 }

@@ -9,7 +9,7 @@ ghost use Rattle.kernel_tree.specs.Wrap as wrap;
 ghost use Rattle.label_fix.specs.DraftRun as plain;
 ghost use Rattle.value_code.specs.ItemWords as words;
 ghost use Rattle.scalar_words.specs.Words as common;
-ghost use Rattle.scalar_words.specs.Layout as layout;
+ghost use Rattle.scalar_words.specs.Layout as layouts;
 ghost use Rattle.value_code.specs.Code as code;
 ghost use Rattle.scalar_values.specs.Sides.{side_view};
 
@@ -20,16 +20,23 @@ use kernel_meaning::fits;
 use kernel_tree::{BinaryOp, CompareOp, Ty, UnaryOp};
 use label_fix::registers::{ITERATION, SCRATCH};
 use label_fix::{BranchKind, Draft, Label, Word};
+use scalar_words::KernelLayout;
 use scalar_words::instructions::{add_sub, condition, extending, is_narrow, logical, select};
 use scalar_words::operations::{emit_copy, emit_operation, emit_settle};
-use scalar_words::places::Places;
 use std::alloc::AllocError;
 use value_code::instructions::{
     compare_word, load, product_word, shift_count, shift_word, shifted, sum_word, turned, zero_test,
 };
 
+/// What an operation makes: the type at which it is wanted, and whether it may have left the extended form of that.
+#[derive(Clone, Copy)]
+pub struct Made {
+    pub want: Option<Ty>,
+    pub leaves: bool,
+}
+
 // A word whose result is extended in place where it may have left the extended form.
-fn emit_settled(
+fn emit_then_settle(
     draft: &mut Draft,
     word: Word,
     leaves: bool,
@@ -52,7 +59,7 @@ fn emit_abs(draft: &mut Draft, leaves: bool, ty: Ty, d: Reg, a: Reg) -> Result<(
     if ty.is_signed() {
         draft.put(add_sub(AddSubOp::Subs, SCRATCH, zero(), a))?;
         let word = select(SelectOp::Csel, d, SCRATCH, Cond::Ge, a);
-        emit_settled(draft, word, leaves, ty, d)
+        emit_then_settle(draft, word, leaves, ty, d)
     } else {
         emit_copy(draft, d, a)
     }
@@ -73,11 +80,11 @@ fn emit_unary(
     match op {
         UnaryOp::Neg => {
             let word = add_sub(AddSubOp::Sub, d, zero(), a);
-            emit_settled(draft, word, leaves, ty, d)
+            emit_then_settle(draft, word, leaves, ty, d)
         }
         UnaryOp::Flip => {
             let word = logical(LogicalOp::Orn, d, zero(), a);
-            emit_settled(draft, word, leaves, ty, d)
+            emit_then_settle(draft, word, leaves, ty, d)
         }
         UnaryOp::Abs => emit_abs(draft, leaves, ty, d, a),
     }
@@ -100,14 +107,14 @@ pub fn emit_branch(
     sense: bool,
     want: Option<Ty>,
     number: Option<u64>,
-    a: Reg,
-    b: Reg,
+    sides: (Reg, Reg),
     to: Label,
 ) -> Result<(), AllocError>
     requires { to < draft.old.labels }
     ensures { OnOk result (Emits draft.old draft.new draft.old.labels
-        (words.branch_code op sense (code.signed_side want) number a.number b.number to)) }
+        (words.branch_code op sense (code.signed_side want) number sides.0.number sides.1.number to)) }
 {
+    let (a, b) = sides;
     let signed = signed_side(want);
     match zero_test(op, number) {
         Some(zero) => draft.branch(zero_branch(sense, zero, a), to),
@@ -133,21 +140,21 @@ fn zero_branch(sense: bool, zero: bool, r: Reg) -> BranchKind
 /// A choice by the flags of a comparison.
 pub fn emit_chosen(
     draft: &mut Draft,
-    places: &Places,
+    layout: &KernelLayout,
     op: CompareOp,
     want: Option<Ty>,
-    a: Reg,
-    b: Reg,
+    values: (Reg, Reg),
     item: &mut usize,
 ) -> Result<Reg, AllocError>
     requires { item.old < 2 ^ 32 }
-    ensures register { IfOk result (λ r. r.number ≡ layout.reg_of places.now item.old) }
+    ensures register { IfOk result (λ r. r.number ≡ layouts.reg_of layout.now item.old) }
     ensures item { item.new ≡ item.old + 1 }
     ensures emits { OnOk result (Emits draft.old draft.new draft.old.labels
-        (λ rest. plain.ins table.csel (layout.reg_of places.now item.old ∷ a.number
-        ∷ common.condition op (code.signed_side want) ∷ b.number ∷ []) ∷ rest)) }
+        (λ rest. plain.ins table.csel (layouts.reg_of layout.now item.old ∷ values.0.number
+        ∷ common.condition op (code.signed_side want) ∷ values.1.number ∷ []) ∷ rest)) }
 {
-    let d = take(places, item);
+    let d = take(layout, item);
+    let (a, b) = values;
     let word = select(SelectOp::Csel, d, a, condition(op, signed_side(want)), b);
     draft.put(word).and(Ok(d))
 }
@@ -155,9 +162,8 @@ pub fn emit_chosen(
 /// The first of two values into a register where the code before goes on, and the second where it goes to a label.
 pub fn emit_pick(
     draft: &mut Draft,
-    places: &Places,
-    a: Reg,
-    b: Reg,
+    layout: &KernelLayout,
+    values: (Reg, Reg),
     other: Label,
     end: Label,
     item: &mut usize,
@@ -165,12 +171,13 @@ pub fn emit_pick(
     requires next { end ≡ other + 1 }
     requires given { end < draft.old.labels }
     requires fits { item.old < 2 ^ 32 }
-    ensures register { IfOk result (λ r. r.number ≡ layout.reg_of places.now item.old) }
+    ensures register { IfOk result (λ r. r.number ≡ layouts.reg_of layout.now item.old) }
     ensures item { item.new ≡ item.old + 1 }
     ensures emits { OnOk result (Emits draft.old draft.new draft.old.labels
-        (words.pick_code (layout.reg_of places.now item.old) a.number b.number other)) }
+        (words.pick_code (layouts.reg_of layout.now item.old) values.0.number values.1.number other)) }
 {
-    let d = take(places, item);
+    let d = take(layout, item);
+    let (a, b) = values;
     emit_copy(draft, d, a)?;
     draft.branch(BranchKind::Always, end)?;
     draft.place(other)?;
@@ -206,11 +213,11 @@ fn emit_operator(
         }
         Side::Number(number) => {
             let word = sum_word(op, number, d, a);
-            emit_settled(draft, word, leaves, ty, d)
+            emit_then_settle(draft, word, leaves, ty, d)
         }
         Side::Product(p, q) => {
             let word = product_word(op, d, a, p, q);
-            emit_settled(draft, word, leaves, ty, d)
+            emit_then_settle(draft, word, leaves, ty, d)
         }
         Side::Moved {
             left,
@@ -219,7 +226,7 @@ fn emit_operator(
             register,
         } => {
             let word = shift_word(op, d, a, left, signed, count, register);
-            emit_settled(draft, word, leaves, ty, d)
+            emit_then_settle(draft, word, leaves, ty, d)
         }
     }
 }
@@ -229,69 +236,66 @@ pub fn want_operator(
     draft: &mut Draft,
     op: BinaryOp,
     side: Side,
-    leaves: bool,
-    want: Option<Ty>,
+    made: Made,
     d: Reg,
     a: Reg,
 ) -> Result<(), AllocError>
     ensures { OnOk result (Emits draft.old draft.new draft.old.labels
-        (λ rest. common.at_type want (λ t. words.operator_code (side_view side) leaves op t d.number a.number rest)
-        rest)) }
+        (λ rest. common.at_type made.want (λ t. words.operator_code (side_view side) made.leaves op t d.number a.number
+        rest) rest)) }
 {
-    match want {
+    match made.want {
         None => Ok(()),
-        Some(ty) => emit_operator(draft, op, side, leaves, ty, d, a),
+        Some(ty) => emit_operator(draft, op, side, made.leaves, ty, d, a),
     }
 }
 
 /// The same of an operator on one value, into the register of its item.
 pub fn want_unary(
     draft: &mut Draft,
-    places: &Places,
+    layout: &KernelLayout,
     op: UnaryOp,
-    leaves: bool,
-    want: Option<Ty>,
+    made: Made,
     a: Reg,
     item: &mut usize,
 ) -> Result<Reg, AllocError>
     requires { item.old < 2 ^ 32 }
-    ensures register { IfOk result (λ r. r.number ≡ layout.reg_of places.now item.old) }
+    ensures register { IfOk result (λ r. r.number ≡ layouts.reg_of layout.now item.old) }
     ensures item { item.new ≡ item.old + 1 }
     ensures emits { OnOk result (Emits draft.old draft.new draft.old.labels
-        (λ rest. common.at_type want (λ t. words.unary_code leaves op t (layout.reg_of places.now item.old) a.number
-        rest) rest)) }
+        (λ rest. common.at_type made.want (λ t. words.unary_code made.leaves op t
+        (layouts.reg_of layout.now item.old) a.number rest) rest)) }
 {
-    let d = take(places, item);
-    match want {
+    let d = take(layout, item);
+    match made.want {
         None => Ok(d),
-        Some(ty) => emit_unary(draft, op, leaves, ty, d, a).and(Ok(d)),
+        Some(ty) => emit_unary(draft, op, made.leaves, ty, d, a).and(Ok(d)),
     }
 }
 
 /// The same of a shift by a constant.
 pub fn want_shift(
     draft: &mut Draft,
-    places: &Places,
-    leaves: bool,
+    layout: &KernelLayout,
+    made: Made,
     left: bool,
     count: i128,
-    want: Option<Ty>,
     a: Reg,
     item: &mut usize,
 ) -> Result<Reg, AllocError>
     requires { item.old < 2 ^ 32 }
-    ensures register { IfOk result (λ r. r.number ≡ layout.reg_of places.now item.old) }
+    ensures register { IfOk result (λ r. r.number ≡ layouts.reg_of layout.now item.old) }
     ensures item { item.new ≡ item.old + 1 }
     ensures emits { OnOk result (Emits draft.old draft.new draft.old.labels
-        (λ rest. common.at_type want (λ t. words.shift_code leaves left count t (layout.reg_of places.now item.old)
-        a.number rest) rest)) }
+        (λ rest. common.at_type made.want (λ t. words.shift_code made.leaves left count t
+        (layouts.reg_of layout.now item.old) a.number rest) rest)) }
 {
-    let d = take(places, item);
-    match want {
+    let d = take(layout, item);
+    match made.want {
         None => Ok(d),
         Some(ty) => {
             let word = shifted(left, ty.is_signed(), shift_count(count), d, a);
-            emit_settled(draft, word, leaves, ty, d).and(Ok(d))
+            emit_then_settle(draft, word, made.leaves, ty, d).and(Ok(d))
         }
     }
 }
@@ -318,7 +322,7 @@ fn emit_convert(
 /// A cast, where its operand has a type, into the register of its item.
 pub fn want_cast(
     draft: &mut Draft,
-    places: &Places,
+    layout: &KernelLayout,
     low: bool,
     from: Option<Ty>,
     ty: Ty,
@@ -326,13 +330,13 @@ pub fn want_cast(
     item: &mut usize,
 ) -> Result<Reg, AllocError>
     requires { item.old < 2 ^ 32 }
-    ensures register { IfOk result (λ r. r.number ≡ layout.reg_of places.now item.old) }
+    ensures register { IfOk result (λ r. r.number ≡ layouts.reg_of layout.now item.old) }
     ensures item { item.new ≡ item.old + 1 }
     ensures emits { OnOk result (Emits draft.old draft.new draft.old.labels
         (λ rest. common.at_type from (λ s. common.word_code (words.convert_word low s ty
-        (layout.reg_of places.now item.old) a.number) rest) rest)) }
+        (layouts.reg_of layout.now item.old) a.number) rest) rest)) }
 {
-    let d = take(places, item);
+    let d = take(layout, item);
     match from {
         None => Ok(d),
         Some(from) => emit_convert(draft, low, from, ty, d, a).and(Ok(d)),
@@ -358,19 +362,19 @@ pub fn emit_offset(draft: &mut Draft, moved: Option<Word>) -> Result<Reg, AllocE
 /// A load, where the elements have a type, into the register of its item.
 pub fn emit_load(
     draft: &mut Draft,
-    places: &Places,
+    layout: &KernelLayout,
     ty: Option<Ty>,
     p: Reg,
     r: Reg,
     item: &mut usize,
 ) -> Result<Reg, AllocError>
     requires { item.old < 2 ^ 32 }
-    ensures register { IfOk result (λ r. r.number ≡ layout.reg_of places.now item.old) }
+    ensures register { IfOk result (λ r. r.number ≡ layouts.reg_of layout.now item.old) }
     ensures item { item.new ≡ item.old + 1 }
     ensures emits { OnOk result (Emits draft.old draft.new draft.old.labels
-        (words.load_code ty (layout.reg_of places.now item.old) p.number r.number)) }
+        (words.load_code ty (layouts.reg_of layout.now item.old) p.number r.number)) }
 {
-    let d = take(places, item);
+    let d = take(layout, item);
     match ty {
         None => Ok(d),
         Some(ty) => draft.put(load(ty, d, p, r)).and(Ok(d)),

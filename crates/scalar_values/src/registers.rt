@@ -6,43 +6,43 @@ ghost use Rattle.kernel_tree.specs.Items.{term_size};
 ghost use Rattle.kernel_scope.specs.Scopes.{scope_of};
 ghost use Rattle.scalar_words.specs.View.{homes_of};
 ghost use Rattle.value_code.specs.ValueRegisters as placed;
-ghost use Rattle.scalar_words.specs.Layout as layout;
+ghost use Rattle.scalar_words.specs.Layout as layouts;
+ghost use Rattle.scalar_words.specs.Sites.{at_index, index_at};
 
 use a64_code::{Reg, zero};
 use kernel_scope::Scope;
 use kernel_size::term_size;
 use kernel_tree::{Expr, Name};
-use scalar_words::places::Places;
-use scalar_words::{Home, Key, register_at};
+use scalar_words::{KernelLayout, Key, Site};
 
 /// The register of an item's value, after which the next item stands.
-pub fn take(places: &Places, item: &mut usize) -> Reg
+pub fn take(layout: &KernelLayout, item: &mut usize) -> Reg
     requires { item.old < 2 ^ 32 }
-    ensures register { result.number ≡ layout.reg_of places.now item.old }
+    ensures register { result.number ≡ layouts.reg_of layout.now item.old }
     ensures item { item.new ≡ item.old + 1 }
 {
-    let r = places.reg(*item);
+    let r = layout.reg(*item);
     *item += 1;
     r
 }
 
 /// The register in which a name is held, after which the next item stands.
-pub fn take_held(homes: &[Home], name: &Name, item: &mut usize) -> Reg
+pub fn take_held(site: &Site, name: &Name, item: &mut usize) -> Reg
     requires { item.old < 2 ^ 32 }
-    ensures register { result.number ≡ layout.register_at (homes_of homes.now) (name_of name.now) }
+    ensures register { result.number ≡ layouts.register_at (homes_of site.now.homes.items) (name_of name.now) }
     ensures item { item.new ≡ item.old + 1 }
 {
     *item += 1;
-    register_at(homes, name)
+    site.register(name)
 }
 
 // The register in which a literal stands.
-fn number_home(places: &Places, value: i128, item: usize) -> Reg
-    ensures { result.number ≡ placed.literal_home places.now item value }
+fn number_home(layout: &KernelLayout, value: i128, item: usize) -> Reg
+    ensures { result.number ≡ placed.literal_home layout.now item value }
 {
-    match places.constant(Key::Number(value)) {
+    match layout.constant(Key::Number(value)) {
         Some(held) => held,
-        None => places.reg(item),
+        None => layout.reg(item),
     }
 }
 
@@ -55,20 +55,19 @@ pub fn expr_size(scope: &Scope, expr: &Expr) -> usize
 }
 
 /// The register of the value of an expression, whose items begin at one.
-pub fn home_of(places: &Places, homes: &[Home], scope: &Scope, expr: &Expr, item: usize) -> Reg
-    requires { item + term_size (scope_of scope.now).index (term_of expr.now) < 2 ^ 32 }
-    ensures { result.number ≡ placed.home places.now (homes_of homes.now) (scope_of scope.now).index item
-        (term_of expr.now) }
+pub fn home_of(site: &Site, expr: &Expr, item: usize) -> Reg
+    requires { item + term_size (index_at site.now) (term_of expr.now) < 2 ^ 32 }
+    ensures { result.number ≡ at_index site.now placed.home item (term_of expr.now) }
 {
     match expr {
-        Expr::Lit(value) => number_home(places, *value, item),
-        Expr::Var(name) => register_at(homes, name),
+        Expr::Lit(value) => number_home(&site.layout, *value, item),
+        Expr::Var(name) => site.register(name),
         Expr::Read { .. }
         | Expr::Unary { .. }
         | Expr::Shift { .. }
         | Expr::Cast { .. }
         | Expr::Binary { .. }
-        | Expr::Select { .. } => places.reg(item + expr_size(scope, expr) - 1),
+        | Expr::Select { .. } => site.layout.reg(item + expr_size(&site.scope, expr) - 1),
         _ => zero(),
     }
 }

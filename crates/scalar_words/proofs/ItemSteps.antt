@@ -12,8 +12,8 @@ module _ (R : ℕ → ℕ) (is : List Item) (i : ℕ) (d : Item) (lt : i < lengt
   drop_at_index : drop i is ≡ get_or is i d ∷ drop (i + 1) is
   drop_at_index = drop-cons is i d lt ∙ ap (λ n. get_or is i d ∷ drop n is) (sym (add-one i))
 
-  pub more_untils : (old new whole : List ℕ) (u : ℕ) → new ≡ old ++ u ∷ [] → u ≡ unwrap_or (get_or is i d).x_last_use 0 → old ++ map item_last_use (drop i is) ≡ whole → new ++ map item_last_use (drop (i + 1) is) ≡ whole
-  more_untils old new whole u e f w = listed_one_on old new whole u _ _ e (ap (map item_last_use) drop_at_index ∙ ap (λ v. v ∷ map item_last_use (drop (i + 1) is)) (sym f)) w
+  pub more_last_uses : (old new whole : List ℕ) (u : ℕ) → new ≡ old ++ u ∷ [] → u ≡ unwrap_or (get_or is i d).x_last_use 0 → old ++ map item_last_use (drop i is) ≡ whole → new ++ map item_last_use (drop (i + 1) is) ≡ whole
+  more_last_uses old new whole u e f w = listed_one_on old new whole u _ _ e (ap (map item_last_use) drop_at_index ∙ ap (λ v. v ∷ map item_last_use (drop (i + 1) is)) (sym f)) w
 
   values_here : (o : Option ℕ) → (get_or is i d).x_last_use ≡ o → count_values (drop i is) ≡ one_value o + count_values (drop (i + 1) is)
   values_here o e = ap count_values drop_at_index ∙ ap (λ v. one_value v + count_values (drop (i + 1) is)) e
@@ -39,8 +39,8 @@ module _ (R : ℕ → ℕ) (is : List Item) (i : ℕ) (d : Item) (lt : i < lengt
 pub all_registers : (R : ℕ → ℕ) (is : List Item) (i j : ℕ) (l whole : List ℕ) → length is ≤ i → l ++ item_regs R j (drop i is) ≡ whole → l ≡ whole
 all_registers R is i j l whole h w = sym (ap (λ xs. l ++ item_regs R j xs) (drop_all i is h) ∙ append-nil l) ∙ w
 
-pub all_untils : (is : List Item) (i : ℕ) (l whole : List ℕ) → length is ≤ i → l ++ map item_last_use (drop i is) ≡ whole → l ≡ whole
-all_untils is i l whole h w = sym (ap (λ xs. l ++ map item_last_use xs) (drop_all i is h) ∙ append-nil l) ∙ w
+pub all_last_uses : (is : List Item) (i : ℕ) (l whole : List ℕ) → length is ≤ i → l ++ map item_last_use (drop i is) ≡ whole → l ≡ whole
+all_last_uses is i l whole h w = sym (ap (λ xs. l ++ map item_last_use xs) (drop_all i is h) ∙ append-nil l) ∙ w
 
 -- the next interval is not ahead of the first one by more than so many items
 pub room_before : (j first i : ℕ) → j ≡ first → i ≡ 0 → j ≤ first + i

@@ -23,20 +23,20 @@ regs_listed : (R : ℕ → ℕ) (all : List Entry) (j : ℕ) (es : List Entry) �
 regs_listed R all j [] = refl
 regs_listed R all j (e ∷ es) = one_same R j (last_use_in X all e) _ _ (λ n. regs_listed R all n es)
 
-untils_listed : (all es : List Entry) → map item_last_use (map (item_of all) es) ≡ map (x_last_use all) es
-untils_listed all [] = refl
-untils_listed all (e ∷ es) = ap (λ l. x_last_use all e ∷ l) (untils_listed all es)
+last_uses_listed : (all es : List Entry) → map item_last_use (map (item_of all) es) ≡ map (x_last_use all) es
+last_uses_listed all [] = refl
+last_uses_listed all (e ∷ es) = ap (λ l. x_last_use all e ∷ l) (last_uses_listed all es)
 
 abbrev made : List Constant → List Loose → List ℕ → List ℕ → Layout
-made constants loose regs untils = record { regs = regs; untils = untils; constants = constants; loose = loose }
+made constants loose regs last_uses = record { regs = regs; last_uses = last_uses; constants = constants; loose = loose }
 
-pub layout_is : (R : ℕ → ℕ) (k : Program) (p : Layout) (j : ℕ) (items : List Item) → items ≡ listing_of k → j ≡ length k.vars → p.regs ≡ item_regs R j items → p.untils ≡ map item_last_use items → p.constants ≡ [] → p.loose ≡ [] → p ≡ layout_of_kernel R k
+pub layout_is : (R : ℕ → ℕ) (k : Program) (p : Layout) (j : ℕ) (items : List Item) → items ≡ listing_of k → j ≡ length k.vars → p.regs ≡ item_regs R j items → p.last_uses ≡ map item_last_use items → p.constants ≡ [] → p.loose ≡ [] → p ≡ layout_of_kernel R k
 layout_is R k p j items e f g h none exact =
     let all = entries_of k in
     ap₂ (made p.constants p.loose)
     (g ∙ ap₂ (item_regs R) f e ∙ regs_listed R all (length k.vars) all)
-    (h ∙ ap (map item_last_use) e ∙ untils_listed all all)
-    ∙ ap₂ (λ cs ls. made cs ls (layout_of_kernel R k).regs (layout_of_kernel R k).untils) none exact
+    (h ∙ ap (map item_last_use) e ∙ last_uses_listed all all)
+    ∙ ap₂ (λ cs ls. made cs ls (layout_of_kernel R k).regs (layout_of_kernel R k).last_uses) none exact
 
 pub count_params : (ps : List Param) → length (parameters_of ps) ≡ length ps
 count_params [] = refl

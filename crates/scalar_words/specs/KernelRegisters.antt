@@ -48,7 +48,7 @@ abbrev pub item_last_use : Item → ℕ
 item_last_use i = unwrap_or i.x_last_use 0
 
 abbrev pub layout_from : (ℕ → ℕ) → ℕ → List Entry → Layout
-layout_from R accs all = record { regs = regs_from R all accs all; untils = map (x_last_use all) all; constants = []; loose = [] }
+layout_from R accs all = record { regs = regs_from R all accs all; last_uses = map (x_last_use all) all; constants = []; loose = [] }
 
 abbrev pub layout_of_kernel : (ℕ → ℕ) → Program → Layout
 layout_of_kernel R k = layout_from R (length k.vars) (entries_of k)

@@ -29,7 +29,7 @@ pub record Loose : Type 0 where
 -- the value itself
 pub record Layout : Type 0 where
   pub regs : List ℕ
-  pub untils : List ℕ
+  pub last_uses : List ℕ
   pub constants : List Constant
   pub loose : List Loose
 
@@ -37,7 +37,7 @@ abbrev pub reg_of : Layout → ℕ → ℕ
 reg_of L p = slice_index L.regs p
 
 abbrev pub last_use_at : Layout → ℕ → ℕ
-last_use_at L p = slice_index L.untils p
+last_use_at L p = slice_index L.last_uses p
 
 -- an item with a value that is used after it
 abbrev pub IsMade : Layout → ℕ → Type 0
@@ -70,7 +70,7 @@ IsGiven p (OfAddress q c) = q < p
 
 -- a layout that holds these
 abbrev pub with_constants : Layout → List Constant → Layout
-with_constants L cs = record { regs = L.regs; untils = L.untils; constants = cs; loose = L.loose }
+with_constants L cs = record { regs = L.regs; last_uses = L.last_uses; constants = cs; loose = L.loose }
 
 -- ---- names that are held loosely
 
@@ -86,7 +86,7 @@ loose_in ls x = option_map loose_form (find (is_loose x) ls)
 
 -- a layout that holds these loosely
 abbrev pub with_loose : Layout → List Loose → Layout
-with_loose L ls = record { regs = L.regs; untils = L.untils; constants = L.constants; loose = ls }
+with_loose L ls = record { regs = L.regs; last_uses = L.last_uses; constants = L.constants; loose = ls }
 
 -- ---- names
 

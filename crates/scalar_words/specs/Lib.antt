@@ -5,3 +5,4 @@ pub mod Safe
 pub mod Words
 pub mod KernelRegisters
 pub mod Iterations
+pub mod Sites

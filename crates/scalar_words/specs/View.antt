@@ -47,7 +47,7 @@ abbrev pub form_among : List Loose → List ℕ → Option Form
 form_among ls x = option_map form_in (find (called x) ls)
 
 abbrev pub layout_of : List (Bits 5) → List ℕ → List Constant → List Loose → plain.Layout
-layout_of regs untils constants loose = record { regs = map register_number regs; untils = untils; constants = constants_of constants; loose = looses_of loose }
+layout_of regs last_uses constants loose = record { regs = map register_number regs; last_uses = last_uses; constants = constants_of constants; loose = looses_of loose }
 
 abbrev pub keyed : plain.Key → Constant → Bool
 keyed z c = plain.same_key (key_of c.key) z

@@ -14,8 +14,8 @@ ghost use Rattle.kernel_tree.specs.Typing as typing;
 ghost use Rattle.scalar_words.specs.KernelRegisters as kernels;
 
 use crate::home::Home;
+use crate::kernel_layout::counted_register;
 use crate::laws::each_has_a_register;
-use crate::places::counted_register;
 use a64_code::Reg;
 use kernel_scope::{Scope, declare, empty, loop_index};
 use kernel_tree::fault::Binding;

@@ -42,7 +42,7 @@ homes =
     ∷ record { name = i; register = 9; last_use = None } ∷ []
 
 abbrev layout : Layout
-layout = record { regs = 10 ∷ 0 ∷ 11 ∷ 11 ∷ 10 ∷ []; untils = 4 ∷ 0 ∷ 3 ∷ 4 ∷ 5 ∷ []; constants = []; loose = [] }
+layout = record { regs = 10 ∷ 0 ∷ 11 ∷ 11 ∷ 10 ∷ []; last_uses = 4 ∷ 0 ∷ 3 ∷ 4 ∷ 5 ∷ []; constants = []; loose = [] }
 
 -- a[i] + k * a[i] and a[i] - k * a[i]: 0 the read, 1 the name k, 2 the read, 3 the product, 4 the sum
 abbrev product : Term
@@ -74,7 +74,7 @@ left-narrow = refl
 
 -- a[i] * k + a[i]: 0 the read, 1 the name k, 2 the product, 3 the read, 4 the sum
 abbrev kept_layout : Layout
-kept_layout = record { regs = 10 ∷ 0 ∷ 10 ∷ 11 ∷ 10 ∷ []; untils = 2 ∷ 0 ∷ 4 ∷ 4 ∷ 5 ∷ []; constants = []; loose = [] }
+kept_layout = record { regs = 10 ∷ 0 ∷ 10 ∷ 11 ∷ 10 ∷ []; last_uses = 2 ∷ 0 ∷ 4 ∷ 4 ∷ 5 ∷ []; constants = []; loose = [] }
 
 product-first : loose_code kept_layout homes scope Low32 (Some ty.I32) 0 0 (Operation binary.Add (Operation binary.Mul (Element a (Variable i)) (Variable k)) (Element a (Variable i))) [] ≡ ins ldrsw_register (10 ∷ 0 ∷ 1 ∷ 9 ∷ []) ∷ ins ldrsw_register (11 ∷ 0 ∷ 1 ∷ 9 ∷ []) ∷ ins madd (10 ∷ 10 ∷ 11 ∷ 2 ∷ []) ∷ []
 unfolding is_led
@@ -86,10 +86,10 @@ abbrev square : Term
 square = Operation binary.Mul (Element a (Variable i)) (Element a (Variable i))
 
 abbrev lost_layout : Layout
-lost_layout = record { regs = 10 ∷ 11 ∷ 10 ∷ 11 ∷ 10 ∷ []; untils = 2 ∷ 2 ∷ 4 ∷ 4 ∷ 5 ∷ []; constants = []; loose = [] }
+lost_layout = record { regs = 10 ∷ 11 ∷ 10 ∷ 11 ∷ 10 ∷ []; last_uses = 2 ∷ 2 ∷ 4 ∷ 4 ∷ 5 ∷ []; constants = []; loose = [] }
 
 abbrev named_layout : Layout
-named_layout = record { regs = 10 ∷ 11 ∷ 10 ∷ 0 ∷ 10 ∷ []; untils = 2 ∷ 2 ∷ 4 ∷ 0 ∷ 5 ∷ []; constants = []; loose = [] }
+named_layout = record { regs = 10 ∷ 11 ∷ 10 ∷ 0 ∷ 10 ∷ []; last_uses = 2 ∷ 2 ∷ 4 ∷ 0 ∷ 5 ∷ []; constants = []; loose = [] }
 
 product-and-name : loose_code named_layout homes scope Low32 (Some ty.I32) 0 0 (Operation binary.Add square (Variable k)) [] ≡ ins ldrsw_register (10 ∷ 0 ∷ 1 ∷ 9 ∷ []) ∷ ins ldrsw_register (11 ∷ 0 ∷ 1 ∷ 9 ∷ []) ∷ ins madd (10 ∷ 10 ∷ 2 ∷ 11 ∷ []) ∷ []
 unfolding is_led
@@ -107,7 +107,7 @@ factor-overwritten = refl
 
 -- (h << 13) ^ h and (h >> 7) - h at 64 bits: 0 the name h, 1 the shift, 2 the name h, 3 the operator; the sides of - stay in their places
 abbrev shift_layout : Layout
-shift_layout = record { regs = 0 ∷ 11 ∷ 0 ∷ 11 ∷ []; untils = 0 ∷ 3 ∷ 0 ∷ 4 ∷ []; constants = []; loose = [] }
+shift_layout = record { regs = 0 ∷ 11 ∷ 0 ∷ 11 ∷ []; last_uses = 0 ∷ 3 ∷ 0 ∷ 4 ∷ []; constants = []; loose = [] }
 
 shift-first : loose_code shift_layout homes scope Whole (Some ty.U64) 0 0 (Operation binary.Xor (Shift true (Variable h) (pos 13)) (Variable h)) [] ≡ ins eor (11 ∷ 15 ∷ 13 ∷ 15 ∷ 0 ∷ []) ∷ []
 unfolding is_led
@@ -123,7 +123,7 @@ wider = Conversion (Variable b) ty.U16
 
 -- b as u16 + b as u16 * 3: 0 the name, 1 the cast, 2 the name, 3 the cast, 4 three, 5 the product, 6 the sum
 abbrev narrow_layout : Layout
-narrow_layout = record { regs = 0 ∷ 10 ∷ 0 ∷ 11 ∷ 12 ∷ 11 ∷ 10 ∷ []; untils = 0 ∷ 6 ∷ 0 ∷ 5 ∷ 5 ∷ 6 ∷ 7 ∷ []; constants = []; loose = [] }
+narrow_layout = record { regs = 0 ∷ 10 ∷ 0 ∷ 11 ∷ 12 ∷ 11 ∷ 10 ∷ []; last_uses = 0 ∷ 6 ∷ 0 ∷ 5 ∷ 5 ∷ 6 ∷ 7 ∷ []; constants = []; loose = [] }
 
 product-in-type : loose_code narrow_layout homes scope Whole (Some ty.U16) 0 0 (Operation binary.Add wider (Operation binary.Mul wider (Literal (pos 3)))) [] ≡
     ins orr (10 ∷ 31 ∷ 0 ∷ 3 ∷ 0 ∷ [])
@@ -136,7 +136,7 @@ product-in-type = refl
 
 -- b as u16 | b as u16 << 3: 0 the name, 1 the cast, 2 the name, 3 the cast, 4 the shift, 5 the operator
 abbrev shifted_layout : Layout
-shifted_layout = record { regs = 0 ∷ 10 ∷ 0 ∷ 11 ∷ 11 ∷ 10 ∷ []; untils = 0 ∷ 5 ∷ 0 ∷ 4 ∷ 5 ∷ 6 ∷ []; constants = []; loose = [] }
+shifted_layout = record { regs = 0 ∷ 10 ∷ 0 ∷ 11 ∷ 11 ∷ 10 ∷ []; last_uses = 0 ∷ 5 ∷ 0 ∷ 4 ∷ 5 ∷ 6 ∷ []; constants = []; loose = [] }
 
 shift-in-type : loose_code shifted_layout homes scope Whole (Some ty.U16) 0 0 (Operation binary.Or wider (Shift true wider (pos 3))) [] ≡ ins orr (10 ∷ 31 ∷ 0 ∷ 3 ∷ 0 ∷ []) ∷ ins orr (11 ∷ 31 ∷ 0 ∷ 3 ∷ 0 ∷ []) ∷ ins orr (10 ∷ 10 ∷ 3 ∷ 11 ∷ 0 ∷ []) ∷ []
 unfolding is_led

@@ -97,13 +97,13 @@ used_right hs i [] ys h = h
 used_right hs i (x ∷ xs) ys h = used_right hs i xs ys h.1
 
 -- the last uses of some items before others
-abbrev pub untils : List Entry → List Entry → List ℕ → List ℕ
-untils all [] rest = rest
-untils all (e ∷ es) rest = x_last_use all e ∷ untils all es rest
+abbrev pub last_uses : List Entry → List Entry → List ℕ → List ℕ
+last_uses all [] rest = rest
+last_uses all (e ∷ es) rest = x_last_use all e ∷ last_uses all es rest
 
-pub untils_on : (all xs ys : List Entry) (rest : List ℕ) → untils all (xs ++ ys) rest ≡ untils all xs (untils all ys rest)
-untils_on all [] ys rest = refl
-untils_on all (x ∷ xs) ys rest = ap (λ l. x_last_use all x ∷ l) (untils_on all xs ys rest)
+pub last_uses_on : (all xs ys : List Entry) (rest : List ℕ) → last_uses all (xs ++ ys) rest ≡ last_uses all xs (last_uses all ys rest)
+last_uses_on all [] ys rest = refl
+last_uses_on all (x ∷ xs) ys rest = ap (λ l. x_last_use all x ∷ l) (last_uses_on all xs ys rest)
 
 module _ (k : Program) (L : Layout) (all : List Entry) (hs : Homes) (v : List Local) (tk : List (List ℕ)) (ins : Bool) where
   abbrev S : Scope
@@ -112,45 +112,45 @@ module _ (k : Program) (L : Layout) (all : List Entry) (hs : Homes) (v : List Lo
   abbrev i : Option (List ℕ)
   i = loop_index k
 
-  part : (b : ℕ) (xs ys : List Entry) (rest : List ℕ) → Sits L.untils b (untils all (xs ++ ys) rest) → Sits L.untils b (untils all xs (untils all ys rest))
-  part b xs ys rest h = h ∙ untils_on all xs ys rest
+  part : (b : ℕ) (xs ys : List Entry) (rest : List ℕ) → Sits L.last_uses b (last_uses all (xs ++ ys) rest) → Sits L.last_uses b (last_uses all xs (last_uses all ys rest))
+  part b xs ys rest h = h ∙ last_uses_on all xs ys rest
 
-  last_after : (p q y : ℕ) (rest : List ℕ) → q ≡ p + 1 → Sits L.untils p (y ∷ rest) → Sits L.untils q rest
-  last_after p q y rest f h = let g : suc p ≡ q = omega (arith, f) in subst (λ n. Sits L.untils n rest) g (drop_next L.untils p _ rest h)
+  last_after : (p q y : ℕ) (rest : List ℕ) → q ≡ p + 1 → Sits L.last_uses p (y ∷ rest) → Sits L.last_uses q rest
+  last_after p q y rest f h = let g : suc p ≡ q = omega (arith, f) in subst (λ n. Sits L.last_uses n rest) g (drop_next L.last_uses p _ rest h)
 
-  inner_after : (o : Option ℤ) (b n q : ℕ) (es : List Entry) (e : Entry) (rest : List ℕ) → q ≡ b + (index_size o n + 1) → ((rest : List ℕ) → Sits L.untils b (untils all es rest) → Sits L.untils (b + n) rest) → Sits L.untils b (untils all (inner_entries o es ++ e ∷ []) rest) → Sits L.untils q rest
+  inner_after : (o : Option ℤ) (b n q : ℕ) (es : List Entry) (e : Entry) (rest : List ℕ) → q ≡ b + (index_size o n + 1) → ((rest : List ℕ) → Sits L.last_uses b (last_uses all es rest) → Sits L.last_uses (b + n) rest) → Sits L.last_uses b (last_uses all (inner_entries o es ++ e ∷ []) rest) → Sits L.last_uses q rest
   inner_after (Some c) b n q es e rest f inner h = last_after b q _ rest (omega (arith, f)) h
   inner_after None b n q es e rest f inner h = last_after (b + n) q _ rest (omega (arith, f)) (inner _ (part b es (e ∷ []) rest h))
 
   -- what is listed after the items of an expression
   abbrev After : Term → Type 0
-  After x = (b user : ℕ) (rest : List ℕ) → Sits L.untils b (untils all (term_entries k b user x) rest) → Sits L.untils (b + term_size i x) rest
+  After x = (b user : ℕ) (rest : List ℕ) → Sits L.last_uses b (last_uses all (term_entries k b user x) rest) → Sits L.last_uses (b + term_size i x) rest
 
   -- after one operand, two or three, and the item that uses them
-  one_after : (x : Term) → After x → (b user : ℕ) (e : Entry) (rest : List ℕ) → Sits L.untils b (untils all (term_entries k b user x ++ e ∷ []) rest) → Sits L.untils (b + (term_size i x + 1)) rest
+  one_after : (x : Term) → After x → (b user : ℕ) (e : Entry) (rest : List ℕ) → Sits L.last_uses b (last_uses all (term_entries k b user x ++ e ∷ []) rest) → Sits L.last_uses (b + (term_size i x + 1)) rest
   one_after x f b user e rest h =
       last_after (b + term_size i x) (b + (term_size i x + 1)) (x_last_use all e) rest (omega arith) (f b user (x_last_use all e ∷ rest) (part b (term_entries k b user x) (e ∷ []) rest h))
 
-  two_after : (x y : Term) → After x → After y → (b user : ℕ) (e : Entry) (rest : List ℕ) → Sits L.untils b (untils all (term_entries k b user x ++ (term_entries k (b + term_size i x) user y ++ e ∷ [])) rest) → Sits L.untils (b + (term_size i x + term_size i y + 1)) rest
+  two_after : (x y : Term) → After x → After y → (b user : ℕ) (e : Entry) (rest : List ℕ) → Sits L.last_uses b (last_uses all (term_entries k b user x ++ (term_entries k (b + term_size i x) user y ++ e ∷ [])) rest) → Sits L.last_uses (b + (term_size i x + term_size i y + 1)) rest
   two_after x y f g b user e rest h =
       let m = b + term_size i x in
       let z : m + (term_size i y + 1) ≡ b + (term_size i x + term_size i y + 1) = omega arith in
-      subst (λ n. Sits L.untils n rest) z (one_after y g m user e rest (f b user (untils all (term_entries k m user y ++ e ∷ []) rest) (part b (term_entries k b user x) (term_entries k m user y ++ e ∷ []) rest h)))
+      subst (λ n. Sits L.last_uses n rest) z (one_after y g m user e rest (f b user (last_uses all (term_entries k m user y ++ e ∷ []) rest) (part b (term_entries k b user x) (term_entries k m user y ++ e ∷ []) rest h)))
 
-  three_after : (x y c : Term) → After x → After y → After c → (b user : ℕ) (e : Entry) (rest : List ℕ) → Sits L.untils b (untils all (term_entries k b user x ++ (term_entries k (b + term_size i x) user y ++ (term_entries k (b + term_size i x + term_size i y) user c ++ e ∷ []))) rest) → Sits L.untils (b + (term_size i x + term_size i y + term_size i c + 1)) rest
+  three_after : (x y c : Term) → After x → After y → After c → (b user : ℕ) (e : Entry) (rest : List ℕ) → Sits L.last_uses b (last_uses all (term_entries k b user x ++ (term_entries k (b + term_size i x) user y ++ (term_entries k (b + term_size i x + term_size i y) user c ++ e ∷ []))) rest) → Sits L.last_uses (b + (term_size i x + term_size i y + term_size i c + 1)) rest
   three_after x y c f g j b user e rest h =
       let m = b + term_size i x in
       let z : m + (term_size i y + term_size i c + 1) ≡ b + (term_size i x + term_size i y + term_size i c + 1) = omega arith in
       let es = term_entries k m user y ++ (term_entries k (m + term_size i y) user c ++ e ∷ []) in
-      subst (λ n. Sits L.untils n rest) z (two_after y c g j m user e rest (f b user (untils all es rest) (part b (term_entries k b user x) es rest h)))
+      subst (λ n. Sits L.last_uses n rest) z (two_after y c g j m user e rest (f b user (last_uses all es rest) (part b (term_entries k b user x) es rest h)))
 
   -- after two operands with a mark between them
-  either_after : (x y : Term) → After x → After y → (b user : ℕ) (mark e : Entry) (rest : List ℕ) → Sits L.untils b (untils all (term_entries k b user x ++ (mark ∷ (term_entries k (b + term_size i x + 1) user y ++ e ∷ []))) rest) → Sits L.untils (b + (term_size i x + 1 + term_size i y + 1)) rest
+  either_after : (x y : Term) → After x → After y → (b user : ℕ) (mark e : Entry) (rest : List ℕ) → Sits L.last_uses b (last_uses all (term_entries k b user x ++ (mark ∷ (term_entries k (b + term_size i x + 1) user y ++ e ∷ []))) rest) → Sits L.last_uses (b + (term_size i x + 1 + term_size i y + 1)) rest
   either_after x y f g b user mark e rest h =
       let m = b + term_size i x in
       let z : m + 1 + (term_size i y + 1) ≡ b + (term_size i x + 1 + term_size i y + 1) = omega arith in
       let es = term_entries k (m + 1) user y ++ e ∷ [] in
-      subst (λ n. Sits L.untils n rest) z (one_after y g (m + 1) user e rest (last_after m (m + 1) (x_last_use all mark) (untils all es rest) refl (f b user (x_last_use all mark ∷ untils all es rest) (part b (term_entries k b user x) (mark ∷ es) rest h))))
+      subst (λ n. Sits L.last_uses n rest) z (one_after y g (m + 1) user e rest (last_after m (m + 1) (x_last_use all mark) (last_uses all es rest) refl (f b user (x_last_use all mark ∷ last_uses all es rest) (part b (term_entries k b user x) (mark ∷ es) rest h))))
 
   -- after the items of an expression
   sits_after : (t : Term) → After t
@@ -168,22 +168,22 @@ module _ (k : Program) (L : Layout) (all : List Entry) (hs : Homes) (v : List Lo
   sits_after (Not x) b user rest h = one_after x (sits_after x) b (b + term_size i x) _ rest h
 
   -- a read, by its index
-  element_fits : (a : List ℕ) (j : Term) (T : Ty) (f b n user : ℕ) (rest : List ℕ) (o : Option ℤ) (fs : List Found) (A : Type 0) (es : List Entry) (e : Entry) → inner_faults o fs ≡ [] → index_faults f o (own S j) ≡ [] → Sits L.untils b (untils all (inner_entries o es ++ e ∷ []) rest) → AreUsed hs i (inner_entries o es ++ e ∷ []) → e.content ≡ IsRead a j → e.item ≡ b + index_size o n → x_last_use all e ≡ user
-      → (fs ≡ [] → (rest : List ℕ) → Sits L.untils b (untils all es rest) → AreUsed hs i es → A × Sits L.untils (b + n) rest)
+  element_fits : (a : List ℕ) (j : Term) (T : Ty) (f b n user : ℕ) (rest : List ℕ) (o : Option ℤ) (fs : List Found) (A : Type 0) (es : List Entry) (e : Entry) → inner_faults o fs ≡ [] → index_faults f o (own S j) ≡ [] → Sits L.last_uses b (last_uses all (inner_entries o es ++ e ∷ []) rest) → AreUsed hs i (inner_entries o es ++ e ∷ []) → e.content ≡ IsRead a j → e.item ≡ b + index_size o n → x_last_use all e ≡ user
+      → (fs ≡ [] → (rest : List ℕ) → Sits L.last_uses b (last_uses all es rest) → AreUsed hs i es → A × Sits L.last_uses (b + n) rest)
       → FitsIndex o (IndexAt hs i (b + index_size o n)) A × NameLasts hs a (b + index_size o n) × (last_use_at L (b + index_size o n) ≡ user)
   element_fits a j T f b n user rest (Some c) fs A es e e1 e2 h u content item last_use inner =
       let w : Used hs i (IsRead a j) (b + 0) e.last_use = subst (λ p. Used hs i (IsRead a j) p e.last_use) item (subst (λ q. Used hs i q e.item e.last_use) content u.0) in
       let z : b ≡ b + 0 = omega arith in
-      ((no_offset f c e2, w.1), w.0, ap (last_use_at L) (sym z) ∙ drop_head L.untils b _ rest h ∙ last_use)
+      ((no_offset f c e2, w.1), w.0, ap (last_use_at L) (sym z) ∙ drop_head L.last_uses b _ rest h ∙ last_use)
   element_fits a j T f b n user rest None fs A es e e1 e2 h u content item last_use inner =
-      let r = inner e1 (untils all (e ∷ []) rest) (part b es (e ∷ []) rest h) (used_left hs i es (e ∷ []) u) in
+      let r = inner e1 (last_uses all (e ∷ []) rest) (part b es (e ∷ []) rest h) (used_left hs i es (e ∷ []) u) in
       let u2 = used_right hs i es (e ∷ []) u in
       let w : Used hs i (IsRead a j) (b + n) e.last_use = subst (λ p. Used hs i (IsRead a j) p e.last_use) item (subst (λ q. Used hs i q e.item e.last_use) content u2.0) in
-      (r.0, w.0, drop_head L.untils (b + n) _ rest r.1 ∙ last_use)
+      (r.0, w.0, drop_head L.last_uses (b + n) _ rest r.1 ∙ last_use)
 
   mutual
-    pub value_fits : (t : Term) (T : Ty) (f b user : ℕ) (rest : List ℕ) → faults S f (Value (Some T)) t ≡ [] → Sits L.untils b (untils all (term_entries k b user t) rest) → AreUsed hs i (term_entries k b user t) → Fits L hs S (Some T) b user t
-    value_fits (Literal n) T f b user rest e h u = (drop_head L.untils b _ rest h, literal_same f T n (nil-right (as_value f (Value (Some T))) _ e))
+    pub value_fits : (t : Term) (T : Ty) (f b user : ℕ) (rest : List ℕ) → faults S f (Value (Some T)) t ≡ [] → Sits L.last_uses b (last_uses all (term_entries k b user t) rest) → AreUsed hs i (term_entries k b user t) → Fits L hs S (Some T) b user t
+    value_fits (Literal n) T f b user rest e h u = (drop_head L.last_uses b _ rest h, literal_same f T n (nil-right (as_value f (Value (Some T))) _ e))
     value_fits (Variable x) T f b user rest e h u = (u.0, no_name f T (lookup S x) (nil-right (as_value f (Value (Some T))) _ e))
     value_fits (Element a j) T f b user rest e h u =
         let o = stream_offset i j in
@@ -198,7 +198,7 @@ module _ (k : Program) (L : Layout) (all : List Entry) (hs : Homes) (v : List Lo
     value_fits (Unary op x) T f b user rest e h u =
         let p = b + term_size i x in
         let h1 = part b (term_entries k b p x) _ rest h in
-        (tt, value_fits x T f b p _ (nil-left (faults S f (Value (Some T)) x) _ e) h1 (used_left hs i (term_entries k b p x) _ u), drop_head L.untils p _ rest (sits_after x b p _ h1))
+        (tt, value_fits x T f b p _ (nil-left (faults S f (Value (Some T)) x) _ e) h1 (used_left hs i (term_entries k b p x) _ u), drop_head L.last_uses p _ rest (sits_after x b p _ h1))
     value_fits (Operation op x y) T f b user rest e h u =
         let b1 = b + term_size i x in let p = b1 + term_size i y in
         let ex = nil-left (faults S f (Value (Some T)) x) _ e in
@@ -208,11 +208,11 @@ module _ (k : Program) (L : Layout) (all : List Entry) (hs : Homes) (v : List Lo
         let h3 = part b1 (term_entries k b1 p y) _ rest h2 in
         let h4 = sits_after y b1 p _ h3 in
         let uy = used_right hs i (term_entries k b p x) _ u in
-        (tt, value_fits x T f b p _ ex h1 (used_left hs i (term_entries k b p x) _ u), value_fits y T _ b1 p _ ey h3 (used_left hs i (term_entries k b1 p y) _ uy), drop_head L.untils p _ rest h4)
+        (tt, value_fits x T f b p _ ex h1 (used_left hs i (term_entries k b p x) _ u), value_fits y T _ b1 p _ ey h3 (used_left hs i (term_entries k b1 p y) _ uy), drop_head L.last_uses p _ rest h4)
     value_fits (Shift left x n) T f b user rest e h u =
         let p = b + term_size i x in
         let h1 = part b (term_entries k b p x) _ rest h in
-        (tt, value_fits x T f b p _ (nil-left (faults S f (Value (Some T)) x) _ e) h1 (used_left hs i (term_entries k b p x) _ u), drop_head L.untils p _ rest (sits_after x b p _ h1))
+        (tt, value_fits x T f b p _ (nil-left (faults S f (Value (Some T)) x) _ e) h1 (used_left hs i (term_entries k b p x) _ u), drop_head L.last_uses p _ rest (sits_after x b p _ h1))
     value_fits (Conversion x t) T f b user rest e h u =
         let p = b + term_size i x in
         let m = nil-right (as_value (f + term_size i x) (Value (Some T))) _ (nil-right (faults S f (Value (own S x)) x) _ e) in
@@ -220,7 +220,7 @@ module _ (k : Program) (L : Layout) (all : List Entry) (hs : Homes) (v : List Lo
         let q = some_of (own S x) (no_untyped _ (own S x) (nil-right (mismatch (f + term_size i x) (Some T) t) _ m)) in
         let ex = nil-left (faults S f (Value (own S x)) x) _ e in
         let h1 = part b (term_entries k b p x) _ rest h in
-        (ap Some (sym same), subst IsSome (sym q.1) tt, subst (λ o. Fits L hs S o b p x) (sym q.1) (value_fits x q.0 f b p _ (sym (ap (λ o. faults S f (Value o) x) q.1) ∙ ex) h1 (used_left hs i (term_entries k b p x) _ u)), drop_head L.untils p _ rest (sits_after x b p _ h1))
+        (ap Some (sym same), subst IsSome (sym q.1) tt, subst (λ o. Fits L hs S o b p x) (sym q.1) (value_fits x q.0 f b p _ (sym (ap (λ o. faults S f (Value o) x) q.1) ∙ ex) h1 (used_left hs i (term_entries k b p x) _ u)), drop_head L.last_uses p _ rest (sits_after x b p _ h1))
     value_fits (Choice c x y) T f b user rest e h u =
         let b1 = b + term_size i x in let b2 = b1 + term_size i y in let p = b2 + term_size i c in
         let ex = nil-left (faults S f (Value (Some T)) x) _ e in
@@ -232,13 +232,13 @@ module _ (k : Program) (L : Layout) (all : List Entry) (hs : Homes) (v : List Lo
         let h5 = part b2 (term_entries k b2 p c) _ rest (sits_after y b1 p _ h3) in
         let uy = used_right hs i (term_entries k b p x) _ u in
         let uc = used_right hs i (term_entries k b1 p y) _ uy in
-        (value_fits x T f b p _ ex h1 (used_left hs i (term_entries k b p x) _ u), value_fits y T _ b1 p _ ey h3 (used_left hs i (term_entries k b1 p y) _ uy), truth_fits c _ b2 p _ ec h5 (used_left hs i (term_entries k b2 p c) _ uc), drop_head L.untils p _ rest (sits_after c b2 p _ h5))
+        (value_fits x T f b p _ ex h1 (used_left hs i (term_entries k b p x) _ u), value_fits y T _ b1 p _ ey h3 (used_left hs i (term_entries k b1 p y) _ uy), truth_fits c _ b2 p _ ec h5 (used_left hs i (term_entries k b2 p c) _ uc), drop_head L.last_uses p _ rest (sits_after c b2 p _ h5))
     value_fits (Comparison op x y) T f b user rest e h u = absurd (never (nil-left (as_condition (f + term_size i x + term_size i y) (Value (Some T))) _ (nil-right (faults S (f + term_size i x) (Value (side_type S x y)) y) _ (nil-right (faults S f (Value (side_type S x y)) x) _ e))))
     value_fits (Both x y) T f b user rest e h u = absurd (never (nil-right (faults S (f + term_size i x) Condition y) _ (nil-right (faults S f Condition x) _ e)))
     value_fits (Either x y) T f b user rest e h u = absurd (never (nil-right (faults S (f + term_size i x + 1) Condition y) _ (nil-right (faults S f Condition x) _ e)))
     value_fits (Not x) T f b user rest e h u = absurd (never (nil-right (faults S f Condition x) _ e))
 
-    pub truth_fits : (t : Term) (f b user : ℕ) (rest : List ℕ) → faults S f Condition t ≡ [] → Sits L.untils b (untils all (term_entries k b user t) rest) → AreUsed hs i (term_entries k b user t) → FitsTruth L hs S b t
+    pub truth_fits : (t : Term) (f b user : ℕ) (rest : List ℕ) → faults S f Condition t ≡ [] → Sits L.last_uses b (last_uses all (term_entries k b user t) rest) → AreUsed hs i (term_entries k b user t) → FitsTruth L hs S b t
     truth_fits (Literal n) f b user rest e h u = absurd cc
     truth_fits (Comparison op x y) f b user rest e h u =
         let w = side_type S x y in

@@ -16,6 +16,13 @@ pub enum Extent {
     Whole,
 }
 
+/// What is asked of a value: how much of it, and the type that is wanted.
+#[derive(Clone, Copy)]
+pub struct Asked {
+    pub extent: Extent,
+    pub want: Option<Ty>,
+}
+
 /// The low bits that tell a value of a type.
 pub fn extent_of(ty: Ty) -> Extent
     ensures { result ≡ extents.extent_of ty }

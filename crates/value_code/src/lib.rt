@@ -8,4 +8,4 @@ pub mod instructions;
 pub mod leaving;
 pub mod place;
 
-pub use extent::Extent;
+pub use extent::{Asked, Extent};

@@ -4,7 +4,8 @@ ghost use Rattle.std.specs.Prelude.{◌≡◌, pos, ◌*ℤ◌, neg_ℤ, option_
 ghost use Rattle.kernel_tree.specs.Plain.{term_of, name_of};
 ghost use Rattle.kernel_scope.specs.Scopes.{scope_of};
 ghost use Rattle.scalar_words.specs.View.{homes_of, key_of, register_number};
-ghost use Rattle.scalar_words.specs.Layout as layout;
+ghost use Rattle.scalar_words.specs.Sites.{index_at};
+ghost use Rattle.scalar_words.specs.Layout as layouts;
 ghost use Rattle.kernel_tree.specs.Items as items;
 ghost use Rattle.kernel_tree.specs.Typing as typing;
 ghost use Rattle.kernel_tree.specs.Wrap.{byte_count};
@@ -13,8 +14,7 @@ ghost use Rattle.value_code.specs.Code as code;
 use a64_code::Reg;
 use kernel_scope::{Scope, array_type, is_index, is_index_term, literal_value};
 use kernel_tree::{BinaryOp, Expr, Name, Ty};
-use scalar_words::places::Places;
-use scalar_words::{Home, Key, register_at};
+use scalar_words::{KernelLayout, Key, Site};
 
 // A small offset.
 fn near_up(by: i128) -> Option<i32>
@@ -100,30 +100,25 @@ pub fn moved_key(array: Reg, ty: Option<Ty>, offset: Option<i32>) -> Option<Key>
     }
 }
 
-fn register_of(places: &Places, key: Option<Key>) -> Option<Reg>
+fn register_of(layout: &KernelLayout, key: Option<Key>) -> Option<Reg>
     ensures { option_map register_number result
-        ≡ option_and_then (layout.constant_at places.now) (option_map key_of key) }
+        ≡ option_and_then (layouts.constant_at layout.now) (option_map key_of key) }
 {
     match key {
         None => None,
-        Some(key) => places.constant(key),
+        Some(key) => layout.constant(key),
     }
 }
 
 /// The register that holds the address of an element.
-pub fn place_of(
-    places: &Places,
-    homes: &[Home],
-    scope: &Scope,
-    array: &Name,
-    index: &Expr,
-) -> Option<Reg>
-    ensures { option_map register_number result ≡ code.place_of places.now
-        (layout.register_at (homes_of homes.now) (name_of array.now))
-        (option_and_then typing.element_type (typing.lookup (scope_of scope.now) (name_of array.now)))
-        (items.stream_offset (scope_of scope.now).index (term_of index.now)) }
+pub fn place_of(site: &Site, array: &Name, index: &Expr) -> Option<Reg>
+    ensures { option_map register_number result ≡ code.place_of site.now.layout
+        (layouts.register_at (homes_of site.now.homes.items) (name_of array.now))
+        (option_and_then typing.element_type (typing.lookup (scope_of site.now.scope) (name_of array.now)))
+        (items.stream_offset (index_at site.now) (term_of index.now)) }
 {
+    let scope = &site.scope;
     let ty = array_type(scope, array);
-    let key = moved_key(register_at(homes, array), ty, near_offset(scope, index));
-    register_of(places, key)
+    let key = moved_key(site.register(array), ty, near_offset(scope, index));
+    register_of(&site.layout, key)
 }

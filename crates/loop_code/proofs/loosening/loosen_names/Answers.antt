@@ -20,19 +20,19 @@ returns-clause-scope c =
 pub returns-in_err-declare : goal.returns-in_err-declare
 returns-in_err-declare c =
     let failed = c.from_residual.ensures.0 in
-    record { scope = on_error _ _ failed; places = on_error _ _ failed }
+    record { scope = on_error _ _ failed; layout = on_error _ _ failed }
 
 pub returns-in_err-moved_names : goal.returns-in_err-moved_names
 returns-in_err-moved_names c =
     let failed = c.from_residual-in_err-moved_names.ensures.0 in
-    record { scope = on_error _ _ failed; places = on_error _ _ failed }
+    record { scope = on_error _ _ failed; layout = on_error _ _ failed }
 
 pub returns-in_err-keep_moved : goal.returns-in_err-keep_moved
 returns-in_err-keep_moved c =
     let failed = c.from_residual-in_err-keep_moved.ensures.0 in
-    record { scope = on_error _ _ failed; places = on_error _ _ failed }
+    record { scope = on_error _ _ failed; layout = on_error _ _ failed }
 
 pub returns-in_err-loosen_block : goal.returns-in_err-loosen_block
 returns-in_err-loosen_block c =
     let failed = c.from_residual-in_err-loosen_block.ensures.0 in
-    record { scope = on_error _ _ failed; places = on_error _ _ failed }
+    record { scope = on_error _ _ failed; layout = on_error _ _ failed }

@@ -14,14 +14,14 @@ use Rattle.scalar_emit.proofs.for_loop.emit_again.Goals as goal
 pub returns : goal.returns
 returns c =
     on_ok_weaker c.place-2.result (λ p. record {
-      labels = p.labels ∙ c.in_ok-emit_extended.ensures.labels ∙ c.in_ok-place.ensures.labels ∙ c.in_ok-emit_back.ensures.labels ∙ c.in_ok-put.ensures.labels;
+      labels = p.labels ∙ c.in_ok-emit_moves_back.ensures.labels ∙ c.in_ok-place.ensures.labels ∙ c.in_ok-emit_back.ensures.labels ∙ c.in_ok-put.ensures.labels;
       code = λ rest. p.code rest
-          ∙ c.in_ok-emit_extended.ensures.code _
+          ∙ c.in_ok-emit_moves_back.ensures.code _
           ∙ c.in_ok-place.ensures.code _
           ∙ c.in_ok-emit_back.ensures.code _
           ∙ c.in_ok-put.ensures.code _
           ∙ ap (λ (l : List DraftEntry). c.args.draft.now.entries ++ l)
-          (again_is (option_map form_of c.loose_form-form.result) (loose_in c.args.places.now.loose (name_of c.args.for_loop.now.index)) c.args.bound.number c.args.labels.head c.args.labels.last c.args.labels.exit (homes_of c.args.homes.now) (looses_of c.loose.result.now) c.args.places.now.loose (word_view c.next_iteration.result) rest
+          (again_is (option_map form_of c.loose_form-form.result) (loose_in c.args.layout.now.loose (name_of c.args.for_loop.now.index)) c.args.bound.number c.args.labels.head c.args.labels.last c.args.labels.exit (homes_of c.args.homes.now) (looses_of c.loose.result.now) c.args.layout.now.loose (word_view c.next_iteration.result) rest
           c.next_iteration.ensures c.loose_form-form.ensures c.requires.last c.requires.exit c.loose.ensures);
     }) c.place-2.ensures
 
@@ -34,8 +34,8 @@ returns-in_err-emit_back c = on_error _ _ c.from_residual-in_err-emit_back.ensur
 pub returns-in_err-place : goal.returns-in_err-place
 returns-in_err-place c = on_error _ _ c.from_residual-in_err-place.ensures.0
 
-pub returns-in_err-emit_extended : goal.returns-in_err-emit_extended
-returns-in_err-emit_extended c = on_error _ _ c.from_residual-in_err-emit_extended.ensures.0
+pub returns-in_err-emit_moves_back : goal.returns-in_err-emit_moves_back
+returns-in_err-emit_moves_back c = on_error _ _ c.from_residual-in_err-emit_moves_back.ensures.0
 
 pub put-requires : goal.put-requires
 put-requires c = record { plain = ap is_plain c.next_iteration.ensures }
@@ -50,4 +50,4 @@ pub place-requires : goal.place-requires
 place-requires c = record { given = last_below_later_label c.args.labels.last c.args.draft.now.labels c.put.new.self.labels c.emit_back.new.draft.labels c.requires.given c.in_ok-put.ensures.labels c.in_ok-emit_back.ensures.labels }
 
 pub place-requires-2 : goal.place-requires-2
-place-requires-2 c = record { given = exit_placed c.args.labels.exit c.args.labels.last c.args.labels.head c.args.draft.now.labels c.put.new.self.labels c.emit_back.new.draft.labels c.place.new.self.labels c.emit_extended.new.draft.labels c.requires.exit c.requires.last c.requires.given c.in_ok-put.ensures.labels c.in_ok-emit_back.ensures.labels c.in_ok-place.ensures.labels c.in_ok-emit_extended.ensures.labels }
+place-requires-2 c = record { given = exit_placed c.args.labels.exit c.args.labels.last c.args.labels.head c.args.draft.now.labels c.put.new.self.labels c.emit_back.new.draft.labels c.place.new.self.labels c.emit_moves_back.new.draft.labels c.requires.exit c.requires.last c.requires.given c.in_ok-put.ensures.labels c.in_ok-emit_back.ensures.labels c.in_ok-place.ensures.labels c.in_ok-emit_moves_back.ensures.labels }

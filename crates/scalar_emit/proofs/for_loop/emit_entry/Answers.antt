@@ -66,7 +66,7 @@ returns c = record {
             ∙ c.in_ok-put.ensures.code _
             ∙ c.in_ok-head.ensures.emits.code _
             ∙ ap (λ (l : List DraftEntry). c.args.draft.now.entries ++ l)
-            (entry_is c.args.bound.number n c.put.new.self.labels c.emit_numbers.new.draft.labels (homes_of c.args.homes.now) c.args.places.now (looses_of c.loose.result.now) (constants_of c.constants.result.now) (word_view c.compare_iteration.result) rest
+            (entry_is c.args.bound.number n c.put.new.self.labels c.emit_numbers.new.draft.labels (homes_of c.args.homes.now) c.args.layout.now (looses_of c.loose.result.now) (constants_of c.constants.result.now) (word_view c.compare_iteration.result) rest
             c.compare_iteration.ensures (bound ∙ head) c.loose.ensures c.constants.ensures top);
       };
   head = c.in_ok-head.ensures.head;

@@ -36,24 +36,24 @@ put-requires c = record { plain = ap is_plain c.small.ensures }
 pub emit_value-requires : goal.emit_value-requires
 emit_value-requires c = record {
   kind = subst (λ (o : Option Answer). AnswerKinds (option_map returned_of o)) c.in-Some.is c.requires.kind;
-  fits = omega (arith, ap (λ (o : Option Answer). answer_size (scope_of c.args.scope.now).index (option_map returned_of o)) c.in-Some.is, c.requires.fits);
+  fits = omega (arith, ap (λ (o : Option Answer). answer_size (scope_of c.args.site.now.scope).index (option_map returned_of o)) c.in-Some.is, c.requires.fits);
 }
 
 pub returns-in_ok-put-in-None : goal.returns-in_ok-put-in-None
 returns-in_ok-put-in-None c =
-    let s = scope_of c.args.scope.now in
+    let s = scope_of c.args.site.now.scope in
     let o = option_map returned_of c.args.answer.now in
     let is = ap (λ (x : Option Answer). option_map returned_of x) c.in-None.is in
     on_ok_weaker c.emit_exit.result (λ p. record {
       labels = none_counted s.index o c.args.draft.now.labels c.emit_exit.new.draft.labels is (p.labels ∙ c.in_ok-put-in-None.ensures.labels);
       code = λ rest. p.code rest
           ∙ c.in_ok-put-in-None.ensures.code _
-          ∙ ap (λ (l : List DraftEntry). c.args.draft.now.entries ++ l) (answer_none c.args.places.now (homes_of c.args.homes.now) s c.args.item c.args.draft.now.labels o (word_view c.small.result) rest is c.small.ensures);
+          ∙ ap (λ (l : List DraftEntry). c.args.draft.now.entries ++ l) (answer_none c.args.site.now.layout (homes_of c.args.site.now.homes.items) s c.args.item c.args.draft.now.labels o (word_view c.small.result) rest is c.small.ensures);
     }) c.emit_exit.ensures
 
 pub returns-in_ok-emit_copy-in-Some : goal.returns-in_ok-emit_copy-in-Some
 returns-in_ok-emit_copy-in-Some c =
-    let s = scope_of c.args.scope.now in
+    let s = scope_of c.args.site.now.scope in
     let o = option_map returned_of c.args.answer.now in
     let is = ap (λ (x : Option Answer). option_map returned_of x) c.in-Some.is in
     let value = c.in_ok-from-in-Some.ensures in
@@ -62,5 +62,5 @@ returns-in_ok-emit_copy-in-Some c =
       code = λ rest. p.code rest
           ∙ c.in_ok-emit_copy-in-Some.ensures.code _
           ∙ value.emits.code _
-          ∙ ap (λ (l : List DraftEntry). c.args.draft.now.entries ++ l) (answer_some c.args.places.now (homes_of c.args.homes.now) s c.args.item c.args.draft.now.labels c.in_ok-from-in-Some.from.number o (returned_of c.in-Some.answer) rest is value.register);
+          ∙ ap (λ (l : List DraftEntry). c.args.draft.now.entries ++ l) (answer_some c.args.site.now.layout (homes_of c.args.site.now.homes.items) s c.args.item c.args.draft.now.labels c.in_ok-from-in-Some.from.number o (returned_of c.in-Some.answer) rest is value.register);
     }) c.emit_exit-in-Some.ensures

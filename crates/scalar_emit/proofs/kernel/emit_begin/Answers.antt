@@ -30,16 +30,16 @@ returns-clause-words c =
     let n = c.args.draft.now.labels in
     on_ok_weaker c.emit_first.result (λ p. words_added c.args.draft.now.entries c.emit_first.new.draft.entries (begin_code R k n []) (40 + 8 * size_of k) (p.code []) (begin_words R k n [])) (returns-clause-emits c)
 
-pub returns-in_err-places : goal.returns-in_err-places
-returns-in_err-places c =
+pub returns-in_err-layout : goal.returns-in_err-layout
+returns-in_err-layout c =
     let failed = c.from_residual.ensures.0 in
     record { words = on_error _ _ failed; emits = on_error _ _ failed }
 
 pub each_has_a_register-requires : goal.each_has_a_register-requires
 each_has_a_register-requires c = record { fits = c.requires.fits }
 
-pub places_of-requires : goal.places_of-requires
-places_of-requires c = record {
+pub lay_out-requires : goal.lay_out-requires
+lay_out-requires c = record {
   fits = c.requires.fits;
   listed = c.requires.listed;
 }
@@ -60,9 +60,9 @@ emit_first-requires c = record {
   few =
       let same = sym (ap program_of c.kernel-tree.ensures) in
       subst (λ (k : Program). size_of k ≤ 1000) same c.few_items.ensures.size;
-  places =
+  layout =
       let same = sym (ap program_of c.kernel-tree.ensures) in
-      c.in_ok-places.ensures ∙ ap (layout_of_kernel (register_in c.args.regs.now)) same;
+      c.in_ok-layout.ensures ∙ ap (layout_of_kernel (register_in c.args.regs.now)) same;
   scope = c.empty-scope.ensures ∙ ap empty c.loop_index.ensures;
   homes = c.new-homes.ensures.items;
 }

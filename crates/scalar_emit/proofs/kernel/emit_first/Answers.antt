@@ -32,8 +32,8 @@ returns c =
           ∙ c.in_ok-emit_vars.ensures.code (zero_index rest)
           ∙ c.in_ok-emit_arguments.ensures.code _
           ∙ ap (λ (l : List DraftEntry). c.args.draft.now.entries ++ l)
-          (begin_is R k c.args.places.now (homes_of c.declare_params.new.homes.items) (scope_of c.declare_params.new.scope) c.len-first.result c.emit_arguments.new.draft.labels c.args.draft.now.labels (parameters_of c.deref-2.result.now) (accumulators_of c.deref-3.result.now) rest
-          c.requires.places homes scope first c.in_ok-emit_arguments.ensures.labels (ap parameters_of c.deref-2.ensures.value) (ap accumulators_of c.deref-3.ensures.value));
+          (begin_is R k c.args.site.now.layout (homes_of c.declare_params.new.homes.items) (scope_of c.declare_params.new.scope) c.len-first.result c.emit_arguments.new.draft.labels c.args.draft.now.labels (parameters_of c.deref-2.result.now) (accumulators_of c.deref-3.result.now) rest
+          c.requires.layout homes scope first c.in_ok-emit_arguments.ensures.labels (ap parameters_of c.deref-2.ensures.value) (ap accumulators_of c.deref-3.ensures.value));
     }) c.put.ensures
 
 pub returns-in_err-declare_params : goal.returns-in_err-declare_params

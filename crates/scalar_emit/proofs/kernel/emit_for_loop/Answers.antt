@@ -31,7 +31,7 @@ emit_answer-requires c = record {
       let l = for_loop_of c.args.for_loop.now in
       let scope = c.in_ok-loosen_names.ensures.scope ∙ c.requires.scope in
       let end = loop_ends k l (scope_of c.loosen_names.new.scope) c.args.item c.emit_loop.new.item scope c.requires.for_loop c.requires.start c.in_ok-at_iteration.ensures.item in
-      answer_room k (scope_of c.emit_loop.new.scope) c.emit_loop.new.item c.requires.few (ap (λ (t : Scope). t.index) c.in_ok-at_iteration.ensures.scope ∙ var_scope-index k _ scope) (within_loop_end k c.emit_loop.new.item end);
+      answer_room k (scope_of c.emit_loop.new.site.scope) c.emit_loop.new.item c.requires.few (ap (λ (t : Scope). t.index) c.in_ok-at_iteration.ensures.scope ∙ var_scope-index k _ scope) (within_loop_end k c.emit_loop.new.item end);
 }
 
 pub returns-in_err-hold_numbers : goal.returns-in_err-hold_numbers
@@ -66,21 +66,21 @@ returns c = record {
       let R = register_in c.args.regs.now in
       let l = for_loop_of c.args.for_loop.now in
       let s = scope_of c.loosen_names.new.scope in
-      let t = scope_of c.emit_loop.new.scope in
+      let t = scope_of c.emit_loop.new.site.scope in
       let scope = c.in_ok-loosen_names.ensures.scope ∙ c.requires.scope in
-      let homes = ap homes_of c.deref-2.ensures.value ∙ c.in_ok-at_iteration.ensures.homes in
+      let homes = c.in_ok-at_iteration.ensures.homes in
       let tree = c.args.kernel.now in
       let params = c.len-params.ensures ∙ tree.params.ok.0 ∙ sym (count_params tree.params.items) in
-      let numbers = c.in_ok-hold_numbers.ensures ∙ ap (with_constants c.args.places.now) (numbers_are R k l c.len-params.result (homes_of c.deref.result.now) (scope_of c.args.scope.now) params (ap homes_of c.deref.ensures.value ∙ c.requires.homes) c.requires.scope c.requires.for_loop) in
-      let held = held_is R k c.loosen_names.new.places c.hold_numbers.new.places c.args.places.now c.in_ok-loosen_names.ensures.places numbers c.requires.places in
-      let left = c.in_ok-leave_loop.ensures ∙ ap bare held in
+      let numbers = c.in_ok-hold_numbers.ensures ∙ ap (with_constants c.args.site.now.layout) (numbers_are R k l c.len-params.result (homes_of c.deref.result.now) (scope_of c.args.site.now.scope) params (ap homes_of c.deref.ensures.value ∙ c.requires.homes) c.requires.scope c.requires.for_loop) in
+      let held = held_is R k c.loosen_names.new.layout c.hold_numbers.new.layout c.args.site.now.layout c.in_ok-loosen_names.ensures.layout numbers c.requires.layout in
+      let left = c.in_ok-leave_loop.ensures ∙ ap bare (c.in_ok-at_iteration.ensures.layout ∙ held) in
       let end = loop_ends k l s c.args.item c.emit_loop.new.item scope c.requires.for_loop c.requires.start c.in_ok-at_iteration.ensures.item in
       record {
         labels = for_loop_count k l s t c.args.draft.now.labels c.emit_loop.new.draft.labels c.emit_answer.new.draft.labels scope c.in_ok-at_iteration.ensures.scope c.requires.for_loop c.in_ok-at_iteration.ensures.emits.labels c.in_ok-emit_answer.ensures.labels;
         code = λ rest. c.in_ok-emit_answer.ensures.code rest
             ∙ c.in_ok-at_iteration.ensures.emits.code _
             ∙ ap (λ (es : List DraftEntry). c.args.draft.now.entries ++ es)
-            (for_loop_is R k c.loosen_names.new.places c.leave_loop.new.places (homes_of c.args.homes.now.items) (homes_of c.deref-2.result.now) s t l c.args.item c.args.draft.now.labels c.emit_loop.new.item c.emit_loop.new.draft.labels rest
+            (for_loop_is R k c.loosen_names.new.layout c.leave_loop.new.layout (homes_of c.args.site.now.homes.items) (homes_of c.emit_loop.new.site.homes.items) s t l c.args.item c.args.draft.now.labels c.emit_loop.new.item c.emit_loop.new.draft.labels rest
             held left c.requires.homes scope homes c.in_ok-at_iteration.ensures.scope c.requires.for_loop c.requires.start end c.in_ok-at_iteration.ensures.emits.labels);
       };
   entry = c.in_ok-at_iteration.ensures.head;

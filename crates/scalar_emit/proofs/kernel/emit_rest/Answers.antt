@@ -48,7 +48,7 @@ emit_for_loop-requires c = record {
   params = c.requires.params;
   kinds = c.requires.kinds;
   few = c.requires.few;
-  places = c.requires.places;
+  layout = c.requires.layout;
   start = c.requires.start;
   scope = c.in_ok-declare_names.ensures.scope;
   homes = c.in_ok-declare_names.ensures.homes;
@@ -62,13 +62,13 @@ returns-in_ok-emit_answer-in-None c = record {
       let R = register_in c.args.regs.now in
       let s = scope_of c.declare_names.new.scope in
       let for_loop = ap (λ (o : Option Loop). option_map for_loop_of o) c.in-None.is in
-      let homes = ap homes_of c.deref.ensures.value ∙ c.in_ok-declare_names.ensures.homes in
+      let homes = c.in_ok-declare_names.ensures.homes in
       record {
         labels = bare_count k s c.args.draft.now.labels c.emit_head.new.draft.labels c.emit_answer.new.draft.labels c.in_ok-declare_names.ensures.index for_loop c.in_ok-at_iteration-in-None.ensures.emits.labels c.in_ok-emit_answer-in-None.ensures.labels;
         code = λ rest. c.in_ok-emit_answer-in-None.ensures.code rest
             ∙ c.in_ok-at_iteration-in-None.ensures.emits.code _
             ∙ ap (λ (es : List DraftEntry). c.args.draft.now.entries ++ es)
-            (bare_code R k c.args.places.now (homes_of c.deref.result.now) s c.args.item c.args.draft.now.labels c.emit_head.new.draft.labels rest c.requires.places homes c.in_ok-declare_names.ensures.scope for_loop c.requires.start c.in_ok-at_iteration-in-None.ensures.emits.labels);
+            (bare_code R k c.args.site.now.layout (homes_of c.declare_names.new.homes.items) s c.args.item c.args.draft.now.labels c.emit_head.new.draft.labels rest c.requires.layout homes c.in_ok-declare_names.ensures.scope for_loop c.requires.start c.in_ok-at_iteration-in-None.ensures.emits.labels);
       };
   entry = c.in_ok-at_iteration-in-None.ensures.head;
 }

@@ -1,4 +1,4 @@
-use Rattle.std.proofs.Common.{◌++◌, List, ap, ◌∙◌, arith, ◌+◌}
+use Rattle.std.proofs.Common.{◌++◌, List, refl, ap, ◌∙◌, arith, ◌+◌}
 use Rattle.std.proofs.lemmas.Result.{on_ok_weaker}
 use Rattle.kernel_tree.specs.Plain.{accumulator_of}
 use Rattle.kernel_scope.specs.Scopes.{scope_of}
@@ -13,12 +13,12 @@ use Rattle.scalar_emit.proofs.kernel.emit_var.Goals as goal
 pub returns-in_err-from : goal.returns-in_err-from
 returns-in_err-from c =
     let failed = c.from_residual.ensures.0 in
-    record { scope = on_error _ _ failed; homes = on_error _ _ failed; item = on_error _ _ failed; emits = on_error _ _ failed }
+    record { layout = on_error _ _ failed; scope = on_error _ _ failed; homes = on_error _ _ failed; item = on_error _ _ failed; emits = on_error _ _ failed }
 
 pub returns-in_err-emit_copy : goal.returns-in_err-emit_copy
 returns-in_err-emit_copy c =
     let failed = c.from_residual-in_err-emit_copy.ensures.0 in
-    record { scope = on_error _ _ failed; homes = on_error _ _ failed; item = on_error _ _ failed; emits = on_error _ _ failed }
+    record { layout = on_error _ _ failed; scope = on_error _ _ failed; homes = on_error _ _ failed; item = on_error _ _ failed; emits = on_error _ _ failed }
 
 pub emit_value-requires : goal.emit_value-requires
 emit_value-requires c = record {
@@ -49,9 +49,10 @@ returns c = record {
         code = λ rest. c.in_ok-emit_copy.ensures.code rest
             ∙ c.in_ok-from.ensures.emits.code _
             ∙ ap (λ (l : List DraftEntry). c.args.draft.now.entries ++ l)
-            (var_is c.args.places.now (register_in c.args.regs.now) (homes_of c.args.homes.now.items) (homes_of c.deref.result.now) (scope_of c.args.scope.now) c.args.place c.args.item.now c.args.draft.now.labels c.counted_register.result.number c.in_ok-from.from.number (accumulator_of c.args.var.now) rest
-            (ap homes_of c.deref.ensures.value) c.counted_register.ensures c.in_ok-from.ensures.register);
+            (var_is c.args.site.now.layout (register_in c.args.regs.now) (homes_of c.args.site.now.homes.items) (homes_of c.args.site.now.homes.items) (scope_of c.args.site.now.scope) c.args.place c.args.item.now c.args.draft.now.labels c.counted_register.result.number c.in_ok-from.from.number (accumulator_of c.args.var.now) rest
+            refl c.counted_register.ensures c.in_ok-from.ensures.register);
       }) c.declare_var.ensures.scope;
+  layout = on_any c.declare_var.result refl;
   scope = c.declare_var.ensures.scope;
   homes = c.declare_var.ensures.homes;
   item = on_any c.declare_var.result (ap (λ n. n + 1) c.in_ok-from.ensures.item);

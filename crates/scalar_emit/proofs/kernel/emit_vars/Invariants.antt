@@ -14,7 +14,7 @@ abbrev pub invariant-loop-var : goal.invariant-loop-var
 invariant-loop-var l = record {
   place : l.place ≡ l.var-index;
   kinds : VarsKinds (accumulators_of (drop l.var-index l.vars));
-  item : l.next + vars_size (scope_of l.scope).index (accumulators_of (drop l.var-index l.vars)) ≡ l.fn.item + vars_size (scope_of l.fn.scope).index (accumulators_of l.vars);
-  labels : l.draft.labels + kernels.vars_labels (scope_of l.scope).index (accumulators_of (drop l.var-index l.vars)) ≡ l.fn.draft.labels + kernels.vars_labels (scope_of l.fn.scope).index (accumulators_of l.vars);
-  code : (rest : List plain.DraftEntry) → l.draft.entries ++ kernels.vars_code l.places (registers.register_in l.regs) (homes_of l.homes.items) (scope_of l.scope) l.place l.next l.draft.labels (accumulators_of (drop l.var-index l.vars)) rest ≡ l.fn.draft.entries ++ kernels.vars_code l.places (registers.register_in l.regs) (homes_of l.fn.homes.items) (scope_of l.fn.scope) 0 l.fn.item l.fn.draft.labels (accumulators_of l.vars) rest;
+  item : l.next + vars_size (scope_of l.site.scope).index (accumulators_of (drop l.var-index l.vars)) ≡ l.fn.item + vars_size (scope_of l.fn.site.scope).index (accumulators_of l.vars);
+  labels : l.draft.labels + kernels.vars_labels (scope_of l.site.scope).index (accumulators_of (drop l.var-index l.vars)) ≡ l.fn.draft.labels + kernels.vars_labels (scope_of l.fn.site.scope).index (accumulators_of l.vars);
+  code : (rest : List plain.DraftEntry) → l.draft.entries ++ kernels.vars_code l.site.layout (registers.register_in l.regs) (homes_of l.site.homes.items) (scope_of l.site.scope) l.place l.next l.draft.labels (accumulators_of (drop l.var-index l.vars)) rest ≡ l.fn.draft.entries ++ kernels.vars_code l.fn.site.layout (registers.register_in l.regs) (homes_of l.fn.site.homes.items) (scope_of l.fn.site.scope) 0 l.fn.item l.fn.draft.labels (accumulators_of l.vars) rest;
 }

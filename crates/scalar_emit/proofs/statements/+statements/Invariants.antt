@@ -17,11 +17,12 @@ invariant-emit_block-loop-stmt l = record {
   exit : l.exit < l.draft.labels;
   depth : block_depth (block_of (drop l.stmt-index l.block)) ≤ block_depth (block_of l.block);
   kinds : BlockKinds (block_of (drop l.stmt-index l.block));
-  scope : typing.after_block (scope_of l.scope) (block_of (drop l.stmt-index l.block)) ≡ typing.after_block (scope_of l.fn.scope) (block_of l.block);
-  homes : statements.block_homes l.places (homes_of l.homes.items) (scope_of l.scope) l.item (block_of (drop l.stmt-index l.block)) ≡ statements.block_homes l.places (homes_of l.fn.homes.items) (scope_of l.fn.scope) l.fn.item (block_of l.block);
-  item : l.item + block_size (scope_of l.scope).index (block_of (drop l.stmt-index l.block)) ≡ l.fn.item + block_size (scope_of l.fn.scope).index (block_of l.block);
-  labels : l.draft.labels + statements.block_labels (scope_of l.scope).index (block_of (drop l.stmt-index l.block)) ≡ l.fn.draft.labels + statements.block_labels (scope_of l.fn.scope).index (block_of l.block);
-  code : (rest : List plain.DraftEntry) → l.draft.entries ++ statements.block_code l.places (homes_of l.homes.items) (scope_of l.scope) l.exit l.item l.draft.labels (block_of (drop l.stmt-index l.block)) rest ≡ l.fn.draft.entries ++ statements.block_code l.places (homes_of l.fn.homes.items) (scope_of l.fn.scope) l.exit l.fn.item l.fn.draft.labels (block_of l.block) rest;
+  layout : l.site.layout ≡ l.fn.site.layout;
+  scope : typing.after_block (scope_of l.site.scope) (block_of (drop l.stmt-index l.block)) ≡ typing.after_block (scope_of l.fn.site.scope) (block_of l.block);
+  homes : statements.block_homes l.site.layout (homes_of l.site.homes.items) (scope_of l.site.scope) l.item (block_of (drop l.stmt-index l.block)) ≡ statements.block_homes l.fn.site.layout (homes_of l.fn.site.homes.items) (scope_of l.fn.site.scope) l.fn.item (block_of l.block);
+  item : l.item + block_size (scope_of l.site.scope).index (block_of (drop l.stmt-index l.block)) ≡ l.fn.item + block_size (scope_of l.fn.site.scope).index (block_of l.block);
+  labels : l.draft.labels + statements.block_labels (scope_of l.site.scope).index (block_of (drop l.stmt-index l.block)) ≡ l.fn.draft.labels + statements.block_labels (scope_of l.fn.site.scope).index (block_of l.block);
+  code : (rest : List plain.DraftEntry) → l.draft.entries ++ statements.block_code l.site.layout (homes_of l.site.homes.items) (scope_of l.site.scope) l.exit l.item l.draft.labels (block_of (drop l.stmt-index l.block)) rest ≡ l.fn.draft.entries ++ statements.block_code l.fn.site.layout (homes_of l.fn.site.homes.items) (scope_of l.fn.site.scope) l.exit l.fn.item l.fn.draft.labels (block_of l.block) rest;
 }
 
 -- a block stands above its statements, and an `if` above its blocks

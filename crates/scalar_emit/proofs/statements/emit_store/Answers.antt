@@ -27,34 +27,34 @@ overflow_add-item c = omega (arith, c.requires.fits, c.in_ok-from.ensures.item)
 
 pub returns-in-Some : goal.returns-in-Some
 returns-in-Some c = record {
-  item = on_any c.emit_into.result (item_after_size c.args.item.now (term_size (scope_of c.args.scope.now).index (term_of c.args.value.now)) c.emit_stored.new.item c.in_ok-from.ensures.item);
+  item = on_any c.emit_into.result (item_after_size c.args.item.now (term_size (scope_of c.args.site.now.scope).index (term_of c.args.value.now)) c.emit_stored.new.item c.in_ok-from.ensures.item);
   emits =
-      let s = scope_of c.args.scope.now in
-      let hs = homes_of c.args.homes.now in
+      let s = scope_of c.args.site.now.scope in
+      let hs = homes_of c.args.site.now.homes.items in
       let stored = c.in_ok-from.ensures in
       on_ok_weaker c.emit_into.result (λ p. record {
         labels = p.labels ∙ stored.emits.labels;
         code = λ rest. p.code rest
             ∙ stored.emits.code _
             ∙ ap (λ (l : List DraftEntry). c.args.draft.now.entries ++ l)
-            (placed_store c.args.places.now hs s c.args.item.now c.args.draft.now.labels (name_of c.args.array.now) (term_of c.args.index.now) (term_of c.args.value.now) c.array_type-ty.result c.extent_at-extent.result c.in_ok-from.from.number c.in-Some.place.number iteration rest
+            (placed_store c.args.site.now.layout hs s c.args.item.now c.args.draft.now.labels (name_of c.args.array.now) (term_of c.args.index.now) (term_of c.args.value.now) c.array_type-ty.result c.extent_at-extent.result c.in_ok-from.from.number c.in-Some.place.number iteration rest
             c.array_type-ty.ensures c.extent_at-extent.ensures stored.register c.in-Some.ensures refl);
       }) c.emit_into.ensures;
 }
 
 pub returns-in-None : goal.returns-in-None
 returns-in-None c = record {
-  item = on_any c.emit_put.result (item_after_size c.args.item.now (term_size (scope_of c.args.scope.now).index (term_of c.args.value.now)) c.emit_stored.new.item c.in_ok-from.ensures.item);
+  item = on_any c.emit_put.result (item_after_size c.args.item.now (term_size (scope_of c.args.site.now.scope).index (term_of c.args.value.now)) c.emit_stored.new.item c.in_ok-from.ensures.item);
   emits =
-      let s = scope_of c.args.scope.now in
-      let hs = homes_of c.args.homes.now in
+      let s = scope_of c.args.site.now.scope in
+      let hs = homes_of c.args.site.now.homes.items in
       let stored = c.in_ok-from.ensures in
       on_ok_weaker c.emit_put.result (λ p. record {
         labels = p.labels ∙ stored.emits.labels;
         code = λ rest. p.code rest
             ∙ stored.emits.code _
             ∙ ap (λ (l : List DraftEntry). c.args.draft.now.entries ++ l)
-            (computed_store c.args.places.now hs s c.args.item.now c.args.draft.now.labels (name_of c.args.array.now) (term_of c.args.index.now) (term_of c.args.value.now) c.array_type-ty.result c.extent_at-extent.result c.in_ok-from.from.number c.register_at.result.number rest
-            c.array_type-ty.ensures c.extent_at-extent.ensures stored.register c.in-None.ensures c.register_at.ensures);
+            (computed_store c.args.site.now.layout hs s c.args.item.now c.args.draft.now.labels (name_of c.args.array.now) (term_of c.args.index.now) (term_of c.args.value.now) c.array_type-ty.result c.extent_at-extent.result c.in_ok-from.from.number c.register.result.number rest
+            c.array_type-ty.ensures c.extent_at-extent.ensures stored.register c.in-None.ensures c.register.ensures);
       }) c.emit_put.ensures;
 }

@@ -21,7 +21,7 @@ returns-in_err-r c =
 
 pub emit_loose-requires : goal.emit_loose-requires
 emit_loose-requires c =
-    let s = scope_of c.args.scope.now in
+    let s = scope_of c.args.site.now.scope in
     let e = term_of c.deref-then-within_type.result.now in
     let is : term_of c.args.value.now ≡ Conversion e c.in-Cast.ty = rw (c.in-Cast.is, c.deref-then-within_type.ensures) refl in
     record {
@@ -31,30 +31,30 @@ emit_loose-requires c =
 
 pub overflow_add-item : goal.overflow_add-item
 overflow_add-item c =
-    let s = scope_of c.args.scope.now in
+    let s = scope_of c.args.site.now.scope in
     let e = term_of c.deref-then-within_type.result.now in
     let is : term_of c.args.value.now ≡ Conversion e c.in-Cast.ty = rw (c.in-Cast.is, c.deref-then-within_type.ensures) refl in
     cast_more s.index e (term_of c.args.value.now) c.in-Cast.ty c.args.item.now c.emit_loose.new.item is c.requires.fits c.in_ok-r.ensures.item
 
 pub returns-then-within_type : goal.returns-then-within_type
 returns-then-within_type c =
-    let s = scope_of c.args.scope.now in
+    let s = scope_of c.args.site.now.scope in
     let e = term_of c.deref-then-within_type.result.now in
     let is : term_of c.args.value.now ≡ Conversion e c.in-Cast.ty = rw (c.in-Cast.is, c.deref-then-within_type.ensures) refl in
     record {
       register =
           let from = c.own_type-from.ensures ∙ ap (λ (x : Expr). own s (term_of x)) (c.deref.ensures ∙ sym c.deref-then-within_type.ensures) in
-          let bare : is_bare s c.args.extent (Conversion e c.in-Cast.ty) ≡ true = elim c.then-within_type.branch [ then-within_type-via-then-within_type w ↦ within_bare s c.args.extent e c.in-Cast.ty _ c.within_type.ensures w.if-within_type.true | then-within_type-via-else-within_type+then-fits_at w ↦ fits_bare s c.args.extent e c.in-Cast.ty _ _ from w.fits_at.ensures w.if-fits_at.true ] in
-          bare_home c.args.places.now (homes_of c.args.homes.now) s c.args.extent c.args.item.now c.in_ok-r.r.number e (term_of c.args.value.now) c.in-Cast.ty is bare c.in_ok-r.ensures.register;
+          let bare : is_bare s c.args.asked.extent (Conversion e c.in-Cast.ty) ≡ true = elim c.then-within_type.branch [ then-within_type-via-then-within_type w ↦ within_bare s c.args.asked.extent e c.in-Cast.ty _ c.within_type.ensures w.if-within_type.true | then-within_type-via-else-within_type+then-fits_at w ↦ fits_bare s c.args.asked.extent e c.in-Cast.ty _ _ from w.fits_at.ensures w.if-fits_at.true ] in
+          bare_home c.args.site.now.layout (homes_of c.args.site.now.homes.items) s c.args.asked.extent c.args.item.now c.in_ok-r.r.number e (term_of c.args.value.now) c.in-Cast.ty is bare c.in_ok-r.ensures.register;
       item = cast_items s.index e (term_of c.args.value.now) c.in-Cast.ty c.args.item.now c.emit_loose.new.item is c.in_ok-r.ensures.item;
       emits =
           let from = c.own_type-from.ensures ∙ ap (λ (x : Expr). own s (term_of x)) (c.deref.ensures ∙ sym c.deref-then-within_type.ensures) in
-          let bare : is_bare s c.args.extent (Conversion e c.in-Cast.ty) ≡ true = elim c.then-within_type.branch [ then-within_type-via-then-within_type w ↦ within_bare s c.args.extent e c.in-Cast.ty _ c.within_type.ensures w.if-within_type.true | then-within_type-via-else-within_type+then-fits_at w ↦ fits_bare s c.args.extent e c.in-Cast.ty _ _ from w.fits_at.ensures w.if-fits_at.true ] in
+          let bare : is_bare s c.args.asked.extent (Conversion e c.in-Cast.ty) ≡ true = elim c.then-within_type.branch [ then-within_type-via-then-within_type w ↦ within_bare s c.args.asked.extent e c.in-Cast.ty _ c.within_type.ensures w.if-within_type.true | then-within_type-via-else-within_type+then-fits_at w ↦ fits_bare s c.args.asked.extent e c.in-Cast.ty _ _ from w.fits_at.ensures w.if-fits_at.true ] in
           record {
             labels = c.in_ok-r.ensures.emits.labels ∙ ap (λ (x : Term). c.args.draft.now.labels + labels s.index x) (sym is);
             code = λ rest. c.in_ok-r.ensures.emits.code rest
                 ∙ ap (λ (l : List DraftEntry). c.args.draft.now.entries ++ l)
-                (bare_code c.args.places.now (homes_of c.args.homes.now) s c.args.extent c.converted_extent-asked.result c.own_type-from.result c.args.want c.args.item.now c.args.draft.now.labels e (term_of c.args.value.now) c.in-Cast.ty rest is bare from c.converted_extent-asked.ensures);
+                (bare_code c.args.site.now.layout (homes_of c.args.site.now.homes.items) s c.args.asked.extent c.converted_extent-extent.result c.own_type-from.result c.args.asked.want c.args.item.now c.args.draft.now.labels e (term_of c.args.value.now) c.in-Cast.ty rest is bare from c.converted_extent-extent.ensures);
           };
     }
 

@@ -35,7 +35,7 @@ overflow_add-item c = omega (arith, c.requires.fits, c.in_ok-side.ensures.item)
 pub returns : goal.returns
 returns c = record {
   emits =
-      let L = c.args.places.now in
+      let L = c.args.site.now.layout in
       let x = name_of c.args.name.now in
       let held = c.held_extent-held.ensures ∙ ap held_extent c.loose_form.ensures in
       let extent = c.binary_extent-extent.ensures ∙ ap (λ (w : Extent). binary_extent c.update_operator-op.result w c.and_then-want.result) held in
@@ -47,8 +47,8 @@ returns c = record {
         code = λ rest. p.code rest
             ∙ c.in_ok-side.ensures.emits.code _
             ∙ ap (λ (l : List DraftEntry). c.args.draft.now.entries ++ l)
-            (update_is L (homes_of c.args.homes.now) (scope_of c.args.scope.now) 0 c.args.item.now c.args.draft.now.labels x c.args.op c.update_operator-op.result c.and_then-want.result c.binary_extent-extent.result (term_of c.args.value.now) (side_view c.in_ok-side.side) c.settles-leaves.result c.register_at-register.result.number rest
-            c.update_operator-op.ensures want extent c.in_ok-side.ensures.side leaves c.register_at-register.ensures);
+            (update_is L (homes_of c.args.site.now.homes.items) (scope_of c.args.site.now.scope) 0 c.args.item.now c.args.draft.now.labels x c.args.op c.update_operator-op.result c.and_then-want.result c.binary_extent-extent.result (term_of c.args.value.now) (side_view c.in_ok-side.side) c.settles-leaves.result c.register-register.result.number rest
+            c.update_operator-op.ensures want extent c.in_ok-side.ensures.side leaves c.register-register.ensures);
       }) c.want_operator.ensures;
-  item = on_any c.want_operator.result (item_after_size c.args.item.now (term_size (scope_of c.args.scope.now).index (term_of c.args.value.now)) c.emit_side.new.item c.in_ok-side.ensures.item);
+  item = on_any c.want_operator.result (item_after_size c.args.item.now (term_size (scope_of c.args.site.now.scope).index (term_of c.args.value.now)) c.emit_side.new.item c.in_ok-side.ensures.item);
 }

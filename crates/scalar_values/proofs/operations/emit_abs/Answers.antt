@@ -12,15 +12,15 @@ use Rattle.scalar_values.proofs.ItemCode.{signed_abs, unsigned_abs}
 pub put-requires : goal.put-requires
 put-requires c = record { plain = ap is_plain c.add_sub.ensures }
 
-pub emit_settled-requires : goal.emit_settled-requires
-emit_settled-requires c = ap is_plain c.select-word.ensures
+pub emit_then_settle-requires : goal.emit_then_settle-requires
+emit_then_settle-requires c = ap is_plain c.select-word.ensures
 
 pub returns-in_err-put : goal.returns-in_err-put
 returns-in_err-put c = IfOk-from_err _ _ c.from_residual.ensures.0
 
 pub returns-in_ok-put : goal.returns-in_ok-put
 returns-in_ok-put c =
-    on_ok c.emit_settled.result c.emit_settled.ensures (λ p. record {
+    on_ok c.emit_then_settle.result c.emit_then_settle.ensures (λ p. record {
       labels = p.labels ∙ c.in_ok-put.ensures.labels;
       code = λ rest. p.code rest ∙ c.in_ok-put.ensures.code _ ∙ ap (λ (l : List DraftEntry). c.args.draft.now.entries ++ l)
           (signed_abs c.args.leaves (is_signed c.args.ty) c.args.ty c.args.d.number c.args.a.number scratch scratch c.zero.result.number (word_view c.add_sub.result) (word_view c.select-word.result) rest (sym c.is_signed.ensures ∙ c.if-is_signed.true) refl c.zero.ensures refl c.add_sub.ensures c.select-word.ensures);

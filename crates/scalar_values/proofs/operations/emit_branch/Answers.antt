@@ -25,9 +25,9 @@ pub returns-in-Some : goal.returns-in-Some
 returns-in-Some c =
     on_ok c.branch-draft.result c.branch-draft.ensures (λ p. record {
       labels = p.labels;
-      code = λ rest. p.code rest ∙ ap (λ (l : List DraftEntry). c.args.draft.now.entries ++ l) (tested c.args.op c.args.sense (signed_side c.args.want) c.in-Some.zero c.args.number c.args.a.number c.args.b.number c.args.to (kind_view c.zero_branch.result) rest (sym c.zero_test.ensures ∙ c.in-Some.is) c.zero_branch.ensures.kind);
+      code = λ rest. p.code rest ∙ ap (λ (l : List DraftEntry). c.args.draft.now.entries ++ l) (tested c.args.op c.args.sense (signed_side c.args.want) c.in-Some.zero c.args.number c.args.sides.0.number c.args.sides.1.number c.args.to (kind_view c.zero_branch.result) rest (sym c.zero_test.ensures ∙ c.in-Some.is) c.zero_branch.ensures.kind);
     })
 
 pub returns-in_ok-put-in-None : goal.returns-in_ok-put-in-None
 returns-in_ok-put-in-None c =
-    on_ok c.branch-draft-in-None.result c.branch-draft-in-None.ensures (compared_emits c.args.draft.now c.put.new.self c.branch-draft-in-None.new.self c.args.op c.args.sense c.signed_side-signed.result c.args.want c.args.number c.args.a.number c.args.b.number c.args.to (cond_number c.turned.result) (word_view c.compare_word.result) (sym c.zero_test.ensures ∙ c.in-None.is) c.signed_side-signed.ensures c.compare_word.ensures.word c.turned.ensures c.in_ok-put-in-None.ensures)
+    on_ok c.branch-draft-in-None.result c.branch-draft-in-None.ensures (compared_emits c.args.draft.now c.put.new.self c.branch-draft-in-None.new.self c.args.op c.args.sense c.signed_side-signed.result c.args.want c.args.number c.args.sides.0.number c.args.sides.1.number c.args.to (cond_number c.turned.result) (word_view c.compare_word.result) (sym c.zero_test.ensures ∙ c.in-None.is) c.signed_side-signed.ensures c.compare_word.ensures.word c.turned.ensures c.in_ok-put-in-None.ensures)

@@ -19,6 +19,6 @@ returns c = record {
   emits = on_and c.put.result c.take-d.result c.and.ensures c.put.ensures (λ p. record {
     labels = p.labels;
     code = λ rest. p.code rest ∙ ap (λ (l : List DraftEntry). c.args.draft.now.entries ++ l)
-        (chosen_word c.args.op c.signed_side.result c.args.want c.take-d.result.number (reg_of c.args.places.now c.args.item.now) c.args.a.number c.args.b.number (cond_number c.condition.result) (word_view c.select-word.result) rest c.select-word.ensures c.take-d.ensures.register c.condition.ensures c.signed_side.ensures);
+        (chosen_word c.args.op c.signed_side.result c.args.want c.take-d.result.number (reg_of c.args.layout.now c.args.item.now) c.args.values.0.number c.args.values.1.number (cond_number c.condition.result) (word_view c.select-word.result) rest c.select-word.ensures c.take-d.ensures.register c.condition.ensures c.signed_side.ensures);
   });
 }

@@ -23,6 +23,6 @@ returns-in-Some c = record {
   item = c.take-d.ensures.item;
   emits = on_and c.put.result c.take-d.result c.and.ensures c.put.ensures (λ p. record {
     labels = p.labels;
-    code = λ rest. p.code rest ∙ ap (λ (l : List DraftEntry). c.args.draft.now.entries ++ l) (load_some c.args.ty c.in-Some.ty (word_view c.load.result) c.take-d.result.number (reg_of c.args.places.now c.args.item.now) c.args.p.number c.args.r.number rest c.in-Some.is c.load.ensures c.take-d.ensures.register);
+    code = λ rest. p.code rest ∙ ap (λ (l : List DraftEntry). c.args.draft.now.entries ++ l) (load_some c.args.ty c.in-Some.ty (word_view c.load.result) c.take-d.result.number (reg_of c.args.layout.now c.args.item.now) c.args.p.number c.args.r.number rest c.in-Some.is c.load.ensures c.take-d.ensures.register);
   });
 }

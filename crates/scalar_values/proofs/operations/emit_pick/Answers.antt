@@ -39,5 +39,5 @@ pub returns : goal.returns
 returns c = record {
   register = with_value c.place-2.result c.take-d.result _ c.and.ensures c.take-d.ensures.register;
   item = c.take-d.ensures.item;
-  emits = on_and c.place-2.result c.take-d.result c.and.ensures c.place-2.ensures (pick_emits c.args.draft.now c.emit_copy.new.draft c.branch-draft.new.self c.place.new.self c.emit_copy-2.new.draft c.place-2.new.self c.take-d.result.number (reg_of c.args.places.now c.args.item.now) c.args.a.number c.args.b.number c.args.other c.args.end c.take-d.ensures.register c.requires.next c.in_ok-emit_copy.ensures c.in_ok-branch.ensures c.in_ok-place.ensures c.in_ok-emit_copy-2.ensures);
+  emits = on_and c.place-2.result c.take-d.result c.and.ensures c.place-2.ensures (pick_emits c.args.draft.now c.emit_copy.new.draft c.branch-draft.new.self c.place.new.self c.emit_copy-2.new.draft c.place-2.new.self c.take-d.result.number (reg_of c.args.layout.now c.args.item.now) c.args.values.0.number c.args.values.1.number c.args.other c.args.end c.take-d.ensures.register c.requires.next c.in_ok-emit_copy.ensures c.in_ok-branch.ensures c.in_ok-place.ensures c.in_ok-emit_copy-2.ensures);
 }

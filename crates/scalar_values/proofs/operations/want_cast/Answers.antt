@@ -19,6 +19,6 @@ returns-in-Some c = record {
   item = c.take-d.ensures.item;
   emits = on_and c.emit_convert.result c.take-d.result c.and.ensures c.emit_convert.ensures (λ p. record {
     labels = p.labels;
-    code = λ rest. p.code rest ∙ ap (λ (l : List DraftEntry). c.args.draft.now.entries ++ l) (cast_at c.args.low c.args.from c.in-Some.from c.args.ty c.take-d.result.number (reg_of c.args.places.now c.args.item.now) c.args.a.number rest c.in-Some.is c.take-d.ensures.register);
+    code = λ rest. p.code rest ∙ ap (λ (l : List DraftEntry). c.args.draft.now.entries ++ l) (cast_at c.args.low c.args.from c.in-Some.from c.args.ty c.take-d.result.number (reg_of c.args.layout.now c.args.item.now) c.args.a.number rest c.in-Some.is c.take-d.ensures.register);
   });
 }

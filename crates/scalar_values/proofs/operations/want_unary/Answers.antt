@@ -10,7 +10,7 @@ pub returns-in-None : goal.returns-in-None
 returns-in-None c = record {
   register = c.take-d.ensures.register;
   item = c.take-d.ensures.item;
-  emits = record { labels = refl; code = λ rest. ap (λ (l : List DraftEntry). c.args.draft.now.entries ++ l) (at_none c.args.want _ rest c.in-None.is) };
+  emits = record { labels = refl; code = λ rest. ap (λ (l : List DraftEntry). c.args.draft.now.entries ++ l) (at_none c.args.made.want _ rest c.in-None.is) };
 }
 
 pub returns-in-Some : goal.returns-in-Some
@@ -19,6 +19,6 @@ returns-in-Some c = record {
   item = c.take-d.ensures.item;
   emits = on_and c.emit_unary.result c.take-d.result c.and.ensures c.emit_unary.ensures (λ p. record {
     labels = p.labels;
-    code = λ rest. p.code rest ∙ ap (λ (l : List DraftEntry). c.args.draft.now.entries ++ l) (unary_at c.args.leaves c.args.op c.args.want c.in-Some.ty c.take-d.result.number (reg_of c.args.places.now c.args.item.now) c.args.a.number rest c.in-Some.is c.take-d.ensures.register);
+    code = λ rest. p.code rest ∙ ap (λ (l : List DraftEntry). c.args.draft.now.entries ++ l) (unary_at c.args.made.leaves c.args.op c.args.made.want c.in-Some.ty c.take-d.result.number (reg_of c.args.layout.now c.args.item.now) c.args.a.number rest c.in-Some.is c.take-d.ensures.register);
   });
 }

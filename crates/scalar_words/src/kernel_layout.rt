@@ -1,4 +1,4 @@
-//! Where the values of items are kept.
+//! The layout of a kernel: where the values of its items are kept.
 
 ghost use Rattle.std.specs.Prelude.{◌≡◌, ◌+◌, ◌<◌, ◌≤◌, ◌++◌, IfOk, OnOk, length, map, option_map};
 ghost use Rattle.loop_form.specs.Listing.{listing_of};
@@ -26,23 +26,23 @@ use word_rows::Bits;
 /// The register and the last use of each item, the registers that hold numbers and addresses, and the names that are held
 /// loosely.
 #[derive(Drop)]
-pub struct Places<'a> {
+pub struct KernelLayout<'a> {
     regs: Vec<Reg>,
-    untils: Vec<usize>,
+    last_uses: Vec<usize>,
     constants: Vec<Constant>,
     loose: Vec<Loose<'a>>,
 }
 
-impl<'a> Model for Places<'a> {
+impl<'a> Model for KernelLayout<'a> {
     ghost use Rattle.scalar_words.specs.Layout.{Layout};
     ghost use Rattle.scalar_words.specs.View.{layout_of};
 
     ghost Value = { Layout };
 
-    ghost view = { λ p. layout_of p.regs.items p.untils.items p.constants.items p.loose.items };
+    ghost view = { λ p. layout_of p.regs.items p.last_uses.items p.constants.items p.loose.items };
 }
 
-impl<'a> Places<'a> {
+impl<'a> KernelLayout<'a> {
     /// The register of an item.
     pub fn reg(&self, item: usize) -> Reg
         ensures { result.number ≡ reg_of self.now item }
@@ -57,7 +57,7 @@ impl<'a> Places<'a> {
     pub fn last_use(&self, item: usize) -> usize
         ensures { result ≡ last_use_at self.now item }
     {
-        match self.untils.get(item) {
+        match self.last_uses.get(item) {
             Some(r) => *r,
             None => 0,
         }
@@ -127,7 +127,7 @@ pub fn counted_register(regs: &Assigned, interval: usize) -> Reg
 // The registers and the last uses of items, the first interval of which has this number.
 fn place_items(
     found: &mut Vec<Reg>,
-    untils: &mut Vec<usize>,
+    last_uses: &mut Vec<usize>,
     regs: &Assigned,
     first: usize,
     items: &[Item],
@@ -137,11 +137,11 @@ fn place_items(
     requires room { first ≤ 1000 }
     ensures regs { OnOk result (map register_number found.new.items
         ≡ map register_number found.old.items ++ item_regs (register_in regs.now) first items.now) }
-    ensures untils { OnOk result (untils.new.items ≡ untils.old.items ++ map item_last_use items.now) }
+    ensures last_uses { OnOk result (last_uses.new.items ≡ last_uses.old.items ++ map item_last_use items.now) }
 {
     let mut interval = first;
     for item in items {
-        untils.push(item.x_last_use.unwrap_or(0) as usize)?;
+        last_uses.push(item.x_last_use.unwrap_or(0) as usize)?;
         match item.x_last_use {
             None => found.push(Bits { number: 0 })?,
             Some(_) => {
@@ -153,14 +153,14 @@ fn place_items(
     Ok(())
 }
 
-/// The registers and last uses of a kernel's items, by its listing and the registers of its intervals of class X.
+/// The layout of a kernel by its listing and the registers of its intervals of class X.
 #[tactic(auto, unfolding(loop_form::specs::View::program))]
-pub fn places_of<'a>(
+pub fn lay_out<'a>(
     alloc: Global,
     kernel: &Checked,
     items: &[Item],
     regs: &Assigned,
-) -> Result<Places<'a>, AllocError>
+) -> Result<KernelLayout<'a>, AllocError>
     requires fits { FitsKernel (program kernel.now) X regs.now }
     requires listed { items.now ≡ listing_of (program kernel.now) }
     ensures { IfOk result (λ p. p ≡ layout_of_kernel (register_in regs.now) (program kernel.now)) }
@@ -169,11 +169,11 @@ pub fn places_of<'a>(
     each_has_a_register(kernel, regs);
     let vars = kernel.kernel().vars.len();
     let mut found = Vec::new(alloc);
-    let mut untils = Vec::new(alloc);
-    place_items(&mut found, &mut untils, regs, vars, items)?;
-    Ok(Places {
+    let mut last_uses = Vec::new(alloc);
+    place_items(&mut found, &mut last_uses, regs, vars, items)?;
+    Ok(KernelLayout {
         regs: found,
-        untils,
+        last_uses,
         constants: Vec::new(alloc),
         loose: Vec::new(alloc),
     })

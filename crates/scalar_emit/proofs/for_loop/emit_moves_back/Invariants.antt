@@ -2,7 +2,7 @@ use Rattle.std.proofs.Common.{◌≡◌, List, ◌++◌, drop}
 use Rattle.label_fix.specs.DraftRun as plain
 use Rattle.scalar_words.specs.View.{homes_of, looses_of}
 use Rattle.loop_code.specs.Loop.{settle_code}
-use Rattle.scalar_emit.proofs.for_loop.emit_extended.Given as goal
+use Rattle.scalar_emit.proofs.for_loop.emit_moves_back.Given as goal
 
 abbrev pub invariant-loop-held : goal.invariant-loop-held
 invariant-loop-held l = record {

@@ -1,7 +1,7 @@
 use Rattle.std.proofs.Common.{◌∙◌}
 use Rattle.std.proofs.lemmas.Result.{IfOk-from_err}
 use Rattle.value_code.proofs.TermCode.{on_ok}
-use Rattle.scalar_values.proofs.operations.emit_settled.Goals as goal
+use Rattle.scalar_values.proofs.operations.emit_then_settle.Goals as goal
 
 pub put-requires : goal.put-requires
 put-requires c = record { plain = c.requires }

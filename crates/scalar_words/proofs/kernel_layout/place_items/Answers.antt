@@ -2,10 +2,10 @@ use Rattle.std.proofs.Common.{◌+◌, ◌++◌, ◌≤◌, length, map, drop, s
 use Rattle.word_rows.specs.declared.Bits.{Bits}
 use Rattle.scalar_words.specs.View.{register_number}
 use Rattle.scalar_words.specs.KernelRegisters.{register_in, count_values, item_regs}
-use Rattle.scalar_words.proofs.ItemSteps.{more_untils, no_value, one_value_more, no_register, more_registers, all_registers, all_untils, room_before, room_kept, room_more, below_all}
+use Rattle.scalar_words.proofs.ItemSteps.{more_last_uses, no_value, one_value_more, no_register, more_registers, all_registers, all_last_uses, room_before, room_kept, room_more, below_all}
 use Rattle.guest_types.proofs.Errors.{on_error}
-use Rattle.scalar_words.proofs.places.place_items.Goals.{in-None+in_ok-push-in-None, in-Some+in_ok-push-in-Some}
-use Rattle.scalar_words.proofs.places.place_items.Goals as goal
+use Rattle.scalar_words.proofs.kernel_layout.place_items.Goals.{in-None+in_ok-push-in-None, in-Some+in_ok-push-in-Some}
+use Rattle.scalar_words.proofs.kernel_layout.place_items.Goals as goal
 
 pub counted_register-requires : goal.counted_register-requires
 counted_register-requires c =
@@ -30,7 +30,7 @@ loop-item-preserved c =
             within = subst (λ n. n + count_values (drop (i + 1) is) ≤ length c.args.regs.now.registers) (sym e) same;
             room = room_kept l.interval _ c.args.first i e inv.room;
             regs = ap₂ (λ (v : Vec (Bits 5) Global) n. map register_number v.items ++ item_regs R n (drop (i + 1) is)) w.found-is e ∙ no_register R is i _ lt l.interval _ _ _ _ w.in_ok-push-in-None.ensures.items refl w.in-None.is inv.regs;
-            untils = more_untils R is i _ lt _ _ _ _ c.in_ok-push.ensures.items c.unwrap_or.ensures inv.untils;
+            last_uses = more_last_uses R is i _ lt _ _ _ _ c.in_ok-push.ensures.items c.unwrap_or.ensures inv.last_uses;
           }
       | in-Some+in_ok-push-in-Some w ↦
           let e = w.interval-is in
@@ -39,30 +39,30 @@ loop-item-preserved c =
             within = subst (λ n. n + count_values (drop (i + 1) is) ≤ length c.args.regs.now.registers) (sym e) more;
             room = room_more l.interval _ c.args.first i e inv.room;
             regs = ap₂ (λ (v : Vec (Bits 5) Global) n. map register_number v.items ++ item_regs R n (drop (i + 1) is)) w.found-is e ∙ more_registers R is i _ lt l.interval _ _ _ _ _ w.in_ok-push-in-Some.ensures.items w.counted_register.ensures w.in-Some.is inv.regs;
-            untils = more_untils R is i _ lt _ _ _ _ c.in_ok-push.ensures.items c.unwrap_or.ensures inv.untils;
+            last_uses = more_last_uses R is i _ lt _ _ _ _ c.in_ok-push.ensures.items c.unwrap_or.ensures inv.last_uses;
           }
     ]
 
 pub returns-clause-regs : goal.returns-clause-regs
 returns-clause-regs c = all_registers (register_in c.args.regs.now) c.args.items.now c.loop-item.item-index c.loop-item.interval _ _ c.loop-item-test.false c.loop-item.invariant.regs
 
-pub returns-clause-untils : goal.returns-clause-untils
-returns-clause-untils c = all_untils c.args.items.now c.loop-item.item-index _ _ c.loop-item-test.false c.loop-item.invariant.untils
+pub returns-clause-last_uses : goal.returns-clause-last_uses
+returns-clause-last_uses c = all_last_uses c.args.items.now c.loop-item.item-index _ _ c.loop-item-test.false c.loop-item.invariant.last_uses
 
 pub loop-item-init : goal.loop-item-init
-loop-item-init c = record { within = c.requires.within; room = room_before c.args.first c.args.first 0 refl refl; regs = refl; untils = refl }
+loop-item-init c = record { within = c.requires.within; room = room_before c.args.first c.args.first 0 refl refl; regs = refl; last_uses = refl }
 
 pub returns-in_err-push : goal.returns-in_err-push
 returns-in_err-push c =
     let failed = c.from_residual.ensures.0 in
-    record { regs = on_error _ _ failed; untils = on_error _ _ failed }
+    record { regs = on_error _ _ failed; last_uses = on_error _ _ failed }
 
 pub returns-in_err-push-in-None : goal.returns-in_err-push-in-None
 returns-in_err-push-in-None c =
     let failed = c.from_residual-in_err-push-in-None.ensures.0 in
-    record { regs = on_error _ _ failed; untils = on_error _ _ failed }
+    record { regs = on_error _ _ failed; last_uses = on_error _ _ failed }
 
 pub returns-in_err-push-in-Some : goal.returns-in_err-push-in-Some
 returns-in_err-push-in-Some c =
     let failed = c.from_residual-in_err-push-in-Some.ensures.0 in
-    record { regs = on_error _ _ failed; untils = on_error _ _ failed }
+    record { regs = on_error _ _ failed; last_uses = on_error _ _ failed }
