@@ -47,7 +47,8 @@ fn read_map_file<F: Files>(
         → IfSome (F.held files.old) (λ held. IsMapHeld held (option_map string_bytes name.now)
         → result ≢ Err Refusal.File) }
     ensures of_read { IsOfRead result }
-    ensures asked { Asks IsOk (F.requests files.old) (F.requests files.new) (map_wants (option_map string_bytes name.now)) result }
+    ensures asked { Asks IsOk (F.requests files.old) (F.requests files.new)
+        (map_wants (option_map string_bytes name.now)) result }
 {
     match name {
         Some(name) => read_file(alloc, name.as_str(), files),

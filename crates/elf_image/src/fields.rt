@@ -43,7 +43,7 @@ pub fn put_u16(file: &mut Vec<u8>, value: u16) -> Result<(), AllocError>
     file.extend_from_slice(&field)
 }
 
-// Appends a field of four bytes.
+/// Appends a field of four bytes.
 pub fn put_u32(file: &mut Vec<u8>, value: u32) -> Result<(), AllocError>
     ensures { IfOk result (λ _. file.new.items ≡ file.old.items ++ to_le_bytes w32 value) }
 {
@@ -52,7 +52,7 @@ pub fn put_u32(file: &mut Vec<u8>, value: u32) -> Result<(), AllocError>
     file.extend_from_slice(&field)
 }
 
-// Appends a field of eight bytes.
+/// Appends a field of eight bytes.
 pub fn put_u64(file: &mut Vec<u8>, value: u64) -> Result<(), AllocError>
     ensures { IfOk result (λ _. file.new.items ≡ file.old.items ++ to_le_bytes w64 value) }
 {

@@ -12,6 +12,7 @@ mod program_header;
 mod segments;
 pub mod write;
 
+pub use fields::{put_u32, put_u64};
 pub use load::load_elf;
 pub use machine_model::elf_fault::ElfFault;
 pub use write::write_elf;

@@ -2,11 +2,10 @@
 
 ghost use Rattle.object_file.specs.Object.{IsObject};
 ghost use Rattle.object_file.specs.Written.{behind, object_of};
-ghost use Rattle.std.specs.Int.{to_le_bytes, w32, w64};
 ghost use Rattle.std.specs.Prelude.{◌≡◌, ◌*◌, ◌^◌, ◌<◌, ◌≤◌, ◌++◌, List, ℕ, IfOk, length};
 
 use crate::laws::objects_are_read;
-use byteorder::{ByteOrder, LittleEndian};
+use elf_image::{put_u32, put_u64};
 use std::alloc::{AllocError, Global};
 
 // The header, the section of number 0, and the one of the code up to its size.
@@ -47,24 +46,6 @@ const NAMES: [u8; 52] = [
 
 // The names of symbols before that of the function.
 const MAPPING: [u8; 4] = [0, 0x24, 0x78, 0];
-
-// Appends a field of four bytes.
-fn put_u32(file: &mut Vec<u8>, value: u32) -> Result<(), AllocError>
-    ensures { IfOk result (λ _. file.new.items ≡ file.old.items ++ to_le_bytes w32 value) }
-{
-    let mut field = [0; 4];
-    LittleEndian::write_u32(&mut field, value);
-    file.extend_from_slice(&field)
-}
-
-// Appends a field of eight bytes.
-fn put_u64(file: &mut Vec<u8>, value: u64) -> Result<(), AllocError>
-    ensures { IfOk result (λ _. file.new.items ≡ file.old.items ++ to_le_bytes w64 value) }
-{
-    let mut field = [0; 8];
-    LittleEndian::write_u64(&mut field, value);
-    file.extend_from_slice(&field)
-}
 
 // Appends some bytes.
 fn put_bytes(file: &mut Vec<u8>, bytes: &[u8]) -> Result<(), AllocError>
