@@ -17,24 +17,18 @@ use guest_types::predicate::PReg;
 use guest_types::register::ZReg;
 use lane_blocks::block::{block_at, clear_half, put_block, register_bytes, used_blocks};
 use lane_blocks::mask::{choose_block, mask_at};
+use lane_blocks::shape::Shape;
 
 #[inline(always)]
-fn each_binary(
-    op: LaneOp,
-    width: Width,
-    vl: Vl,
-    zs: &mut [ZReg; 32],
-    left: usize,
-    right: usize,
-    out: usize,
-)
+fn each_binary(op: LaneOp, shape: Shape, zs: &mut [ZReg; 32], left: usize, right: usize, out: usize)
     requires left { left < 32 }
     requires right { right < 32 }
     requires out { out < 32 }
-    requires ends { EndsAt vl (bytes_at zs.old out) }
-    ensures { let lane = binary_at op width (bytes_at zs.old left) (bytes_at zs.old right) in
-        zs.new ≡ with_elements zs.old out width lane (lanes vl width) }
+    requires ends { EndsAt shape.vl (bytes_at zs.old out) }
+    ensures { let lane = binary_at op shape.width (bytes_at zs.old left) (bytes_at zs.old right) in
+        zs.new ≡ with_elements zs.old out shape.width lane (lanes shape.vl shape.width) }
 {
+    let Shape { width, vl } = shape;
     for i in 0..used_blocks(vl) {
         let block = binary_block(op, width, block_at(&zs[left], i), block_at(&zs[right], i));
         put_block(&mut zs[out], i, block);
@@ -43,21 +37,14 @@ fn each_binary(
 }
 
 #[inline(always)]
-fn each_merged(
-    op: LaneOp,
-    width: Width,
-    vl: Vl,
-    pg: &PReg,
-    zs: &mut [ZReg; 32],
-    right: usize,
-    out: usize,
-)
+fn each_merged(op: LaneOp, shape: Shape, pg: &PReg, zs: &mut [ZReg; 32], right: usize, out: usize)
     requires right { right < 32 }
     requires out { out < 32 }
-    requires ends { EndsAt vl (bytes_at zs.old out) }
-    ensures { let lane = merge_at op width pg.now.bits (bytes_at zs.old out) (bytes_at zs.old right) in
-        zs.new ≡ with_elements zs.old out width lane (lanes vl width) }
+    requires ends { EndsAt shape.vl (bytes_at zs.old out) }
+    ensures { let lane = merge_at op shape.width pg.now.bits (bytes_at zs.old out) (bytes_at zs.old right) in
+        zs.new ≡ with_elements zs.old out shape.width lane (lanes shape.vl shape.width) }
 {
+    let Shape { width, vl } = shape;
     for i in 0..used_blocks(vl) {
         let p = mask_at(pg, i);
         let block = merge_block(op, width, p, block_at(&zs[out], i), block_at(&zs[right], i));
@@ -69,20 +56,20 @@ fn each_merged(
 #[inline(always)]
 fn each_merged_one(
     op: LaneUnary,
-    width: Width,
-    vl: Vl,
+    shape: Shape,
     pg: &PReg,
     zs: &mut [ZReg; 32],
     z: usize,
     out: usize,
 )
-    requires narrower { source_bits op < width_bits width }
+    requires narrower { source_bits op < width_bits shape.width }
     requires z { z < 32 }
     requires out { out < 32 }
-    requires ends { EndsAt vl (bytes_at zs.old out) }
-    ensures { let lane = merge_one_at op width pg.now.bits (bytes_at zs.old out) (bytes_at zs.old z) in
-        zs.new ≡ with_elements zs.old out width lane (lanes vl width) }
+    requires ends { EndsAt shape.vl (bytes_at zs.old out) }
+    ensures { let lane = merge_one_at op shape.width pg.now.bits (bytes_at zs.old out) (bytes_at zs.old z) in
+        zs.new ≡ with_elements zs.old out shape.width lane (lanes shape.vl shape.width) }
 {
+    let Shape { width, vl } = shape;
     for i in 0..used_blocks(vl) {
         let p = mask_at(pg, i);
         let block = merge_one_block(op, width, p, block_at(&zs[out], i), block_at(&zs[z], i));
@@ -92,22 +79,15 @@ fn each_merged_one(
 }
 
 #[inline(always)]
-fn each_selected(
-    width: Width,
-    vl: Vl,
-    pg: &PReg,
-    zs: &mut [ZReg; 32],
-    yes: usize,
-    no: usize,
-    out: usize,
-)
+fn each_selected(shape: Shape, pg: &PReg, zs: &mut [ZReg; 32], yes: usize, no: usize, out: usize)
     requires yes { yes < 32 }
     requires no { no < 32 }
     requires out { out < 32 }
-    requires ends { EndsAt vl (bytes_at zs.old out) }
-    ensures { let lane = select_at width pg.now.bits (bytes_at zs.old yes) (bytes_at zs.old no) in
-        zs.new ≡ with_elements zs.old out width lane (lanes vl width) }
+    requires ends { EndsAt shape.vl (bytes_at zs.old out) }
+    ensures { let lane = select_at shape.width pg.now.bits (bytes_at zs.old yes) (bytes_at zs.old no) in
+        zs.new ≡ with_elements zs.old out shape.width lane (lanes shape.vl shape.width) }
 {
+    let Shape { width, vl } = shape;
     for i in 0..used_blocks(vl) {
         let p = mask_at(pg, i);
         let block = choose_block(width, p, block_at(&zs[yes], i), block_at(&zs[no], i));
@@ -117,21 +97,15 @@ fn each_selected(
 }
 
 #[inline(always)]
-fn each_shifted(
-    op: ShiftOp,
-    width: Width,
-    vl: Vl,
-    zs: &mut [ZReg; 32],
-    z: usize,
-    count: u32,
-    out: usize,
-)
-    requires fits { ShiftFits op width count }
+fn each_shifted(op: ShiftOp, shape: Shape, zs: &mut [ZReg; 32], z: usize, count: u32, out: usize)
+    requires fits { ShiftFits op shape.width count }
     requires z { z < 32 }
     requires out { out < 32 }
-    requires ends { EndsAt vl (bytes_at zs.old out) }
-    ensures { zs.new ≡ with_elements zs.old out width (shift_at op width (bytes_at zs.old z) count) (lanes vl width) }
+    requires ends { EndsAt shape.vl (bytes_at zs.old out) }
+    ensures { let lane = shift_at op shape.width (bytes_at zs.old z) count in
+        zs.new ≡ with_elements zs.old out shape.width lane (lanes shape.vl shape.width) }
 {
+    let Shape { width, vl } = shape;
     for i in 0..used_blocks(vl) {
         let block = shift_block(op, width, block_at(&zs[z], i), count);
         put_block(&mut zs[out], i, block);
@@ -150,18 +124,22 @@ fn binary_in_8(op: LaneOp, vl: Vl, zs: &mut [ZReg; 32], left: usize, right: usiz
     ensures { let lane = binary_at op Width.B (bytes_at zs.old left) (bytes_at zs.old right) in
         zs.new ≡ with_elements zs.old out Width.B lane (lanes vl Width.B) }
 {
+    let shape = Shape {
+        width: Width::B,
+        vl,
+    };
     match op {
-        LaneOp::Add => each_binary(LaneOp::Add, Width::B, vl, zs, left, right, out),
-        LaneOp::Sub => each_binary(LaneOp::Sub, Width::B, vl, zs, left, right, out),
-        LaneOp::Mul => each_binary(LaneOp::Mul, Width::B, vl, zs, left, right, out),
-        LaneOp::And => each_binary(LaneOp::And, Width::B, vl, zs, left, right, out),
-        LaneOp::Or => each_binary(LaneOp::Or, Width::B, vl, zs, left, right, out),
-        LaneOp::Xor => each_binary(LaneOp::Xor, Width::B, vl, zs, left, right, out),
-        LaneOp::Bic => each_binary(LaneOp::Bic, Width::B, vl, zs, left, right, out),
-        LaneOp::SMin => each_binary(LaneOp::SMin, Width::B, vl, zs, left, right, out),
-        LaneOp::SMax => each_binary(LaneOp::SMax, Width::B, vl, zs, left, right, out),
-        LaneOp::UMin => each_binary(LaneOp::UMin, Width::B, vl, zs, left, right, out),
-        LaneOp::UMax => each_binary(LaneOp::UMax, Width::B, vl, zs, left, right, out),
+        LaneOp::Add => each_binary(LaneOp::Add, shape, zs, left, right, out),
+        LaneOp::Sub => each_binary(LaneOp::Sub, shape, zs, left, right, out),
+        LaneOp::Mul => each_binary(LaneOp::Mul, shape, zs, left, right, out),
+        LaneOp::And => each_binary(LaneOp::And, shape, zs, left, right, out),
+        LaneOp::Or => each_binary(LaneOp::Or, shape, zs, left, right, out),
+        LaneOp::Xor => each_binary(LaneOp::Xor, shape, zs, left, right, out),
+        LaneOp::Bic => each_binary(LaneOp::Bic, shape, zs, left, right, out),
+        LaneOp::SMin => each_binary(LaneOp::SMin, shape, zs, left, right, out),
+        LaneOp::SMax => each_binary(LaneOp::SMax, shape, zs, left, right, out),
+        LaneOp::UMin => each_binary(LaneOp::UMin, shape, zs, left, right, out),
+        LaneOp::UMax => each_binary(LaneOp::UMax, shape, zs, left, right, out),
     }
 }
 
@@ -175,18 +153,22 @@ fn binary_in_16(op: LaneOp, vl: Vl, zs: &mut [ZReg; 32], left: usize, right: usi
     ensures { let lane = binary_at op Width.H (bytes_at zs.old left) (bytes_at zs.old right) in
         zs.new ≡ with_elements zs.old out Width.H lane (lanes vl Width.H) }
 {
+    let shape = Shape {
+        width: Width::H,
+        vl,
+    };
     match op {
-        LaneOp::Add => each_binary(LaneOp::Add, Width::H, vl, zs, left, right, out),
-        LaneOp::Sub => each_binary(LaneOp::Sub, Width::H, vl, zs, left, right, out),
-        LaneOp::Mul => each_binary(LaneOp::Mul, Width::H, vl, zs, left, right, out),
-        LaneOp::And => each_binary(LaneOp::And, Width::H, vl, zs, left, right, out),
-        LaneOp::Or => each_binary(LaneOp::Or, Width::H, vl, zs, left, right, out),
-        LaneOp::Xor => each_binary(LaneOp::Xor, Width::H, vl, zs, left, right, out),
-        LaneOp::Bic => each_binary(LaneOp::Bic, Width::H, vl, zs, left, right, out),
-        LaneOp::SMin => each_binary(LaneOp::SMin, Width::H, vl, zs, left, right, out),
-        LaneOp::SMax => each_binary(LaneOp::SMax, Width::H, vl, zs, left, right, out),
-        LaneOp::UMin => each_binary(LaneOp::UMin, Width::H, vl, zs, left, right, out),
-        LaneOp::UMax => each_binary(LaneOp::UMax, Width::H, vl, zs, left, right, out),
+        LaneOp::Add => each_binary(LaneOp::Add, shape, zs, left, right, out),
+        LaneOp::Sub => each_binary(LaneOp::Sub, shape, zs, left, right, out),
+        LaneOp::Mul => each_binary(LaneOp::Mul, shape, zs, left, right, out),
+        LaneOp::And => each_binary(LaneOp::And, shape, zs, left, right, out),
+        LaneOp::Or => each_binary(LaneOp::Or, shape, zs, left, right, out),
+        LaneOp::Xor => each_binary(LaneOp::Xor, shape, zs, left, right, out),
+        LaneOp::Bic => each_binary(LaneOp::Bic, shape, zs, left, right, out),
+        LaneOp::SMin => each_binary(LaneOp::SMin, shape, zs, left, right, out),
+        LaneOp::SMax => each_binary(LaneOp::SMax, shape, zs, left, right, out),
+        LaneOp::UMin => each_binary(LaneOp::UMin, shape, zs, left, right, out),
+        LaneOp::UMax => each_binary(LaneOp::UMax, shape, zs, left, right, out),
     }
 }
 
@@ -200,18 +182,22 @@ fn binary_in_32(op: LaneOp, vl: Vl, zs: &mut [ZReg; 32], left: usize, right: usi
     ensures { let lane = binary_at op Width.S (bytes_at zs.old left) (bytes_at zs.old right) in
         zs.new ≡ with_elements zs.old out Width.S lane (lanes vl Width.S) }
 {
+    let shape = Shape {
+        width: Width::S,
+        vl,
+    };
     match op {
-        LaneOp::Add => each_binary(LaneOp::Add, Width::S, vl, zs, left, right, out),
-        LaneOp::Sub => each_binary(LaneOp::Sub, Width::S, vl, zs, left, right, out),
-        LaneOp::Mul => each_binary(LaneOp::Mul, Width::S, vl, zs, left, right, out),
-        LaneOp::And => each_binary(LaneOp::And, Width::S, vl, zs, left, right, out),
-        LaneOp::Or => each_binary(LaneOp::Or, Width::S, vl, zs, left, right, out),
-        LaneOp::Xor => each_binary(LaneOp::Xor, Width::S, vl, zs, left, right, out),
-        LaneOp::Bic => each_binary(LaneOp::Bic, Width::S, vl, zs, left, right, out),
-        LaneOp::SMin => each_binary(LaneOp::SMin, Width::S, vl, zs, left, right, out),
-        LaneOp::SMax => each_binary(LaneOp::SMax, Width::S, vl, zs, left, right, out),
-        LaneOp::UMin => each_binary(LaneOp::UMin, Width::S, vl, zs, left, right, out),
-        LaneOp::UMax => each_binary(LaneOp::UMax, Width::S, vl, zs, left, right, out),
+        LaneOp::Add => each_binary(LaneOp::Add, shape, zs, left, right, out),
+        LaneOp::Sub => each_binary(LaneOp::Sub, shape, zs, left, right, out),
+        LaneOp::Mul => each_binary(LaneOp::Mul, shape, zs, left, right, out),
+        LaneOp::And => each_binary(LaneOp::And, shape, zs, left, right, out),
+        LaneOp::Or => each_binary(LaneOp::Or, shape, zs, left, right, out),
+        LaneOp::Xor => each_binary(LaneOp::Xor, shape, zs, left, right, out),
+        LaneOp::Bic => each_binary(LaneOp::Bic, shape, zs, left, right, out),
+        LaneOp::SMin => each_binary(LaneOp::SMin, shape, zs, left, right, out),
+        LaneOp::SMax => each_binary(LaneOp::SMax, shape, zs, left, right, out),
+        LaneOp::UMin => each_binary(LaneOp::UMin, shape, zs, left, right, out),
+        LaneOp::UMax => each_binary(LaneOp::UMax, shape, zs, left, right, out),
     }
 }
 
@@ -225,26 +211,29 @@ fn binary_in_64(op: LaneOp, vl: Vl, zs: &mut [ZReg; 32], left: usize, right: usi
     ensures { let lane = binary_at op Width.D (bytes_at zs.old left) (bytes_at zs.old right) in
         zs.new ≡ with_elements zs.old out Width.D lane (lanes vl Width.D) }
 {
+    let shape = Shape {
+        width: Width::D,
+        vl,
+    };
     match op {
-        LaneOp::Add => each_binary(LaneOp::Add, Width::D, vl, zs, left, right, out),
-        LaneOp::Sub => each_binary(LaneOp::Sub, Width::D, vl, zs, left, right, out),
-        LaneOp::Mul => each_binary(LaneOp::Mul, Width::D, vl, zs, left, right, out),
-        LaneOp::And => each_binary(LaneOp::And, Width::D, vl, zs, left, right, out),
-        LaneOp::Or => each_binary(LaneOp::Or, Width::D, vl, zs, left, right, out),
-        LaneOp::Xor => each_binary(LaneOp::Xor, Width::D, vl, zs, left, right, out),
-        LaneOp::Bic => each_binary(LaneOp::Bic, Width::D, vl, zs, left, right, out),
-        LaneOp::SMin => each_binary(LaneOp::SMin, Width::D, vl, zs, left, right, out),
-        LaneOp::SMax => each_binary(LaneOp::SMax, Width::D, vl, zs, left, right, out),
-        LaneOp::UMin => each_binary(LaneOp::UMin, Width::D, vl, zs, left, right, out),
-        LaneOp::UMax => each_binary(LaneOp::UMax, Width::D, vl, zs, left, right, out),
+        LaneOp::Add => each_binary(LaneOp::Add, shape, zs, left, right, out),
+        LaneOp::Sub => each_binary(LaneOp::Sub, shape, zs, left, right, out),
+        LaneOp::Mul => each_binary(LaneOp::Mul, shape, zs, left, right, out),
+        LaneOp::And => each_binary(LaneOp::And, shape, zs, left, right, out),
+        LaneOp::Or => each_binary(LaneOp::Or, shape, zs, left, right, out),
+        LaneOp::Xor => each_binary(LaneOp::Xor, shape, zs, left, right, out),
+        LaneOp::Bic => each_binary(LaneOp::Bic, shape, zs, left, right, out),
+        LaneOp::SMin => each_binary(LaneOp::SMin, shape, zs, left, right, out),
+        LaneOp::SMax => each_binary(LaneOp::SMax, shape, zs, left, right, out),
+        LaneOp::UMin => each_binary(LaneOp::UMin, shape, zs, left, right, out),
+        LaneOp::UMax => each_binary(LaneOp::UMax, shape, zs, left, right, out),
     }
 }
 
 /// `binary` of two of the registers, into one of them.
 pub fn binary_in(
     op: LaneOp,
-    width: Width,
-    vl: Vl,
+    shape: Shape,
     zs: &mut [ZReg; 32],
     left: usize,
     right: usize,
@@ -253,15 +242,15 @@ pub fn binary_in(
     requires left { left < 32 }
     requires right { right < 32 }
     requires out { out < 32 }
-    requires ends { EndsAt vl (bytes_at zs.old out) }
-    ensures { let lane = binary_at op width (bytes_at zs.old left) (bytes_at zs.old right) in
-        zs.new ≡ with_elements zs.old out width lane (lanes vl width) }
+    requires ends { EndsAt shape.vl (bytes_at zs.old out) }
+    ensures { let lane = binary_at op shape.width (bytes_at zs.old left) (bytes_at zs.old right) in
+        zs.new ≡ with_elements zs.old out shape.width lane (lanes shape.vl shape.width) }
 {
-    match width {
-        Width::B => binary_in_8(op, vl, zs, left, right, out),
-        Width::H => binary_in_16(op, vl, zs, left, right, out),
-        Width::S => binary_in_32(op, vl, zs, left, right, out),
-        Width::D => binary_in_64(op, vl, zs, left, right, out),
+    match shape.width {
+        Width::B => binary_in_8(op, shape.vl, zs, left, right, out),
+        Width::H => binary_in_16(op, shape.vl, zs, left, right, out),
+        Width::S => binary_in_32(op, shape.vl, zs, left, right, out),
+        Width::D => binary_in_64(op, shape.vl, zs, left, right, out),
     }
 }
 
@@ -275,18 +264,22 @@ fn merge_in_8(op: LaneOp, vl: Vl, pg: &PReg, zs: &mut [ZReg; 32], right: usize, 
     ensures { let lane = merge_at op Width.B pg.now.bits (bytes_at zs.old out) (bytes_at zs.old right) in
         zs.new ≡ with_elements zs.old out Width.B lane (lanes vl Width.B) }
 {
+    let shape = Shape {
+        width: Width::B,
+        vl,
+    };
     match op {
-        LaneOp::Add => each_merged(LaneOp::Add, Width::B, vl, pg, zs, right, out),
-        LaneOp::Sub => each_merged(LaneOp::Sub, Width::B, vl, pg, zs, right, out),
-        LaneOp::Mul => each_merged(LaneOp::Mul, Width::B, vl, pg, zs, right, out),
-        LaneOp::And => each_merged(LaneOp::And, Width::B, vl, pg, zs, right, out),
-        LaneOp::Or => each_merged(LaneOp::Or, Width::B, vl, pg, zs, right, out),
-        LaneOp::Xor => each_merged(LaneOp::Xor, Width::B, vl, pg, zs, right, out),
-        LaneOp::Bic => each_merged(LaneOp::Bic, Width::B, vl, pg, zs, right, out),
-        LaneOp::SMin => each_merged(LaneOp::SMin, Width::B, vl, pg, zs, right, out),
-        LaneOp::SMax => each_merged(LaneOp::SMax, Width::B, vl, pg, zs, right, out),
-        LaneOp::UMin => each_merged(LaneOp::UMin, Width::B, vl, pg, zs, right, out),
-        LaneOp::UMax => each_merged(LaneOp::UMax, Width::B, vl, pg, zs, right, out),
+        LaneOp::Add => each_merged(LaneOp::Add, shape, pg, zs, right, out),
+        LaneOp::Sub => each_merged(LaneOp::Sub, shape, pg, zs, right, out),
+        LaneOp::Mul => each_merged(LaneOp::Mul, shape, pg, zs, right, out),
+        LaneOp::And => each_merged(LaneOp::And, shape, pg, zs, right, out),
+        LaneOp::Or => each_merged(LaneOp::Or, shape, pg, zs, right, out),
+        LaneOp::Xor => each_merged(LaneOp::Xor, shape, pg, zs, right, out),
+        LaneOp::Bic => each_merged(LaneOp::Bic, shape, pg, zs, right, out),
+        LaneOp::SMin => each_merged(LaneOp::SMin, shape, pg, zs, right, out),
+        LaneOp::SMax => each_merged(LaneOp::SMax, shape, pg, zs, right, out),
+        LaneOp::UMin => each_merged(LaneOp::UMin, shape, pg, zs, right, out),
+        LaneOp::UMax => each_merged(LaneOp::UMax, shape, pg, zs, right, out),
     }
 }
 
@@ -299,18 +292,22 @@ fn merge_in_16(op: LaneOp, vl: Vl, pg: &PReg, zs: &mut [ZReg; 32], right: usize,
     ensures { let lane = merge_at op Width.H pg.now.bits (bytes_at zs.old out) (bytes_at zs.old right) in
         zs.new ≡ with_elements zs.old out Width.H lane (lanes vl Width.H) }
 {
+    let shape = Shape {
+        width: Width::H,
+        vl,
+    };
     match op {
-        LaneOp::Add => each_merged(LaneOp::Add, Width::H, vl, pg, zs, right, out),
-        LaneOp::Sub => each_merged(LaneOp::Sub, Width::H, vl, pg, zs, right, out),
-        LaneOp::Mul => each_merged(LaneOp::Mul, Width::H, vl, pg, zs, right, out),
-        LaneOp::And => each_merged(LaneOp::And, Width::H, vl, pg, zs, right, out),
-        LaneOp::Or => each_merged(LaneOp::Or, Width::H, vl, pg, zs, right, out),
-        LaneOp::Xor => each_merged(LaneOp::Xor, Width::H, vl, pg, zs, right, out),
-        LaneOp::Bic => each_merged(LaneOp::Bic, Width::H, vl, pg, zs, right, out),
-        LaneOp::SMin => each_merged(LaneOp::SMin, Width::H, vl, pg, zs, right, out),
-        LaneOp::SMax => each_merged(LaneOp::SMax, Width::H, vl, pg, zs, right, out),
-        LaneOp::UMin => each_merged(LaneOp::UMin, Width::H, vl, pg, zs, right, out),
-        LaneOp::UMax => each_merged(LaneOp::UMax, Width::H, vl, pg, zs, right, out),
+        LaneOp::Add => each_merged(LaneOp::Add, shape, pg, zs, right, out),
+        LaneOp::Sub => each_merged(LaneOp::Sub, shape, pg, zs, right, out),
+        LaneOp::Mul => each_merged(LaneOp::Mul, shape, pg, zs, right, out),
+        LaneOp::And => each_merged(LaneOp::And, shape, pg, zs, right, out),
+        LaneOp::Or => each_merged(LaneOp::Or, shape, pg, zs, right, out),
+        LaneOp::Xor => each_merged(LaneOp::Xor, shape, pg, zs, right, out),
+        LaneOp::Bic => each_merged(LaneOp::Bic, shape, pg, zs, right, out),
+        LaneOp::SMin => each_merged(LaneOp::SMin, shape, pg, zs, right, out),
+        LaneOp::SMax => each_merged(LaneOp::SMax, shape, pg, zs, right, out),
+        LaneOp::UMin => each_merged(LaneOp::UMin, shape, pg, zs, right, out),
+        LaneOp::UMax => each_merged(LaneOp::UMax, shape, pg, zs, right, out),
     }
 }
 
@@ -323,18 +320,22 @@ fn merge_in_32(op: LaneOp, vl: Vl, pg: &PReg, zs: &mut [ZReg; 32], right: usize,
     ensures { let lane = merge_at op Width.S pg.now.bits (bytes_at zs.old out) (bytes_at zs.old right) in
         zs.new ≡ with_elements zs.old out Width.S lane (lanes vl Width.S) }
 {
+    let shape = Shape {
+        width: Width::S,
+        vl,
+    };
     match op {
-        LaneOp::Add => each_merged(LaneOp::Add, Width::S, vl, pg, zs, right, out),
-        LaneOp::Sub => each_merged(LaneOp::Sub, Width::S, vl, pg, zs, right, out),
-        LaneOp::Mul => each_merged(LaneOp::Mul, Width::S, vl, pg, zs, right, out),
-        LaneOp::And => each_merged(LaneOp::And, Width::S, vl, pg, zs, right, out),
-        LaneOp::Or => each_merged(LaneOp::Or, Width::S, vl, pg, zs, right, out),
-        LaneOp::Xor => each_merged(LaneOp::Xor, Width::S, vl, pg, zs, right, out),
-        LaneOp::Bic => each_merged(LaneOp::Bic, Width::S, vl, pg, zs, right, out),
-        LaneOp::SMin => each_merged(LaneOp::SMin, Width::S, vl, pg, zs, right, out),
-        LaneOp::SMax => each_merged(LaneOp::SMax, Width::S, vl, pg, zs, right, out),
-        LaneOp::UMin => each_merged(LaneOp::UMin, Width::S, vl, pg, zs, right, out),
-        LaneOp::UMax => each_merged(LaneOp::UMax, Width::S, vl, pg, zs, right, out),
+        LaneOp::Add => each_merged(LaneOp::Add, shape, pg, zs, right, out),
+        LaneOp::Sub => each_merged(LaneOp::Sub, shape, pg, zs, right, out),
+        LaneOp::Mul => each_merged(LaneOp::Mul, shape, pg, zs, right, out),
+        LaneOp::And => each_merged(LaneOp::And, shape, pg, zs, right, out),
+        LaneOp::Or => each_merged(LaneOp::Or, shape, pg, zs, right, out),
+        LaneOp::Xor => each_merged(LaneOp::Xor, shape, pg, zs, right, out),
+        LaneOp::Bic => each_merged(LaneOp::Bic, shape, pg, zs, right, out),
+        LaneOp::SMin => each_merged(LaneOp::SMin, shape, pg, zs, right, out),
+        LaneOp::SMax => each_merged(LaneOp::SMax, shape, pg, zs, right, out),
+        LaneOp::UMin => each_merged(LaneOp::UMin, shape, pg, zs, right, out),
+        LaneOp::UMax => each_merged(LaneOp::UMax, shape, pg, zs, right, out),
     }
 }
 
@@ -347,42 +348,38 @@ fn merge_in_64(op: LaneOp, vl: Vl, pg: &PReg, zs: &mut [ZReg; 32], right: usize,
     ensures { let lane = merge_at op Width.D pg.now.bits (bytes_at zs.old out) (bytes_at zs.old right) in
         zs.new ≡ with_elements zs.old out Width.D lane (lanes vl Width.D) }
 {
+    let shape = Shape {
+        width: Width::D,
+        vl,
+    };
     match op {
-        LaneOp::Add => each_merged(LaneOp::Add, Width::D, vl, pg, zs, right, out),
-        LaneOp::Sub => each_merged(LaneOp::Sub, Width::D, vl, pg, zs, right, out),
-        LaneOp::Mul => each_merged(LaneOp::Mul, Width::D, vl, pg, zs, right, out),
-        LaneOp::And => each_merged(LaneOp::And, Width::D, vl, pg, zs, right, out),
-        LaneOp::Or => each_merged(LaneOp::Or, Width::D, vl, pg, zs, right, out),
-        LaneOp::Xor => each_merged(LaneOp::Xor, Width::D, vl, pg, zs, right, out),
-        LaneOp::Bic => each_merged(LaneOp::Bic, Width::D, vl, pg, zs, right, out),
-        LaneOp::SMin => each_merged(LaneOp::SMin, Width::D, vl, pg, zs, right, out),
-        LaneOp::SMax => each_merged(LaneOp::SMax, Width::D, vl, pg, zs, right, out),
-        LaneOp::UMin => each_merged(LaneOp::UMin, Width::D, vl, pg, zs, right, out),
-        LaneOp::UMax => each_merged(LaneOp::UMax, Width::D, vl, pg, zs, right, out),
+        LaneOp::Add => each_merged(LaneOp::Add, shape, pg, zs, right, out),
+        LaneOp::Sub => each_merged(LaneOp::Sub, shape, pg, zs, right, out),
+        LaneOp::Mul => each_merged(LaneOp::Mul, shape, pg, zs, right, out),
+        LaneOp::And => each_merged(LaneOp::And, shape, pg, zs, right, out),
+        LaneOp::Or => each_merged(LaneOp::Or, shape, pg, zs, right, out),
+        LaneOp::Xor => each_merged(LaneOp::Xor, shape, pg, zs, right, out),
+        LaneOp::Bic => each_merged(LaneOp::Bic, shape, pg, zs, right, out),
+        LaneOp::SMin => each_merged(LaneOp::SMin, shape, pg, zs, right, out),
+        LaneOp::SMax => each_merged(LaneOp::SMax, shape, pg, zs, right, out),
+        LaneOp::UMin => each_merged(LaneOp::UMin, shape, pg, zs, right, out),
+        LaneOp::UMax => each_merged(LaneOp::UMax, shape, pg, zs, right, out),
     }
 }
 
 /// `merge` of the written register and another one.
-pub fn merge_in(
-    op: LaneOp,
-    width: Width,
-    vl: Vl,
-    pg: &PReg,
-    zs: &mut [ZReg; 32],
-    right: usize,
-    out: usize,
-)
+pub fn merge_in(op: LaneOp, shape: Shape, pg: &PReg, zs: &mut [ZReg; 32], right: usize, out: usize)
     requires right { right < 32 }
     requires out { out < 32 }
-    requires ends { EndsAt vl (bytes_at zs.old out) }
-    ensures { let lane = merge_at op width pg.now.bits (bytes_at zs.old out) (bytes_at zs.old right) in
-        zs.new ≡ with_elements zs.old out width lane (lanes vl width) }
+    requires ends { EndsAt shape.vl (bytes_at zs.old out) }
+    ensures { let lane = merge_at op shape.width pg.now.bits (bytes_at zs.old out) (bytes_at zs.old right) in
+        zs.new ≡ with_elements zs.old out shape.width lane (lanes shape.vl shape.width) }
 {
-    match width {
-        Width::B => merge_in_8(op, vl, pg, zs, right, out),
-        Width::H => merge_in_16(op, vl, pg, zs, right, out),
-        Width::S => merge_in_32(op, vl, pg, zs, right, out),
-        Width::D => merge_in_64(op, vl, pg, zs, right, out),
+    match shape.width {
+        Width::B => merge_in_8(op, shape.vl, pg, zs, right, out),
+        Width::H => merge_in_16(op, shape.vl, pg, zs, right, out),
+        Width::S => merge_in_32(op, shape.vl, pg, zs, right, out),
+        Width::D => merge_in_64(op, shape.vl, pg, zs, right, out),
     }
 }
 
@@ -397,16 +394,20 @@ fn merge_one_in_8(op: LaneUnary, vl: Vl, pg: &PReg, zs: &mut [ZReg; 32], z: usiz
     ensures { let lane = merge_one_at op Width.B pg.now.bits (bytes_at zs.old out) (bytes_at zs.old z) in
         zs.new ≡ with_elements zs.old out Width.B lane (lanes vl Width.B) }
 {
+    let shape = Shape {
+        width: Width::B,
+        vl,
+    };
     match op {
-        LaneUnary::Abs => each_merged_one(LaneUnary::Abs, Width::B, vl, pg, zs, z, out),
-        LaneUnary::Neg => each_merged_one(LaneUnary::Neg, Width::B, vl, pg, zs, z, out),
-        LaneUnary::Not => each_merged_one(LaneUnary::Not, Width::B, vl, pg, zs, z, out),
-        LaneUnary::SxtB => each_merged_one(LaneUnary::SxtB, Width::B, vl, pg, zs, z, out),
-        LaneUnary::UxtB => each_merged_one(LaneUnary::UxtB, Width::B, vl, pg, zs, z, out),
-        LaneUnary::SxtH => each_merged_one(LaneUnary::SxtH, Width::B, vl, pg, zs, z, out),
-        LaneUnary::UxtH => each_merged_one(LaneUnary::UxtH, Width::B, vl, pg, zs, z, out),
-        LaneUnary::SxtW => each_merged_one(LaneUnary::SxtW, Width::B, vl, pg, zs, z, out),
-        LaneUnary::UxtW => each_merged_one(LaneUnary::UxtW, Width::B, vl, pg, zs, z, out),
+        LaneUnary::Abs => each_merged_one(LaneUnary::Abs, shape, pg, zs, z, out),
+        LaneUnary::Neg => each_merged_one(LaneUnary::Neg, shape, pg, zs, z, out),
+        LaneUnary::Not => each_merged_one(LaneUnary::Not, shape, pg, zs, z, out),
+        LaneUnary::SxtB => each_merged_one(LaneUnary::SxtB, shape, pg, zs, z, out),
+        LaneUnary::UxtB => each_merged_one(LaneUnary::UxtB, shape, pg, zs, z, out),
+        LaneUnary::SxtH => each_merged_one(LaneUnary::SxtH, shape, pg, zs, z, out),
+        LaneUnary::UxtH => each_merged_one(LaneUnary::UxtH, shape, pg, zs, z, out),
+        LaneUnary::SxtW => each_merged_one(LaneUnary::SxtW, shape, pg, zs, z, out),
+        LaneUnary::UxtW => each_merged_one(LaneUnary::UxtW, shape, pg, zs, z, out),
     }
 }
 
@@ -420,16 +421,20 @@ fn merge_one_in_16(op: LaneUnary, vl: Vl, pg: &PReg, zs: &mut [ZReg; 32], z: usi
     ensures { let lane = merge_one_at op Width.H pg.now.bits (bytes_at zs.old out) (bytes_at zs.old z) in
         zs.new ≡ with_elements zs.old out Width.H lane (lanes vl Width.H) }
 {
+    let shape = Shape {
+        width: Width::H,
+        vl,
+    };
     match op {
-        LaneUnary::Abs => each_merged_one(LaneUnary::Abs, Width::H, vl, pg, zs, z, out),
-        LaneUnary::Neg => each_merged_one(LaneUnary::Neg, Width::H, vl, pg, zs, z, out),
-        LaneUnary::Not => each_merged_one(LaneUnary::Not, Width::H, vl, pg, zs, z, out),
-        LaneUnary::SxtB => each_merged_one(LaneUnary::SxtB, Width::H, vl, pg, zs, z, out),
-        LaneUnary::UxtB => each_merged_one(LaneUnary::UxtB, Width::H, vl, pg, zs, z, out),
-        LaneUnary::SxtH => each_merged_one(LaneUnary::SxtH, Width::H, vl, pg, zs, z, out),
-        LaneUnary::UxtH => each_merged_one(LaneUnary::UxtH, Width::H, vl, pg, zs, z, out),
-        LaneUnary::SxtW => each_merged_one(LaneUnary::SxtW, Width::H, vl, pg, zs, z, out),
-        LaneUnary::UxtW => each_merged_one(LaneUnary::UxtW, Width::H, vl, pg, zs, z, out),
+        LaneUnary::Abs => each_merged_one(LaneUnary::Abs, shape, pg, zs, z, out),
+        LaneUnary::Neg => each_merged_one(LaneUnary::Neg, shape, pg, zs, z, out),
+        LaneUnary::Not => each_merged_one(LaneUnary::Not, shape, pg, zs, z, out),
+        LaneUnary::SxtB => each_merged_one(LaneUnary::SxtB, shape, pg, zs, z, out),
+        LaneUnary::UxtB => each_merged_one(LaneUnary::UxtB, shape, pg, zs, z, out),
+        LaneUnary::SxtH => each_merged_one(LaneUnary::SxtH, shape, pg, zs, z, out),
+        LaneUnary::UxtH => each_merged_one(LaneUnary::UxtH, shape, pg, zs, z, out),
+        LaneUnary::SxtW => each_merged_one(LaneUnary::SxtW, shape, pg, zs, z, out),
+        LaneUnary::UxtW => each_merged_one(LaneUnary::UxtW, shape, pg, zs, z, out),
     }
 }
 
@@ -443,16 +448,20 @@ fn merge_one_in_32(op: LaneUnary, vl: Vl, pg: &PReg, zs: &mut [ZReg; 32], z: usi
     ensures { let lane = merge_one_at op Width.S pg.now.bits (bytes_at zs.old out) (bytes_at zs.old z) in
         zs.new ≡ with_elements zs.old out Width.S lane (lanes vl Width.S) }
 {
+    let shape = Shape {
+        width: Width::S,
+        vl,
+    };
     match op {
-        LaneUnary::Abs => each_merged_one(LaneUnary::Abs, Width::S, vl, pg, zs, z, out),
-        LaneUnary::Neg => each_merged_one(LaneUnary::Neg, Width::S, vl, pg, zs, z, out),
-        LaneUnary::Not => each_merged_one(LaneUnary::Not, Width::S, vl, pg, zs, z, out),
-        LaneUnary::SxtB => each_merged_one(LaneUnary::SxtB, Width::S, vl, pg, zs, z, out),
-        LaneUnary::UxtB => each_merged_one(LaneUnary::UxtB, Width::S, vl, pg, zs, z, out),
-        LaneUnary::SxtH => each_merged_one(LaneUnary::SxtH, Width::S, vl, pg, zs, z, out),
-        LaneUnary::UxtH => each_merged_one(LaneUnary::UxtH, Width::S, vl, pg, zs, z, out),
-        LaneUnary::SxtW => each_merged_one(LaneUnary::SxtW, Width::S, vl, pg, zs, z, out),
-        LaneUnary::UxtW => each_merged_one(LaneUnary::UxtW, Width::S, vl, pg, zs, z, out),
+        LaneUnary::Abs => each_merged_one(LaneUnary::Abs, shape, pg, zs, z, out),
+        LaneUnary::Neg => each_merged_one(LaneUnary::Neg, shape, pg, zs, z, out),
+        LaneUnary::Not => each_merged_one(LaneUnary::Not, shape, pg, zs, z, out),
+        LaneUnary::SxtB => each_merged_one(LaneUnary::SxtB, shape, pg, zs, z, out),
+        LaneUnary::UxtB => each_merged_one(LaneUnary::UxtB, shape, pg, zs, z, out),
+        LaneUnary::SxtH => each_merged_one(LaneUnary::SxtH, shape, pg, zs, z, out),
+        LaneUnary::UxtH => each_merged_one(LaneUnary::UxtH, shape, pg, zs, z, out),
+        LaneUnary::SxtW => each_merged_one(LaneUnary::SxtW, shape, pg, zs, z, out),
+        LaneUnary::UxtW => each_merged_one(LaneUnary::UxtW, shape, pg, zs, z, out),
     }
 }
 
@@ -466,113 +475,174 @@ fn merge_one_in_64(op: LaneUnary, vl: Vl, pg: &PReg, zs: &mut [ZReg; 32], z: usi
     ensures { let lane = merge_one_at op Width.D pg.now.bits (bytes_at zs.old out) (bytes_at zs.old z) in
         zs.new ≡ with_elements zs.old out Width.D lane (lanes vl Width.D) }
 {
+    let shape = Shape {
+        width: Width::D,
+        vl,
+    };
     match op {
-        LaneUnary::Abs => each_merged_one(LaneUnary::Abs, Width::D, vl, pg, zs, z, out),
-        LaneUnary::Neg => each_merged_one(LaneUnary::Neg, Width::D, vl, pg, zs, z, out),
-        LaneUnary::Not => each_merged_one(LaneUnary::Not, Width::D, vl, pg, zs, z, out),
-        LaneUnary::SxtB => each_merged_one(LaneUnary::SxtB, Width::D, vl, pg, zs, z, out),
-        LaneUnary::UxtB => each_merged_one(LaneUnary::UxtB, Width::D, vl, pg, zs, z, out),
-        LaneUnary::SxtH => each_merged_one(LaneUnary::SxtH, Width::D, vl, pg, zs, z, out),
-        LaneUnary::UxtH => each_merged_one(LaneUnary::UxtH, Width::D, vl, pg, zs, z, out),
-        LaneUnary::SxtW => each_merged_one(LaneUnary::SxtW, Width::D, vl, pg, zs, z, out),
-        LaneUnary::UxtW => each_merged_one(LaneUnary::UxtW, Width::D, vl, pg, zs, z, out),
+        LaneUnary::Abs => each_merged_one(LaneUnary::Abs, shape, pg, zs, z, out),
+        LaneUnary::Neg => each_merged_one(LaneUnary::Neg, shape, pg, zs, z, out),
+        LaneUnary::Not => each_merged_one(LaneUnary::Not, shape, pg, zs, z, out),
+        LaneUnary::SxtB => each_merged_one(LaneUnary::SxtB, shape, pg, zs, z, out),
+        LaneUnary::UxtB => each_merged_one(LaneUnary::UxtB, shape, pg, zs, z, out),
+        LaneUnary::SxtH => each_merged_one(LaneUnary::SxtH, shape, pg, zs, z, out),
+        LaneUnary::UxtH => each_merged_one(LaneUnary::UxtH, shape, pg, zs, z, out),
+        LaneUnary::SxtW => each_merged_one(LaneUnary::SxtW, shape, pg, zs, z, out),
+        LaneUnary::UxtW => each_merged_one(LaneUnary::UxtW, shape, pg, zs, z, out),
     }
 }
 
 /// `merge_one` of one of the registers, into one whose other elements stay.
 pub fn merge_one_in(
     op: LaneUnary,
-    width: Width,
-    vl: Vl,
+    shape: Shape,
     pg: &PReg,
     zs: &mut [ZReg; 32],
     z: usize,
     out: usize,
 )
-    requires narrower { source_bits op < width_bits width }
+    requires narrower { source_bits op < width_bits shape.width }
     requires z { z < 32 }
     requires out { out < 32 }
-    requires ends { EndsAt vl (bytes_at zs.old out) }
-    ensures { let lane = merge_one_at op width pg.now.bits (bytes_at zs.old out) (bytes_at zs.old z) in
-        zs.new ≡ with_elements zs.old out width lane (lanes vl width) }
+    requires ends { EndsAt shape.vl (bytes_at zs.old out) }
+    ensures { let lane = merge_one_at op shape.width pg.now.bits (bytes_at zs.old out) (bytes_at zs.old z) in
+        zs.new ≡ with_elements zs.old out shape.width lane (lanes shape.vl shape.width) }
 {
-    match width {
-        Width::B => merge_one_in_8(op, vl, pg, zs, z, out),
-        Width::H => merge_one_in_16(op, vl, pg, zs, z, out),
-        Width::S => merge_one_in_32(op, vl, pg, zs, z, out),
-        Width::D => merge_one_in_64(op, vl, pg, zs, z, out),
+    match shape.width {
+        Width::B => merge_one_in_8(op, shape.vl, pg, zs, z, out),
+        Width::H => merge_one_in_16(op, shape.vl, pg, zs, z, out),
+        Width::S => merge_one_in_32(op, shape.vl, pg, zs, z, out),
+        Width::D => merge_one_in_64(op, shape.vl, pg, zs, z, out),
     }
 }
 
 // The operation is chosen before the loop, so that each has a loop of its own.
 #[inline(always)]
-fn shift_by(
-    op: ShiftOp,
-    width: Width,
-    vl: Vl,
-    zs: &mut [ZReg; 32],
-    z: usize,
-    count: u32,
-    out: usize,
-)
-    requires fits { ShiftFits op width count }
+fn shift_by(op: ShiftOp, shape: Shape, zs: &mut [ZReg; 32], z: usize, count: u32, out: usize)
+    requires fits { ShiftFits op shape.width count }
     requires z { z < 32 }
     requires out { out < 32 }
-    requires ends { EndsAt vl (bytes_at zs.old out) }
-    ensures { zs.new ≡ with_elements zs.old out width (shift_at op width (bytes_at zs.old z) count) (lanes vl width) }
+    requires ends { EndsAt shape.vl (bytes_at zs.old out) }
+    ensures { let lane = shift_at op shape.width (bytes_at zs.old z) count in
+        zs.new ≡ with_elements zs.old out shape.width lane (lanes shape.vl shape.width) }
 {
     match op {
-        ShiftOp::Lsl => each_shifted(ShiftOp::Lsl, width, vl, zs, z, count, out),
-        ShiftOp::Lsr => each_shifted(ShiftOp::Lsr, width, vl, zs, z, count, out),
-        ShiftOp::Asr => each_shifted(ShiftOp::Asr, width, vl, zs, z, count, out),
+        ShiftOp::Lsl => each_shifted(ShiftOp::Lsl, shape, zs, z, count, out),
+        ShiftOp::Lsr => each_shifted(ShiftOp::Lsr, shape, zs, z, count, out),
+        ShiftOp::Asr => each_shifted(ShiftOp::Asr, shape, zs, z, count, out),
     }
 }
 
 /// `shift` of one of the registers, into one of them.
-pub fn shift_in(
-    op: ShiftOp,
-    width: Width,
-    vl: Vl,
-    zs: &mut [ZReg; 32],
-    z: usize,
-    count: u32,
-    out: usize,
-)
-    requires fits { ShiftFits op width count }
+pub fn shift_in(op: ShiftOp, shape: Shape, zs: &mut [ZReg; 32], z: usize, count: u32, out: usize)
+    requires fits { ShiftFits op shape.width count }
     requires z { z < 32 }
     requires out { out < 32 }
-    requires ends { EndsAt vl (bytes_at zs.old out) }
-    ensures { zs.new ≡ with_elements zs.old out width (shift_at op width (bytes_at zs.old z) count) (lanes vl width) }
+    requires ends { EndsAt shape.vl (bytes_at zs.old out) }
+    ensures { let lane = shift_at op shape.width (bytes_at zs.old z) count in
+        zs.new ≡ with_elements zs.old out shape.width lane (lanes shape.vl shape.width) }
 {
-    match width {
-        Width::B => shift_by(op, Width::B, vl, zs, z, count, out),
-        Width::H => shift_by(op, Width::H, vl, zs, z, count, out),
-        Width::S => shift_by(op, Width::S, vl, zs, z, count, out),
-        Width::D => shift_by(op, Width::D, vl, zs, z, count, out),
+    match shape.width {
+        Width::B => shift_by(
+            op,
+            Shape {
+                width: Width::B,
+                vl: shape.vl,
+            },
+            zs,
+            z,
+            count,
+            out,
+        ),
+        Width::H => shift_by(
+            op,
+            Shape {
+                width: Width::H,
+                vl: shape.vl,
+            },
+            zs,
+            z,
+            count,
+            out,
+        ),
+        Width::S => shift_by(
+            op,
+            Shape {
+                width: Width::S,
+                vl: shape.vl,
+            },
+            zs,
+            z,
+            count,
+            out,
+        ),
+        Width::D => shift_by(
+            op,
+            Shape {
+                width: Width::D,
+                vl: shape.vl,
+            },
+            zs,
+            z,
+            count,
+            out,
+        ),
     }
 }
 
 /// `select` of two of the registers, into one of them.
-pub fn select_in(
-    width: Width,
-    vl: Vl,
-    pg: &PReg,
-    zs: &mut [ZReg; 32],
-    yes: usize,
-    no: usize,
-    out: usize,
-)
+pub fn select_in(shape: Shape, pg: &PReg, zs: &mut [ZReg; 32], yes: usize, no: usize, out: usize)
     requires yes { yes < 32 }
     requires no { no < 32 }
     requires out { out < 32 }
-    requires ends { EndsAt vl (bytes_at zs.old out) }
-    ensures { let lane = select_at width pg.now.bits (bytes_at zs.old yes) (bytes_at zs.old no) in
-        zs.new ≡ with_elements zs.old out width lane (lanes vl width) }
+    requires ends { EndsAt shape.vl (bytes_at zs.old out) }
+    ensures { let lane = select_at shape.width pg.now.bits (bytes_at zs.old yes) (bytes_at zs.old no) in
+        zs.new ≡ with_elements zs.old out shape.width lane (lanes shape.vl shape.width) }
 {
-    match width {
-        Width::B => each_selected(Width::B, vl, pg, zs, yes, no, out),
-        Width::H => each_selected(Width::H, vl, pg, zs, yes, no, out),
-        Width::S => each_selected(Width::S, vl, pg, zs, yes, no, out),
-        Width::D => each_selected(Width::D, vl, pg, zs, yes, no, out),
+    match shape.width {
+        Width::B => each_selected(
+            Shape {
+                width: Width::B,
+                vl: shape.vl,
+            },
+            pg,
+            zs,
+            yes,
+            no,
+            out,
+        ),
+        Width::H => each_selected(
+            Shape {
+                width: Width::H,
+                vl: shape.vl,
+            },
+            pg,
+            zs,
+            yes,
+            no,
+            out,
+        ),
+        Width::S => each_selected(
+            Shape {
+                width: Width::S,
+                vl: shape.vl,
+            },
+            pg,
+            zs,
+            yes,
+            no,
+            out,
+        ),
+        Width::D => each_selected(
+            Shape {
+                width: Width::D,
+                vl: shape.vl,
+            },
+            pg,
+            zs,
+            yes,
+            no,
+            out,
+        ),
     }
 }

@@ -86,44 +86,34 @@ pub(crate) fn binary_block(op: LaneOp, width: Width, a: u8x32, b: u8x32) -> u8x3
 }
 
 #[inline(always)]
-fn each_block(op: LaneOp, width: Width, left: &ZReg, right: &ZReg, out: &mut ZReg)
-    ensures { out.new.bytes ≡ binary_of op width left.now.bytes right.now.bytes }
+fn each_block(op: LaneOp, width: Width, left: &ZReg, right: &ZReg) -> ZReg
+    ensures { result.bytes ≡ binary_of op width left.now.bytes right.now.bytes }
 {
-    for i in 0..blocks_of(out) {
+    let mut out = ZReg::zero();
+    for i in 0..blocks_of(&out) {
         let block = binary_block(op, width, block_at(left, i), block_at(right, i));
-        put_block(out, i, block);
+        put_block(&mut out, i, block);
     }
+    out
 }
 
 // The operation is chosen before the loop, so that each has a loop of its own.
 #[inline(always)]
-fn by_operation(op: LaneOp, width: Width, left: &ZReg, right: &ZReg, out: &mut ZReg)
-    ensures { out.new.bytes ≡ binary_of op width left.now.bytes right.now.bytes }
+fn by_operation(op: LaneOp, width: Width, left: &ZReg, right: &ZReg) -> ZReg
+    ensures { result.bytes ≡ binary_of op width left.now.bytes right.now.bytes }
 {
     match op {
-        LaneOp::Add => each_block(LaneOp::Add, width, left, right, out),
-        LaneOp::Sub => each_block(LaneOp::Sub, width, left, right, out),
-        LaneOp::Mul => each_block(LaneOp::Mul, width, left, right, out),
-        LaneOp::And => each_block(LaneOp::And, width, left, right, out),
-        LaneOp::Or => each_block(LaneOp::Or, width, left, right, out),
-        LaneOp::Xor => each_block(LaneOp::Xor, width, left, right, out),
-        LaneOp::Bic => each_block(LaneOp::Bic, width, left, right, out),
-        LaneOp::SMin => each_block(LaneOp::SMin, width, left, right, out),
-        LaneOp::SMax => each_block(LaneOp::SMax, width, left, right, out),
-        LaneOp::UMin => each_block(LaneOp::UMin, width, left, right, out),
-        LaneOp::UMax => each_block(LaneOp::UMax, width, left, right, out),
-    }
-}
-
-/// `binary` into a register that is there.
-pub fn binary_into(op: LaneOp, width: Width, left: &ZReg, right: &ZReg, out: &mut ZReg)
-    ensures { out.new.bytes ≡ binary_of op width left.now.bytes right.now.bytes }
-{
-    match width {
-        Width::B => by_operation(op, Width::B, left, right, out),
-        Width::H => by_operation(op, Width::H, left, right, out),
-        Width::S => by_operation(op, Width::S, left, right, out),
-        Width::D => by_operation(op, Width::D, left, right, out),
+        LaneOp::Add => each_block(LaneOp::Add, width, left, right),
+        LaneOp::Sub => each_block(LaneOp::Sub, width, left, right),
+        LaneOp::Mul => each_block(LaneOp::Mul, width, left, right),
+        LaneOp::And => each_block(LaneOp::And, width, left, right),
+        LaneOp::Or => each_block(LaneOp::Or, width, left, right),
+        LaneOp::Xor => each_block(LaneOp::Xor, width, left, right),
+        LaneOp::Bic => each_block(LaneOp::Bic, width, left, right),
+        LaneOp::SMin => each_block(LaneOp::SMin, width, left, right),
+        LaneOp::SMax => each_block(LaneOp::SMax, width, left, right),
+        LaneOp::UMin => each_block(LaneOp::UMin, width, left, right),
+        LaneOp::UMax => each_block(LaneOp::UMax, width, left, right),
     }
 }
 
@@ -132,7 +122,10 @@ pub fn binary_into(op: LaneOp, width: Width, left: &ZReg, right: &ZReg, out: &mu
 pub fn binary(op: LaneOp, width: Width, left: &ZReg, right: &ZReg) -> ZReg
     ensures { result.bytes ≡ binary_of op width left.now.bytes right.now.bytes }
 {
-    let mut out = ZReg::zero();
-    binary_into(op, width, left, right, &mut out);
-    out
+    match width {
+        Width::B => by_operation(op, Width::B, left, right),
+        Width::H => by_operation(op, Width::H, left, right),
+        Width::S => by_operation(op, Width::S, left, right),
+        Width::D => by_operation(op, Width::D, left, right),
+    }
 }

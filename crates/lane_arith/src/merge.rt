@@ -21,45 +21,35 @@ pub(crate) fn merge_block(op: LaneOp, width: Width, p: u8x4, a: u8x32, b: u8x32)
 }
 
 #[inline(always)]
-fn each_merged(op: LaneOp, width: Width, pg: &PReg, left: &ZReg, right: &ZReg, out: &mut ZReg)
-    ensures { out.new.bytes ≡ merge_of op width pg.now.bits left.now.bytes right.now.bytes }
+fn each_merged(op: LaneOp, width: Width, pg: &PReg, left: &ZReg, right: &ZReg) -> ZReg
+    ensures { result.bytes ≡ merge_of op width pg.now.bits left.now.bytes right.now.bytes }
 {
-    for i in 0..blocks_of(out) {
+    let mut out = ZReg::zero();
+    for i in 0..blocks_of(&out) {
         let p = mask_at(pg, i);
         let block = merge_block(op, width, p, block_at(left, i), block_at(right, i));
-        put_block(out, i, block);
+        put_block(&mut out, i, block);
     }
+    out
 }
 
 // The operation is chosen before the loop, so that each has a loop of its own.
 #[inline(always)]
-fn by_operation(op: LaneOp, width: Width, pg: &PReg, left: &ZReg, right: &ZReg, out: &mut ZReg)
-    ensures { out.new.bytes ≡ merge_of op width pg.now.bits left.now.bytes right.now.bytes }
+fn by_operation(op: LaneOp, width: Width, pg: &PReg, left: &ZReg, right: &ZReg) -> ZReg
+    ensures { result.bytes ≡ merge_of op width pg.now.bits left.now.bytes right.now.bytes }
 {
     match op {
-        LaneOp::Add => each_merged(LaneOp::Add, width, pg, left, right, out),
-        LaneOp::Sub => each_merged(LaneOp::Sub, width, pg, left, right, out),
-        LaneOp::Mul => each_merged(LaneOp::Mul, width, pg, left, right, out),
-        LaneOp::And => each_merged(LaneOp::And, width, pg, left, right, out),
-        LaneOp::Or => each_merged(LaneOp::Or, width, pg, left, right, out),
-        LaneOp::Xor => each_merged(LaneOp::Xor, width, pg, left, right, out),
-        LaneOp::Bic => each_merged(LaneOp::Bic, width, pg, left, right, out),
-        LaneOp::SMin => each_merged(LaneOp::SMin, width, pg, left, right, out),
-        LaneOp::SMax => each_merged(LaneOp::SMax, width, pg, left, right, out),
-        LaneOp::UMin => each_merged(LaneOp::UMin, width, pg, left, right, out),
-        LaneOp::UMax => each_merged(LaneOp::UMax, width, pg, left, right, out),
-    }
-}
-
-/// `merge` into a register that is there.
-pub fn merge_into(op: LaneOp, width: Width, pg: &PReg, left: &ZReg, right: &ZReg, out: &mut ZReg)
-    ensures { out.new.bytes ≡ merge_of op width pg.now.bits left.now.bytes right.now.bytes }
-{
-    match width {
-        Width::B => by_operation(op, Width::B, pg, left, right, out),
-        Width::H => by_operation(op, Width::H, pg, left, right, out),
-        Width::S => by_operation(op, Width::S, pg, left, right, out),
-        Width::D => by_operation(op, Width::D, pg, left, right, out),
+        LaneOp::Add => each_merged(LaneOp::Add, width, pg, left, right),
+        LaneOp::Sub => each_merged(LaneOp::Sub, width, pg, left, right),
+        LaneOp::Mul => each_merged(LaneOp::Mul, width, pg, left, right),
+        LaneOp::And => each_merged(LaneOp::And, width, pg, left, right),
+        LaneOp::Or => each_merged(LaneOp::Or, width, pg, left, right),
+        LaneOp::Xor => each_merged(LaneOp::Xor, width, pg, left, right),
+        LaneOp::Bic => each_merged(LaneOp::Bic, width, pg, left, right),
+        LaneOp::SMin => each_merged(LaneOp::SMin, width, pg, left, right),
+        LaneOp::SMax => each_merged(LaneOp::SMax, width, pg, left, right),
+        LaneOp::UMin => each_merged(LaneOp::UMin, width, pg, left, right),
+        LaneOp::UMax => each_merged(LaneOp::UMax, width, pg, left, right),
     }
 }
 
@@ -69,32 +59,25 @@ pub fn merge_into(op: LaneOp, width: Width, pg: &PReg, left: &ZReg, right: &ZReg
 pub fn merge(op: LaneOp, width: Width, pg: &PReg, left: &ZReg, right: &ZReg) -> ZReg
     ensures { result.bytes ≡ merge_of op width pg.now.bits left.now.bytes right.now.bytes }
 {
-    let mut out = ZReg::zero();
-    merge_into(op, width, pg, left, right, &mut out);
-    out
+    match width {
+        Width::B => by_operation(op, Width::B, pg, left, right),
+        Width::H => by_operation(op, Width::H, pg, left, right),
+        Width::S => by_operation(op, Width::S, pg, left, right),
+        Width::D => by_operation(op, Width::D, pg, left, right),
+    }
 }
 
 #[inline(always)]
-fn each_selected(width: Width, pg: &PReg, yes: &ZReg, no: &ZReg, out: &mut ZReg)
-    ensures { out.new.bytes ≡ select_of width pg.now.bits yes.now.bytes no.now.bytes }
+fn each_selected(width: Width, pg: &PReg, yes: &ZReg, no: &ZReg) -> ZReg
+    ensures { result.bytes ≡ select_of width pg.now.bits yes.now.bytes no.now.bytes }
 {
-    for i in 0..blocks_of(out) {
+    let mut out = ZReg::zero();
+    for i in 0..blocks_of(&out) {
         let p = mask_at(pg, i);
         let block = choose_block(width, p, block_at(yes, i), block_at(no, i));
-        put_block(out, i, block);
+        put_block(&mut out, i, block);
     }
-}
-
-/// `select` into a register that is there.
-pub fn select_into(width: Width, pg: &PReg, yes: &ZReg, no: &ZReg, out: &mut ZReg)
-    ensures { out.new.bytes ≡ select_of width pg.now.bits yes.now.bytes no.now.bytes }
-{
-    match width {
-        Width::B => each_selected(Width::B, pg, yes, no, out),
-        Width::H => each_selected(Width::H, pg, yes, no, out),
-        Width::S => each_selected(Width::S, pg, yes, no, out),
-        Width::D => each_selected(Width::D, pg, yes, no, out),
-    }
+    out
 }
 
 /// The element of `yes` where the predicate is true, and that of `no` elsewhere (Arm DDI 0584: SEL,
@@ -102,7 +85,10 @@ pub fn select_into(width: Width, pg: &PReg, yes: &ZReg, no: &ZReg, out: &mut ZRe
 pub fn select(width: Width, pg: &PReg, yes: &ZReg, no: &ZReg) -> ZReg
     ensures { result.bytes ≡ select_of width pg.now.bits yes.now.bytes no.now.bytes }
 {
-    let mut out = ZReg::zero();
-    select_into(width, pg, yes, no, &mut out);
-    out
+    match width {
+        Width::B => each_selected(Width::B, pg, yes, no),
+        Width::H => each_selected(Width::H, pg, yes, no),
+        Width::S => each_selected(Width::S, pg, yes, no),
+        Width::D => each_selected(Width::D, pg, yes, no),
+    }
 }

@@ -83,39 +83,28 @@ pub(crate) fn shift_block(op: ShiftOp, width: Width, a: u8x32, count: u32) -> u8
 }
 
 #[inline(always)]
-fn each_shifted(op: ShiftOp, width: Width, z: &ZReg, count: u32, out: &mut ZReg)
+fn each_shifted(op: ShiftOp, width: Width, z: &ZReg, count: u32) -> ZReg
     requires { ShiftFits op width count }
-    ensures { out.new.bytes ≡ shift_of op width z.now.bytes count }
+    ensures { result.bytes ≡ shift_of op width z.now.bytes count }
 {
-    for i in 0..blocks_of(out) {
+    let mut out = ZReg::zero();
+    for i in 0..blocks_of(&out) {
         let block = shift_block(op, width, block_at(z, i), count);
-        put_block(out, i, block);
+        put_block(&mut out, i, block);
     }
+    out
 }
 
 // The operation is chosen before the loop, so that each has a loop of its own.
 #[inline(always)]
-fn by_operation(op: ShiftOp, width: Width, z: &ZReg, count: u32, out: &mut ZReg)
+fn by_operation(op: ShiftOp, width: Width, z: &ZReg, count: u32) -> ZReg
     requires { ShiftFits op width count }
-    ensures { out.new.bytes ≡ shift_of op width z.now.bytes count }
+    ensures { result.bytes ≡ shift_of op width z.now.bytes count }
 {
     match op {
-        ShiftOp::Lsl => each_shifted(ShiftOp::Lsl, width, z, count, out),
-        ShiftOp::Lsr => each_shifted(ShiftOp::Lsr, width, z, count, out),
-        ShiftOp::Asr => each_shifted(ShiftOp::Asr, width, z, count, out),
-    }
-}
-
-/// `shift` into a register that is there.
-pub fn shift_into(op: ShiftOp, width: Width, z: &ZReg, count: u32, out: &mut ZReg)
-    requires { ShiftFits op width count }
-    ensures { out.new.bytes ≡ shift_of op width z.now.bytes count }
-{
-    match width {
-        Width::B => by_operation(op, Width::B, z, count, out),
-        Width::H => by_operation(op, Width::H, z, count, out),
-        Width::S => by_operation(op, Width::S, z, count, out),
-        Width::D => by_operation(op, Width::D, z, count, out),
+        ShiftOp::Lsl => each_shifted(ShiftOp::Lsl, width, z, count),
+        ShiftOp::Lsr => each_shifted(ShiftOp::Lsr, width, z, count),
+        ShiftOp::Asr => each_shifted(ShiftOp::Asr, width, z, count),
     }
 }
 
@@ -125,7 +114,10 @@ pub fn shift(op: ShiftOp, width: Width, z: &ZReg, count: u32) -> ZReg
     requires { ShiftFits op width count }
     ensures { result.bytes ≡ shift_of op width z.now.bytes count }
 {
-    let mut out = ZReg::zero();
-    shift_into(op, width, z, count, &mut out);
-    out
+    match width {
+        Width::B => by_operation(op, Width::B, z, count),
+        Width::H => by_operation(op, Width::H, z, count),
+        Width::S => by_operation(op, Width::S, z, count),
+        Width::D => by_operation(op, Width::D, z, count),
+    }
 }

@@ -130,46 +130,35 @@ pub(crate) fn merge_block(op: LaneUnary, width: Width, p: u8x4, old: u8x32, a: u
 }
 
 #[inline(always)]
-fn each_merged(op: LaneUnary, width: Width, pg: &PReg, old: &ZReg, z: &ZReg, out: &mut ZReg)
+fn each_merged(op: LaneUnary, width: Width, pg: &PReg, old: &ZReg, z: &ZReg) -> ZReg
     requires { source_bits op < width_bits width }
-    ensures { out.new.bytes ≡ merge_one_of op width pg.now.bits old.now.bytes z.now.bytes }
+    ensures { result.bytes ≡ merge_one_of op width pg.now.bits old.now.bytes z.now.bytes }
 {
-    for i in 0..blocks_of(out) {
+    let mut out = ZReg::zero();
+    for i in 0..blocks_of(&out) {
         let p = mask_at(pg, i);
         let block = merge_block(op, width, p, block_at(old, i), block_at(z, i));
-        put_block(out, i, block);
+        put_block(&mut out, i, block);
     }
+    out
 }
 
 // The operation is chosen before the loop, so that each has a loop of its own.
 #[inline(always)]
-fn by_operation(op: LaneUnary, width: Width, pg: &PReg, old: &ZReg, z: &ZReg, out: &mut ZReg)
+fn by_operation(op: LaneUnary, width: Width, pg: &PReg, old: &ZReg, z: &ZReg) -> ZReg
     requires { source_bits op < width_bits width }
-    ensures { out.new.bytes ≡ merge_one_of op width pg.now.bits old.now.bytes z.now.bytes }
+    ensures { result.bytes ≡ merge_one_of op width pg.now.bits old.now.bytes z.now.bytes }
 {
     match op {
-        LaneUnary::Abs => each_merged(LaneUnary::Abs, width, pg, old, z, out),
-        LaneUnary::Neg => each_merged(LaneUnary::Neg, width, pg, old, z, out),
-        LaneUnary::Not => each_merged(LaneUnary::Not, width, pg, old, z, out),
-        LaneUnary::SxtB => each_merged(LaneUnary::SxtB, width, pg, old, z, out),
-        LaneUnary::UxtB => each_merged(LaneUnary::UxtB, width, pg, old, z, out),
-        LaneUnary::SxtH => each_merged(LaneUnary::SxtH, width, pg, old, z, out),
-        LaneUnary::UxtH => each_merged(LaneUnary::UxtH, width, pg, old, z, out),
-        LaneUnary::SxtW => each_merged(LaneUnary::SxtW, width, pg, old, z, out),
-        LaneUnary::UxtW => each_merged(LaneUnary::UxtW, width, pg, old, z, out),
-    }
-}
-
-/// `merge_one` into a register that is there.
-pub fn merge_one_into(op: LaneUnary, width: Width, pg: &PReg, old: &ZReg, z: &ZReg, out: &mut ZReg)
-    requires narrower { source_bits op < width_bits width }
-    ensures { out.new.bytes ≡ merge_one_of op width pg.now.bits old.now.bytes z.now.bytes }
-{
-    match width {
-        Width::B => by_operation(op, Width::B, pg, old, z, out),
-        Width::H => by_operation(op, Width::H, pg, old, z, out),
-        Width::S => by_operation(op, Width::S, pg, old, z, out),
-        Width::D => by_operation(op, Width::D, pg, old, z, out),
+        LaneUnary::Abs => each_merged(LaneUnary::Abs, width, pg, old, z),
+        LaneUnary::Neg => each_merged(LaneUnary::Neg, width, pg, old, z),
+        LaneUnary::Not => each_merged(LaneUnary::Not, width, pg, old, z),
+        LaneUnary::SxtB => each_merged(LaneUnary::SxtB, width, pg, old, z),
+        LaneUnary::UxtB => each_merged(LaneUnary::UxtB, width, pg, old, z),
+        LaneUnary::SxtH => each_merged(LaneUnary::SxtH, width, pg, old, z),
+        LaneUnary::UxtH => each_merged(LaneUnary::UxtH, width, pg, old, z),
+        LaneUnary::SxtW => each_merged(LaneUnary::SxtW, width, pg, old, z),
+        LaneUnary::UxtW => each_merged(LaneUnary::UxtW, width, pg, old, z),
     }
 }
 
@@ -179,7 +168,10 @@ pub fn merge_one(op: LaneUnary, width: Width, pg: &PReg, old: &ZReg, z: &ZReg) -
     requires narrower { source_bits op < width_bits width }
     ensures { result.bytes ≡ merge_one_of op width pg.now.bits old.now.bytes z.now.bytes }
 {
-    let mut out = ZReg::zero();
-    merge_one_into(op, width, pg, old, z, &mut out);
-    out
+    match width {
+        Width::B => by_operation(op, Width::B, pg, old, z),
+        Width::H => by_operation(op, Width::H, pg, old, z),
+        Width::S => by_operation(op, Width::S, pg, old, z),
+        Width::D => by_operation(op, Width::D, pg, old, z),
+    }
 }

@@ -14,7 +14,7 @@ use guest_types::memory::{AccessFault, Perm};
 use guest_types::predicate::PReg;
 use guest_types::row::{LoadMode, LoadRow, StoreRow};
 use lane_memory::gather::gather_into;
-use lane_memory::load::load_into;
+use lane_memory::load::{LoadFrom, load_into};
 use lane_memory::store::store;
 use lane_memory::suppress::Suppress;
 use paged_memory::pages::Pages;
@@ -62,12 +62,15 @@ fn store_row(width: Width) -> StoreRow {
 
 fn load_by_kernel(pages: &Pages, mode: LoadMode, s: &mut Operands) -> Result<(), AccessFault> {
     let mut stops = Suppress::none();
+    let load = LoadFrom {
+        mode,
+        row: load_row(s.width),
+        base: BASE,
+        index: s.total & 1,
+    };
     load_into(
         pages,
-        mode,
-        load_row(s.width),
-        BASE,
-        s.total & 1,
+        &load,
         s.vl,
         &s.mask,
         &mut s.truths,

@@ -3,15 +3,12 @@
 use crate::operands::Operands;
 use crate::work::Work;
 use guest_types::operation::LaneUnary;
-use lane_arith::binary::binary_into;
 use lane_arith::fill::{dup_into, index_into};
-use lane_arith::merge::{merge_into, select_into};
 use lane_arith::reduce::reduce;
-use lane_arith::shift::shift_into;
-use lane_arith::unary::merge_one_into;
+use lane_blocks::shape::Shape;
 use lane_preds::compare::compare_into;
 use lane_preds::logic::{brk_into, logic_into};
-use lane_preds::make::{all_true_into, while_lo_into};
+use lane_preds::make::{all_true_into, while_lo_test};
 use lane_preds::test::{count, pred_test};
 
 /// One call that writes a vector register or gives a number.
@@ -21,26 +18,12 @@ pub fn on_lanes(work: Work, s: &mut Operands) {
     match work {
         Work::Dup => dup_into(width, vl, s.total, &mut s.out),
         Work::Index => index_into(width, vl, s.total, 3, &mut s.out),
-        Work::Select => select_into(width, &s.mask, &s.left, &s.right, &mut s.out),
-        Work::Shift(op) => shift_into(op, width, &s.left, 3, &mut s.out),
-        Work::Negate => merge_one_into(
-            LaneUnary::Neg,
-            width,
-            &s.mask,
-            &s.left,
-            &s.right,
-            &mut s.out,
-        ),
-        Work::Absolute => merge_one_into(
-            LaneUnary::Abs,
-            width,
-            &s.mask,
-            &s.left,
-            &s.right,
-            &mut s.out,
-        ),
-        Work::Binary(op) => binary_into(op, width, &s.left, &s.right, &mut s.out),
-        Work::Merge(op) => merge_into(op, width, &s.mask, &s.left, &s.right, &mut s.out),
+        Work::Select => s.bank.select(width, &s.mask),
+        Work::Shift(op) => s.bank.shift(op, width, 3),
+        Work::Negate => s.bank.merge_one(LaneUnary::Neg, width, &s.mask),
+        Work::Absolute => s.bank.merge_one(LaneUnary::Abs, width, &s.mask),
+        Work::Binary(op) => s.bank.binary(op, width),
+        Work::Merge(op) => s.bank.merge(op, width, &s.mask),
         Work::Reduce(op) => {
             s.total = s
                 .total
@@ -57,13 +40,9 @@ fn on_predicates(work: Work, s: &mut Operands) {
     match work {
         Work::AllTrue => all_true_into(width, vl, &mut s.truths),
         Work::WhileLo => {
-            while_lo_into(
-                width,
-                vl,
-                s.total,
-                s.total.wrapping_add(1000),
-                &mut s.truths,
-            )
+            let to = s.total.wrapping_add(1000);
+            let flags = while_lo_test(width, vl, s.total, to, &mut s.truths);
+            s.total = s.total.wrapping_add(u64::from(flags));
         }
         Work::Logic(op) => logic_into(op, &s.mask, &s.tested, &s.mask, &mut s.truths),
         Work::Break => brk_into(true, &s.mask, &s.tested, &mut s.truths),
@@ -73,7 +52,8 @@ fn on_predicates(work: Work, s: &mut Operands) {
                 .wrapping_add(u64::from(count(width, vl, &s.mask, &s.tested)))
         }
         Work::Compare(op) => {
-            compare_into(op, width, vl, &s.mask, &s.left, &s.right, &mut s.truths)
+            let shape = Shape { width, vl };
+            compare_into(op, shape, &s.mask, &s.left, &s.right, &mut s.truths)
         }
         Work::PredTest => {
             s.total = s

@@ -1,9 +1,10 @@
-//! Times each kernel of lanes that writes into a register of its own beside a plain loop over elements, both in the same run, and
-//! says on the error output for each: what is done, the bits of an element, the mask, and at three vector lengths the nanoseconds
-//! of a call by the kernel and by the loop, with the one as a hundredth of the other. `bench/lanes` runs it.
+//! Times each kernel of lanes as a machine calls it beside a plain loop over elements, both in the same run, and says on the
+//! error output for each: what is done, the bits of an element, the mask, and at three vector lengths the nanoseconds of a call
+//! by the kernel and by the loop, with the one as a hundredth of the other. `bench/lanes` runs it.
 #![tactic(auto)]
 
 mod access;
+mod bank;
 mod kernels;
 mod operands;
 mod plain;

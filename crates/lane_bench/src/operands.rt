@@ -1,12 +1,13 @@
 //! What a kernel is timed on.
 
+use crate::bank::Bank;
 use crate::plain::elements;
 use guest_types::length::{Vl, Width};
 use guest_types::predicate::PReg;
 use guest_types::register::ZReg;
 use lane_preds::make::all_true;
 
-/// Registers that a kernel reads and writes.
+/// Registers that a kernel or a loop reads and writes. A kernel that works in place has its own, which begin alike.
 #[derive(Drop)]
 pub struct Operands {
     pub vl: Vl,
@@ -18,6 +19,7 @@ pub struct Operands {
     pub right: ZReg,
     pub offsets: ZReg,
     pub out: ZReg,
+    pub bank: Bank,
     pub total: u64,
 }
 
@@ -60,16 +62,19 @@ impl Operands {
     /// Bytes of all kinds, and a mask of which every element or two of three are true.
     pub fn new(width: Width, vl: Vl, is_ragged: bool) -> Operands {
         let all = all_true(width, vl);
+        let left = filled(3, 7, vl);
+        let right = filled(250, 11, vl);
         Operands {
             vl,
             width,
             mask: if is_ragged { ragged(width, vl) } else { all },
             tested: last_bit(vl),
             truths: all_true(Width::B, vl),
-            left: filled(3, 7, vl),
-            right: filled(250, 11, vl),
+            left,
+            right,
             offsets: scattered(vl),
             out: ZReg::zero(),
+            bank: Bank::new(vl, left, right),
             total: 1,
         }
     }
@@ -78,6 +83,7 @@ impl Operands {
     #[inline(always)]
     pub fn go_on(&mut self) {
         self.left.bytes[0] ^= self.out.bytes[5];
+        self.bank.go_on();
         self.tested.bits[31] ^= self.truths.bits[0] & 1;
     }
 }

@@ -10,6 +10,7 @@ use guest_types::length::{Vl, Width};
 use guest_types::operation::{LaneCompare, LaneOp, LaneUnary, PredOp, ReduceOp, ShiftOp};
 use guest_types::predicate::PReg;
 use guest_types::register::ZReg;
+use lane_blocks::shape::Shape;
 
 /// How many elements a register of the length has.
 #[inline(always)]
@@ -46,16 +47,13 @@ fn shift(op: ShiftOp, width: Width, vl: Vl, z: &ZReg, count: u32, out: &mut ZReg
     }
 }
 
-fn merge_one(op: LaneUnary, width: Width, vl: Vl, pg: &PReg, old: &ZReg, z: &ZReg, out: &mut ZReg)
+fn merge_one(op: LaneUnary, width: Width, vl: Vl, pg: &PReg, z: &ZReg, out: &mut ZReg)
     requires { source_bits op < width_bits width }
 {
     for e in 0..elements(width, vl) {
-        let value = if pg.is_active(width, e) {
-            op.apply(width, z.element(width, e))
-        } else {
-            old.element(width, e)
-        };
-        out.put(width, e, value);
+        if pg.is_active(width, e) {
+            out.put(width, e, op.apply(width, z.element(width, e)));
+        }
     }
 }
 
@@ -66,15 +64,12 @@ fn binary(op: LaneOp, width: Width, vl: Vl, left: &ZReg, right: &ZReg, out: &mut
     }
 }
 
-fn merge(op: LaneOp, width: Width, vl: Vl, pg: &PReg, left: &ZReg, right: &ZReg, out: &mut ZReg) {
+fn merge(op: LaneOp, width: Width, vl: Vl, pg: &PReg, right: &ZReg, out: &mut ZReg) {
     for e in 0..elements(width, vl) {
-        let a = left.element(width, e);
-        let value = if pg.is_active(width, e) {
-            op.apply(width, a, right.element(width, e))
-        } else {
-            a
-        };
-        out.put(width, e, value);
+        if pg.is_active(width, e) {
+            let value = op.apply(width, out.element(width, e), right.element(width, e));
+            out.put(width, e, value);
+        }
     }
 }
 
@@ -111,30 +106,10 @@ pub fn on_lanes(work: Work, s: &mut Operands) {
         Work::Index => index(width, vl, s.total, 3, &mut s.out),
         Work::Select => select(width, vl, &s.mask, &s.left, &s.right, &mut s.out),
         Work::Shift(op) => shift(op, width, vl, &s.left, 3, &mut s.out),
-        Work::Negate => {
-            merge_one(
-                LaneUnary::Neg,
-                width,
-                vl,
-                &s.mask,
-                &s.left,
-                &s.right,
-                &mut s.out,
-            )
-        }
-        Work::Absolute => {
-            merge_one(
-                LaneUnary::Abs,
-                width,
-                vl,
-                &s.mask,
-                &s.left,
-                &s.right,
-                &mut s.out,
-            )
-        }
+        Work::Negate => merge_one(LaneUnary::Neg, width, vl, &s.mask, &s.left, &mut s.out),
+        Work::Absolute => merge_one(LaneUnary::Abs, width, vl, &s.mask, &s.left, &mut s.out),
         Work::Binary(op) => binary(op, width, vl, &s.left, &s.right, &mut s.out),
-        Work::Merge(op) => merge(op, width, vl, &s.mask, &s.left, &s.right, &mut s.out),
+        Work::Merge(op) => merge(op, width, vl, &s.mask, &s.right, &mut s.out),
         Work::Reduce(op) => {
             s.total = s
                 .total
@@ -144,7 +119,6 @@ pub fn on_lanes(work: Work, s: &mut Operands) {
     }
 }
 
-// The predicate whose element e, of so many, is what the closure says, is made bit by bit.
 fn all_true(width: Width, vl: Vl, out: &mut PReg) {
     *out = PReg::none();
     for e in 0..elements(width, vl) {
@@ -152,13 +126,20 @@ fn all_true(width: Width, vl: Vl, out: &mut PReg) {
     }
 }
 
-fn while_lo(width: Width, vl: Vl, from: u64, to: u64, out: &mut PReg) {
+// The flags as `lane_preds::make::while_lo_test` gives them.
+fn while_lo(width: Width, vl: Vl, from: u64, to: u64, out: &mut PReg) -> u64 {
     *out = PReg::none();
+    let mut some = false;
+    let mut ends = false;
     for e in 0..elements(width, vl) {
         if from.saturating_add(e as u64) < to {
             out.put(width.bytes() * e, true);
+            some = true;
+        } else {
+            ends = true;
         }
     }
+    8 * some as u64 + 4 * !some as u64 + 2 * ends as u64
 }
 
 fn logic(op: PredOp, pg: &PReg, left: &PReg, right: &PReg, out: &mut PReg) {
@@ -190,15 +171,8 @@ fn count(width: Width, vl: Vl, pg: &PReg, p: &PReg) -> u64 {
     total
 }
 
-fn compare(
-    op: LaneCompare,
-    width: Width,
-    vl: Vl,
-    pg: &PReg,
-    left: &ZReg,
-    right: &ZReg,
-    out: &mut PReg,
-) {
+fn compare(op: LaneCompare, shape: Shape, pg: &PReg, left: &ZReg, right: &ZReg, out: &mut PReg) {
+    let Shape { width, vl } = shape;
     *out = PReg::none();
     for e in 0..elements(width, vl) {
         if pg.is_active(width, e) {
@@ -233,18 +207,17 @@ fn on_predicates(work: Work, s: &mut Operands) {
     match work {
         Work::AllTrue => all_true(width, vl, &mut s.truths),
         Work::WhileLo => {
-            while_lo(
-                width,
-                vl,
-                s.total,
-                s.total.wrapping_add(1000),
-                &mut s.truths,
-            )
+            let to = s.total.wrapping_add(1000);
+            let flags = while_lo(width, vl, s.total, to, &mut s.truths);
+            s.total = s.total.wrapping_add(flags);
         }
         Work::Logic(op) => logic(op, &s.mask, &s.tested, &s.mask, &mut s.truths),
         Work::Break => brk_after(&s.mask, &s.tested, &mut s.truths),
         Work::Count => { s.total = s.total.wrapping_add(count(width, vl, &s.mask, &s.tested)) }
-        Work::Compare(op) => { compare(op, width, vl, &s.mask, &s.left, &s.right, &mut s.truths) }
+        Work::Compare(op) => {
+            let shape = Shape { width, vl };
+            compare(op, shape, &s.mask, &s.left, &s.right, &mut s.truths)
+        }
         Work::PredTest => {
             s.total = s
                 .total

@@ -4,3 +4,4 @@
 
 pub mod block;
 pub mod mask;
+pub mod shape;

@@ -16,6 +16,14 @@ use guest_types::predicate::PReg;
 use guest_types::register::ZReg;
 use paged_memory::pages::Pages;
 
+/// The first elements of a load under a mask, so many of them.
+#[derive(Clone, Copy)]
+pub struct Masked<'a> {
+    pub reading: Reading,
+    pub pg: &'a PReg,
+    pub lanes: usize,
+}
+
 /// The first suppressed element, of so many, where the active elements from one on are free.
 fn first_suppressed(
     pages: &Pages,
@@ -52,23 +60,23 @@ fn first_suppressed(
 /// A load in which the active elements from one on are free, and those before it do not fault.
 pub fn load_early(
     pages: &Pages,
-    reading: Reading,
-    pg: &PReg,
+    masked: &Masked<'_>,
     from: usize,
-    lanes: usize,
     ffr: &mut PReg,
     stops: &mut Suppress,
     out: &mut ZReg,
 )
-    requires inside { lanes ≤ all_lanes reading.element }
-    requires from { from ≤ lanes }
-    requires read { first_true (refused_of reading pages.now.memory pg.now.bits) from 0 ≡ None }
-    ensures { let on = on_of reading pg.now.bits in
-        let free = on_from reading pg.now.bits from in
+    requires inside { masked.now.lanes ≤ all_lanes masked.now.reading.element }
+    requires from { from ≤ masked.now.lanes }
+    requires read { first_true (refused_of masked.now.reading pages.now.memory masked.now.pg.now.bits) from 0 ≡ None }
+    ensures { let r = masked.now.reading in
+        let on = on_of r masked.now.pg.now.bits in
+        let free = on_from r masked.now.pg.now.bits from in
         left_by_early
-        (early_load (form_of reading) pages.now.memory stops.old on free (place_of reading) lanes ffr.old.bits)
+        (early_load (form_of r) pages.now.memory stops.old on free (place_of r) masked.now.lanes ffr.old.bits)
         ≡ record { z = out.new.bytes; ffr = ffr.new.bits; stops = stops.new } }
 {
+    let Masked { reading, pg, lanes } = *masked;
     let first = first_suppressed(pages, reading, pg, from, lanes, stops);
     clear_from(ffr, reading.element, first);
     let kept = count_set(ffr, reading.element, lanes);

@@ -9,7 +9,7 @@ ghost use Rattle.guest_types.specs.declared.row.LoadMode.TheVariants.{Plain};
 ghost use Rattle.lane_memory.specs.Readings.{form_of, place_of, on_of, refused_of, IsFreeFrom};
 ghost use Rattle.lane_memory.specs.Loads.{load_of, left_by, left_by_plain, left_by_first};
 
-use crate::early::load_early;
+use crate::early::{Masked, load_early};
 use crate::fill::{fill, fill_at_once, fill_full};
 use crate::reading::Reading;
 use crate::refusal::{fault_at, first_active, first_refused};
@@ -21,6 +21,15 @@ use guest_types::register::ZReg;
 use guest_types::row::{LoadMode, LoadRow};
 use lane_preds::test::is_all_true;
 use paged_memory::pages::Pages;
+
+/// A contiguous load: its mode and form, and where element 0 stands, as a base and an index in elements.
+#[derive(Clone, Copy)]
+pub struct LoadFrom {
+    pub mode: LoadMode,
+    pub row: LoadRow,
+    pub base: u64,
+    pub index: u64,
+}
 
 /// The fault of the first of so many active elements that faults.
 fn refusal(pages: &Pages, reading: Reading, pg: &PReg, lanes: usize) -> Option<AccessFault>
@@ -78,26 +87,26 @@ fn free_from(pages: &Pages, reading: Reading, pg: &PReg, lanes: usize) -> Result
 /// LDFF1.
 fn load_first_fault(
     pages: &Pages,
-    reading: Reading,
-    pg: &PReg,
-    lanes: usize,
+    masked: &Masked<'_>,
     ffr: &mut PReg,
     stops: &mut Suppress,
     out: &mut ZReg,
 ) -> Result<(), AccessFault>
-    requires { lanes ≤ all_lanes reading.element }
-    ensures done { let on = on_of reading pg.now.bits in
+    requires { masked.now.lanes ≤ all_lanes masked.now.reading.element }
+    ensures done { let r = masked.now.reading in
+        let on = on_of r masked.now.pg.now.bits in
         OnOk result (
         left_by_first
-        (first_fault_early (form_of reading) pages.now.memory stops.old on (place_of reading) lanes ffr.old.bits)
+        (first_fault_early (form_of r) pages.now.memory stops.old on (place_of r) masked.now.lanes ffr.old.bits)
         ≡ Ok (record { z = out.new.bytes; ffr = ffr.new.bits; stops = stops.new })) }
-    ensures refused { let on = on_of reading pg.now.bits in
-        IfErr result (λ fault. first_fault_early (form_of reading) pages.now.memory stops.old on
-        (place_of reading) lanes ffr.old.bits ≡ Err fault) }
+    ensures refused { let r = masked.now.reading in
+        let on = on_of r masked.now.pg.now.bits in
+        IfErr result (λ fault. first_fault_early (form_of r) pages.now.memory stops.old on
+        (place_of r) masked.now.lanes ffr.old.bits ≡ Err fault) }
     ensures unchanged { OnErr result ((out.new ≡ out.old) × (ffr.new ≡ ffr.old) × (stops.new ≡ stops.old)) }
 {
-    let from = free_from(pages, reading, pg, lanes)?;
-    load_early(pages, reading, pg, from, lanes, ffr, stops, out);
+    let from = free_from(pages, masked.reading, masked.pg, masked.lanes)?;
+    load_early(pages, masked, from, ffr, stops, out);
     Ok(())
 }
 
@@ -105,31 +114,29 @@ fn load_first_fault(
 #[inline(never)]
 fn load_any(
     pages: &Pages,
-    mode: LoadMode,
-    row: LoadRow,
-    base: u64,
-    index: u64,
+    load: &LoadFrom,
     vl: Vl,
     pg: &PReg,
     ffr: &mut PReg,
     stops: &mut Suppress,
     out: &mut ZReg,
 ) -> Result<(), AccessFault>
-    ensures done { let left = load_of mode row.dtype base index vl pages.now.memory stops.old
-        pg.now.bits ffr.old.bits in
+    ensures done { let l = load.now in
+        let left = load_of l.mode l.row.dtype l.base l.index vl pages.now.memory stops.old pg.now.bits ffr.old.bits in
         OnOk result (left ≡ Ok (record { z = out.new.bytes; ffr = ffr.new.bits; stops = stops.new })) }
-    ensures refused { let left = load_of mode row.dtype base index vl pages.now.memory stops.old
-        pg.now.bits ffr.old.bits in
+    ensures refused { let l = load.now in
+        let left = load_of l.mode l.row.dtype l.base l.index vl pages.now.memory stops.old pg.now.bits ffr.old.bits in
         IfErr result (λ fault. left ≡ Err fault) }
     ensures unchanged { OnErr result ((out.new ≡ out.old) × (ffr.new ≡ ffr.old) × (stops.new ≡ stops.old)) }
 {
-    let reading = Reading::new(row, base, index);
+    let reading = Reading::new(load.row, load.base, load.index);
     let lanes = vl.lanes(reading.element) as usize;
-    match mode {
+    let masked = Masked { reading, pg, lanes };
+    match load.mode {
         LoadMode::Plain => load_plain(pages, reading, pg, lanes, out),
-        LoadMode::FirstFault => load_first_fault(pages, reading, pg, lanes, ffr, stops, out),
+        LoadMode::FirstFault => load_first_fault(pages, &masked, ffr, stops, out),
         LoadMode::NonFault => {
-            load_early(pages, reading, pg, 0, lanes, ffr, stops, out);
+            load_early(pages, &masked, 0, ffr, stops, out);
             Ok(())
         }
     }
@@ -152,29 +159,21 @@ fn whole_width(row: LoadRow) -> Option<Width>
 /// LD1 of elements that have the same width in memory, where all are active and stand in one page that is mapped: whether
 /// they do. Most loads of a loop are such.
 #[inline(always)]
-fn load_whole(
-    pages: &Pages,
-    row: LoadRow,
-    base: u64,
-    index: u64,
-    vl: Vl,
-    pg: &PReg,
-    out: &mut ZReg,
-) -> bool
+fn load_whole(pages: &Pages, load: &LoadFrom, vl: Vl, pg: &PReg, out: &mut ZReg) -> bool
     ensures loaded { (stops : StopList) → (ffr : List ℕ) → IsTrue result
-        → load_of Plain row.dtype base index vl pages.now.memory stops pg.now.bits ffr
+        → load_of Plain load.now.row.dtype load.now.base load.now.index vl pages.now.memory stops pg.now.bits ffr
         ≡ Ok (record { z = out.new.bytes; ffr = ffr; stops = stops }) }
     ensures unchanged { result ≡ false → out.new ≡ out.old }
 {
-    let Some(width) = whole_width(row) else {
+    let Some(width) = whole_width(load.row) else {
         return false;
     };
     if !is_all_true(width, vl, pg) {
         return false;
     }
     let reading = Reading {
-        base,
-        index,
+        base: load.base,
+        index: load.index,
         memory: width,
         element: width,
         signed: false,
@@ -191,30 +190,27 @@ fn load_whole(
 /// element (LDFF1). Nothing changes then.
 pub fn load_into(
     pages: &Pages,
-    mode: LoadMode,
-    row: LoadRow,
-    base: u64,
-    index: u64,
+    load: &LoadFrom,
     vl: Vl,
     pg: &PReg,
     ffr: &mut PReg,
     stops: &mut Suppress,
     out: &mut ZReg,
 ) -> Result<(), AccessFault>
-    ensures done { let left = load_of mode row.dtype base index vl pages.now.memory stops.old
-        pg.now.bits ffr.old.bits in
+    ensures done { let l = load.now in
+        let left = load_of l.mode l.row.dtype l.base l.index vl pages.now.memory stops.old pg.now.bits ffr.old.bits in
         OnOk result (left ≡ Ok (record { z = out.new.bytes; ffr = ffr.new.bits; stops = stops.new })) }
-    ensures refused { let left = load_of mode row.dtype base index vl pages.now.memory stops.old
-        pg.now.bits ffr.old.bits in
+    ensures refused { let l = load.now in
+        let left = load_of l.mode l.row.dtype l.base l.index vl pages.now.memory stops.old pg.now.bits ffr.old.bits in
         IfErr result (λ fault. left ≡ Err fault) }
     ensures unchanged { OnErr result ((out.new ≡ out.old) × (ffr.new ≡ ffr.old) × (stops.new ≡ stops.old)) }
 {
-    if let LoadMode::Plain = mode {
-        if load_whole(pages, row, base, index, vl, pg, out) {
+    if let LoadMode::Plain = load.mode {
+        if load_whole(pages, load, vl, pg, out) {
             return Ok(());
         }
     }
-    load_any(pages, mode, row, base, index, vl, pg, ffr, stops, out)
+    load_any(pages, load, vl, pg, ffr, stops, out)
 }
 
 /// The same, giving the register.
@@ -241,6 +237,12 @@ pub fn load(
     ensures unchanged { OnErr result ((ffr.new ≡ ffr.old) × (stops.new ≡ stops.old)) }
 {
     let mut out = ZReg::zero();
-    load_into(pages, mode, row, base, index, vl, pg, ffr, stops, &mut out)?;
+    let load = LoadFrom {
+        mode,
+        row,
+        base,
+        index,
+    };
+    load_into(pages, &load, vl, pg, ffr, stops, &mut out)?;
     Ok(out)
 }

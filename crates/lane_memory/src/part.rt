@@ -29,7 +29,7 @@ impl SpanWriter for Part<'_> {
 
     #[inline(always)]
     fn write(&self, part: &mut [u8]) {
-        write_part(self.writing, self.pg, self.z, self.from, self.count, part);
+        write_part(self, part);
     }
 }
 
@@ -45,13 +45,6 @@ impl SpanWriter for Whole<'_> {
 
     #[inline(always)]
     fn write(&self, part: &mut [u8]) {
-        let Part {
-            writing,
-            pg,
-            z,
-            from,
-            count,
-        } = self.0;
-        write_whole(writing, pg, z, from, count, part);
+        write_whole(&self.0, part);
     }
 }

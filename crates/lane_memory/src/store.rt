@@ -46,58 +46,37 @@ fn store_one(
 }
 
 /// Stores the active of so many elements that stand in one page that may be written.
-fn store_part(
-    pages: &mut Pages,
-    writing: Writing,
-    pg: &PReg,
-    z: &ZReg,
-    from: usize,
-    count: usize,
-    place: usize,
-)
-    requires inside { from + count ≤ all_lanes writing.element }
-    requires part { IsPlaceOf pages.old.memory (target_of writing from) (width_bytes writing.memory * count) place }
-    ensures written { IsSpanWritten writing pg.now.bits z.now.bytes from count pages.old.memory pages.new.memory }
+fn store_part(pages: &mut Pages, elements: &Part<'_>, place: usize)
+    requires inside { elements.now.from + elements.now.count ≤ all_lanes elements.now.writing.element }
+    requires part { let w = elements.now.writing in
+        let len = width_bytes w.memory * elements.now.count in
+        IsPlaceOf pages.old.memory (target_of w elements.now.from) len place }
+    ensures written { let e = elements.now in
+        IsSpanWritten e.writing e.pg.now.bits e.z.now.bytes e.from e.count pages.old.memory pages.new.memory }
     ensures past { pages.new.past ≡ pages.old.past }
 {
-    let part = Part {
-        writing,
-        pg,
-        z,
-        from,
-        count,
-    };
-    let len = writing.memory.bytes() * count;
-    pages.write_span(writing.target(from), len as u32, place, &part);
+    let len = elements.writing.memory.bytes() * elements.count;
+    let address = elements.writing.target(elements.from);
+    pages.write_span(address, len as u32, place, elements);
 }
 
 /// Stores so many elements that are all active and stand in one page that may be written: one copy.
 #[inline(always)]
-fn store_full(
-    pages: &mut Pages,
-    writing: Writing,
-    pg: &PReg,
-    z: &ZReg,
-    from: usize,
-    count: usize,
-    place: usize,
-)
-    requires same { writing.memory ≡ writing.element }
-    requires inside { from + count ≤ all_lanes writing.element }
-    requires full { (e : ℕ) → e < from + count → active writing.element pg.now.bits e ≡ true }
-    requires part { IsPlaceOf pages.old.memory (target_of writing from) (width_bytes writing.memory * count) place }
-    ensures written { IsSpanWritten writing pg.now.bits z.now.bytes from count pages.old.memory pages.new.memory }
+fn store_full(pages: &mut Pages, elements: &Part<'_>, place: usize)
+    requires same { elements.now.writing.memory ≡ elements.now.writing.element }
+    requires inside { elements.now.from + elements.now.count ≤ all_lanes elements.now.writing.element }
+    requires full { let last = elements.now.from + elements.now.count in
+        (e : ℕ) → e < last → active elements.now.writing.element elements.now.pg.now.bits e ≡ true }
+    requires part { let w = elements.now.writing in
+        let len = width_bytes w.memory * elements.now.count in
+        IsPlaceOf pages.old.memory (target_of w elements.now.from) len place }
+    ensures written { let e = elements.now in
+        IsSpanWritten e.writing e.pg.now.bits e.z.now.bytes e.from e.count pages.old.memory pages.new.memory }
     ensures past { pages.new.past ≡ pages.old.past }
 {
-    let whole = Whole(Part {
-        writing,
-        pg,
-        z,
-        from,
-        count,
-    });
-    let len = writing.memory.bytes() * count;
-    pages.write_span(writing.target(from), len as u32, place, &whole);
+    let len = elements.writing.memory.bytes() * elements.count;
+    let address = elements.writing.target(elements.from);
+    pages.write_span(address, len as u32, place, &Whole(*elements));
 }
 
 /// Stores so many elements where they have the same width in memory, are all active and stand in one page that may be
@@ -118,7 +97,14 @@ fn store_at_once(pages: &mut Pages, writing: Writing, pg: &PReg, z: &ZReg, lanes
     let Some(place) = pages.place_mut(writing.target(0), len as u32) else {
         return false;
     };
-    store_full(pages, writing, pg, z, 0, lanes, place);
+    let elements = Part {
+        writing,
+        pg,
+        z,
+        from: 0,
+        count: lanes,
+    };
+    store_full(pages, &elements, place);
     true
 }
 
@@ -147,7 +133,14 @@ fn store_active(
         let address = writing.target(e);
         let count = count_in_page(address, writing.memory, to - e);
         if let Some(place) = pages.place_mut(address, (size * count) as u32) {
-            store_part(pages, writing, pg, z, e, count, place);
+            let elements = Part {
+                writing,
+                pg,
+                z,
+                from: e,
+                count,
+            };
+            store_part(pages, &elements, place);
             e += count;
         } else {
             if let Err(fault) = store_one(pages, writing, pg, z, e) {

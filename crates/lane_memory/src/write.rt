@@ -7,7 +7,7 @@ ghost use Rattle.lane_memory.specs.Writings.{IsMerged, IsWritten};
 
 use crate::full::is_full;
 use crate::keep::is_whole;
-use crate::writing::Writing;
+use crate::part::Part;
 use guest_types::length::Width;
 use guest_types::predicate::PReg;
 use guest_types::register::ZReg;
@@ -43,33 +43,41 @@ fn merge_active(out: &mut ZReg, width: Width, pg: &PReg, z: &ZReg, blocks: usize
 
 /// Elements that have the same width in memory and are all active: one copy.
 #[inline(always)]
-pub fn write_whole(
-    writing: Writing,
-    pg: &PReg,
-    z: &ZReg,
-    from: usize,
-    count: usize,
-    part: &mut [u8],
-)
-    requires same { writing.memory ≡ writing.element }
-    requires part { length part.old ≡ width_bytes writing.memory * count }
-    requires inside { from + count ≤ all_lanes writing.element }
-    requires full { (e : ℕ) → e < from + count → active writing.element pg.now.bits e ≡ true }
-    ensures { IsWritten writing pg.now.bits z.now.bytes from count part.old part.new }
+pub fn write_whole(elements: &Part<'_>, part: &mut [u8])
+    requires same { elements.now.writing.memory ≡ elements.now.writing.element }
+    requires part { length part.old ≡ width_bytes elements.now.writing.memory * elements.now.count }
+    requires inside { elements.now.from + elements.now.count ≤ all_lanes elements.now.writing.element }
+    requires full { let last = elements.now.from + elements.now.count in
+        (e : ℕ) → e < last → active elements.now.writing.element elements.now.pg.now.bits e ≡ true }
+    ensures { let e = elements.now in
+        IsWritten e.writing e.pg.now.bits e.z.now.bytes e.from e.count part.old part.new }
 {
+    let Part {
+        writing,
+        z,
+        from,
+        ..
+    } = *elements;
     let _blocks = blocks_of(z);
-    let _mask = pg;
     let at = writing.element.bytes() * from;
     part.copy_from_slice(&z.bytes[at..at + part.len()]);
 }
 
 // Elements that have the same width in memory: the part is merged as a register, block by block.
-fn merge_some(writing: Writing, pg: &PReg, z: &ZReg, from: usize, count: usize, part: &mut [u8])
-    requires same { writing.memory ≡ writing.element }
-    requires part { length part.old ≡ width_bytes writing.memory * count }
-    requires inside { from + count ≤ all_lanes writing.element }
-    ensures { IsWritten writing pg.now.bits z.now.bytes from count part.old part.new }
+fn merge_some(elements: &Part<'_>, part: &mut [u8])
+    requires same { elements.now.writing.memory ≡ elements.now.writing.element }
+    requires part { length part.old ≡ width_bytes elements.now.writing.memory * elements.now.count }
+    requires inside { elements.now.from + elements.now.count ≤ all_lanes elements.now.writing.element }
+    ensures { let e = elements.now in
+        IsWritten e.writing e.pg.now.bits e.z.now.bytes e.from e.count part.old part.new }
 {
+    let Part {
+        writing,
+        pg,
+        z,
+        from,
+        ..
+    } = *elements;
     let size = writing.element.bytes();
     let at = size * from;
     let end = at + part.len();
@@ -80,36 +88,37 @@ fn merge_some(writing: Writing, pg: &PReg, z: &ZReg, from: usize, count: usize, 
 }
 
 // Elements that have the same width in memory.
-fn merge_part(writing: Writing, pg: &PReg, z: &ZReg, from: usize, count: usize, part: &mut [u8])
-    requires same { writing.memory ≡ writing.element }
-    requires part { length part.old ≡ width_bytes writing.memory * count }
-    requires inside { from + count ≤ all_lanes writing.element }
-    ensures { IsWritten writing pg.now.bits z.now.bytes from count part.old part.new }
+fn merge_part(elements: &Part<'_>, part: &mut [u8])
+    requires same { elements.now.writing.memory ≡ elements.now.writing.element }
+    requires part { length part.old ≡ width_bytes elements.now.writing.memory * elements.now.count }
+    requires inside { elements.now.from + elements.now.count ≤ all_lanes elements.now.writing.element }
+    ensures { let e = elements.now in
+        IsWritten e.writing e.pg.now.bits e.z.now.bytes e.from e.count part.old part.new }
 {
-    if is_full(pg, writing.element, from + count) {
-        return write_whole(writing, pg, z, from, count, part);
+    let last = elements.from + elements.count;
+    if is_full(elements.pg, elements.writing.element, last) {
+        return write_whole(elements, part);
     }
-    merge_some(writing, pg, z, from, count, part);
+    merge_some(elements, part);
 }
 
 // Elements of so many bytes in memory and in the register. It is inlined where these are known.
 #[inline(always)]
-fn narrow(
-    writing: Writing,
-    memory: u32,
-    element: u32,
-    pg: &PReg,
-    z: &ZReg,
-    from: usize,
-    count: usize,
-    part: &mut [u8],
-)
-    requires memory { memory ≡ width_bytes writing.memory }
-    requires element { element ≡ width_bytes writing.element }
-    requires part { length part.old ≡ width_bytes writing.memory * count }
-    requires inside { from + count ≤ all_lanes writing.element }
-    ensures { IsWritten writing pg.now.bits z.now.bytes from count part.old part.new }
+fn narrow(elements: &Part<'_>, memory: u32, element: u32, part: &mut [u8])
+    requires memory { memory ≡ width_bytes elements.now.writing.memory }
+    requires element { element ≡ width_bytes elements.now.writing.element }
+    requires part { length part.old ≡ width_bytes elements.now.writing.memory * elements.now.count }
+    requires inside { elements.now.from + elements.now.count ≤ all_lanes elements.now.writing.element }
+    ensures { let e = elements.now in
+        IsWritten e.writing e.pg.now.bits e.z.now.bytes e.from e.count part.old part.new }
 {
+    let Part {
+        writing,
+        pg,
+        z,
+        from,
+        count,
+    } = *elements;
     for i in 0..count {
         if pg.is_active(writing.element, from + i) {
             let value = number(&z.bytes, element as usize * (from + i), element);
@@ -120,42 +129,36 @@ fn narrow(
 
 // The width in memory is chosen before the loop over elements.
 #[inline(always)]
-fn narrow_from(
-    writing: Writing,
-    element: u32,
-    pg: &PReg,
-    z: &ZReg,
-    from: usize,
-    count: usize,
-    part: &mut [u8],
-)
-    requires element { element ≡ width_bytes writing.element }
-    requires part { length part.old ≡ width_bytes writing.memory * count }
-    requires inside { from + count ≤ all_lanes writing.element }
-    ensures { IsWritten writing pg.now.bits z.now.bytes from count part.old part.new }
+fn narrow_from(elements: &Part<'_>, element: u32, part: &mut [u8])
+    requires element { element ≡ width_bytes elements.now.writing.element }
+    requires part { length part.old ≡ width_bytes elements.now.writing.memory * elements.now.count }
+    requires inside { elements.now.from + elements.now.count ≤ all_lanes elements.now.writing.element }
+    ensures { let e = elements.now in
+        IsWritten e.writing e.pg.now.bits e.z.now.bytes e.from e.count part.old part.new }
 {
-    match writing.memory {
-        Width::B => narrow(writing, 1, element, pg, z, from, count, part),
-        Width::H => narrow(writing, 2, element, pg, z, from, count, part),
-        Width::S => narrow(writing, 4, element, pg, z, from, count, part),
-        Width::D => narrow(writing, 8, element, pg, z, from, count, part),
+    match elements.writing.memory {
+        Width::B => narrow(elements, 1, element, part),
+        Width::H => narrow(elements, 2, element, part),
+        Width::S => narrow(elements, 4, element, part),
+        Width::D => narrow(elements, 8, element, part),
     }
 }
 
 /// Writes the active of so many elements from a place on to a part of memory.
 #[inline(never)]
-pub fn write_part(writing: Writing, pg: &PReg, z: &ZReg, from: usize, count: usize, part: &mut [u8])
-    requires part { length part.old ≡ width_bytes writing.memory * count }
-    requires inside { from + count ≤ all_lanes writing.element }
-    ensures { IsWritten writing pg.now.bits z.now.bytes from count part.old part.new }
+pub fn write_part(elements: &Part<'_>, part: &mut [u8])
+    requires part { length part.old ≡ width_bytes elements.now.writing.memory * elements.now.count }
+    requires inside { elements.now.from + elements.now.count ≤ all_lanes elements.now.writing.element }
+    ensures { let e = elements.now in
+        IsWritten e.writing e.pg.now.bits e.z.now.bytes e.from e.count part.old part.new }
 {
-    if writing.memory == writing.element {
-        return merge_part(writing, pg, z, from, count, part);
+    if elements.writing.memory == elements.writing.element {
+        return merge_part(elements, part);
     }
-    match writing.element {
-        Width::B => narrow_from(writing, 1, pg, z, from, count, part),
-        Width::H => narrow_from(writing, 2, pg, z, from, count, part),
-        Width::S => narrow_from(writing, 4, pg, z, from, count, part),
-        Width::D => narrow_from(writing, 8, pg, z, from, count, part),
+    match elements.writing.element {
+        Width::B => narrow_from(elements, 1, part),
+        Width::H => narrow_from(elements, 2, part),
+        Width::S => narrow_from(elements, 4, part),
+        Width::D => narrow_from(elements, 8, part),
     }
 }

@@ -11,6 +11,7 @@ use guest_types::predicate::PReg;
 use guest_types::register::ZReg;
 use lane_blocks::block::{block_at, register_bytes, used_blocks};
 use lane_blocks::mask::{bits_below, mask_at, nonzero_bits, put_mask, spread};
+use lane_blocks::shape::Shape;
 use std::simd::prelude::*;
 
 // A mask as lanes that are 1 or 0.
@@ -100,17 +101,11 @@ fn compare_block(op: LaneCompare, width: Width, p: u8x4, a: u8x32, b: u8x32) -> 
 }
 
 #[inline(always)]
-fn each_block(
-    op: LaneCompare,
-    width: Width,
-    vl: Vl,
-    pg: &PReg,
-    left: &ZReg,
-    right: &ZReg,
-    out: &mut PReg,
-)
-    ensures { out.new.bits ≡ compare_of op width (lanes vl width) pg.now.bits left.now.bytes right.now.bytes }
+fn each_block(op: LaneCompare, shape: Shape, pg: &PReg, left: &ZReg, right: &ZReg, out: &mut PReg)
+    ensures { let n = lanes shape.vl shape.width in
+        out.new.bits ≡ compare_of op shape.width n pg.now.bits left.now.bytes right.now.bytes }
 {
+    let Shape { width, vl } = shape;
     let used = bits_below(pg, register_bytes(vl));
     *out = PReg::none();
     for i in 0..used_blocks(vl) {
@@ -126,13 +121,17 @@ fn each_block(
 fn compare_in_8(op: LaneCompare, vl: Vl, pg: &PReg, left: &ZReg, right: &ZReg, out: &mut PReg)
     ensures { out.new.bits ≡ compare_of op Width.B (lanes vl Width.B) pg.now.bits left.now.bytes right.now.bytes }
 {
+    let shape = Shape {
+        width: Width::B,
+        vl,
+    };
     match op {
-        LaneCompare::Hs => each_block(LaneCompare::Hs, Width::B, vl, pg, left, right, out),
-        LaneCompare::Hi => each_block(LaneCompare::Hi, Width::B, vl, pg, left, right, out),
-        LaneCompare::Ge => each_block(LaneCompare::Ge, Width::B, vl, pg, left, right, out),
-        LaneCompare::Gt => each_block(LaneCompare::Gt, Width::B, vl, pg, left, right, out),
-        LaneCompare::Eq => each_block(LaneCompare::Eq, Width::B, vl, pg, left, right, out),
-        LaneCompare::Ne => each_block(LaneCompare::Ne, Width::B, vl, pg, left, right, out),
+        LaneCompare::Hs => each_block(LaneCompare::Hs, shape, pg, left, right, out),
+        LaneCompare::Hi => each_block(LaneCompare::Hi, shape, pg, left, right, out),
+        LaneCompare::Ge => each_block(LaneCompare::Ge, shape, pg, left, right, out),
+        LaneCompare::Gt => each_block(LaneCompare::Gt, shape, pg, left, right, out),
+        LaneCompare::Eq => each_block(LaneCompare::Eq, shape, pg, left, right, out),
+        LaneCompare::Ne => each_block(LaneCompare::Ne, shape, pg, left, right, out),
     }
 }
 
@@ -141,13 +140,17 @@ fn compare_in_8(op: LaneCompare, vl: Vl, pg: &PReg, left: &ZReg, right: &ZReg, o
 fn compare_in_16(op: LaneCompare, vl: Vl, pg: &PReg, left: &ZReg, right: &ZReg, out: &mut PReg)
     ensures { out.new.bits ≡ compare_of op Width.H (lanes vl Width.H) pg.now.bits left.now.bytes right.now.bytes }
 {
+    let shape = Shape {
+        width: Width::H,
+        vl,
+    };
     match op {
-        LaneCompare::Hs => each_block(LaneCompare::Hs, Width::H, vl, pg, left, right, out),
-        LaneCompare::Hi => each_block(LaneCompare::Hi, Width::H, vl, pg, left, right, out),
-        LaneCompare::Ge => each_block(LaneCompare::Ge, Width::H, vl, pg, left, right, out),
-        LaneCompare::Gt => each_block(LaneCompare::Gt, Width::H, vl, pg, left, right, out),
-        LaneCompare::Eq => each_block(LaneCompare::Eq, Width::H, vl, pg, left, right, out),
-        LaneCompare::Ne => each_block(LaneCompare::Ne, Width::H, vl, pg, left, right, out),
+        LaneCompare::Hs => each_block(LaneCompare::Hs, shape, pg, left, right, out),
+        LaneCompare::Hi => each_block(LaneCompare::Hi, shape, pg, left, right, out),
+        LaneCompare::Ge => each_block(LaneCompare::Ge, shape, pg, left, right, out),
+        LaneCompare::Gt => each_block(LaneCompare::Gt, shape, pg, left, right, out),
+        LaneCompare::Eq => each_block(LaneCompare::Eq, shape, pg, left, right, out),
+        LaneCompare::Ne => each_block(LaneCompare::Ne, shape, pg, left, right, out),
     }
 }
 
@@ -156,13 +159,17 @@ fn compare_in_16(op: LaneCompare, vl: Vl, pg: &PReg, left: &ZReg, right: &ZReg, 
 fn compare_in_32(op: LaneCompare, vl: Vl, pg: &PReg, left: &ZReg, right: &ZReg, out: &mut PReg)
     ensures { out.new.bits ≡ compare_of op Width.S (lanes vl Width.S) pg.now.bits left.now.bytes right.now.bytes }
 {
+    let shape = Shape {
+        width: Width::S,
+        vl,
+    };
     match op {
-        LaneCompare::Hs => each_block(LaneCompare::Hs, Width::S, vl, pg, left, right, out),
-        LaneCompare::Hi => each_block(LaneCompare::Hi, Width::S, vl, pg, left, right, out),
-        LaneCompare::Ge => each_block(LaneCompare::Ge, Width::S, vl, pg, left, right, out),
-        LaneCompare::Gt => each_block(LaneCompare::Gt, Width::S, vl, pg, left, right, out),
-        LaneCompare::Eq => each_block(LaneCompare::Eq, Width::S, vl, pg, left, right, out),
-        LaneCompare::Ne => each_block(LaneCompare::Ne, Width::S, vl, pg, left, right, out),
+        LaneCompare::Hs => each_block(LaneCompare::Hs, shape, pg, left, right, out),
+        LaneCompare::Hi => each_block(LaneCompare::Hi, shape, pg, left, right, out),
+        LaneCompare::Ge => each_block(LaneCompare::Ge, shape, pg, left, right, out),
+        LaneCompare::Gt => each_block(LaneCompare::Gt, shape, pg, left, right, out),
+        LaneCompare::Eq => each_block(LaneCompare::Eq, shape, pg, left, right, out),
+        LaneCompare::Ne => each_block(LaneCompare::Ne, shape, pg, left, right, out),
     }
 }
 
@@ -171,33 +178,37 @@ fn compare_in_32(op: LaneCompare, vl: Vl, pg: &PReg, left: &ZReg, right: &ZReg, 
 fn compare_in_64(op: LaneCompare, vl: Vl, pg: &PReg, left: &ZReg, right: &ZReg, out: &mut PReg)
     ensures { out.new.bits ≡ compare_of op Width.D (lanes vl Width.D) pg.now.bits left.now.bytes right.now.bytes }
 {
+    let shape = Shape {
+        width: Width::D,
+        vl,
+    };
     match op {
-        LaneCompare::Hs => each_block(LaneCompare::Hs, Width::D, vl, pg, left, right, out),
-        LaneCompare::Hi => each_block(LaneCompare::Hi, Width::D, vl, pg, left, right, out),
-        LaneCompare::Ge => each_block(LaneCompare::Ge, Width::D, vl, pg, left, right, out),
-        LaneCompare::Gt => each_block(LaneCompare::Gt, Width::D, vl, pg, left, right, out),
-        LaneCompare::Eq => each_block(LaneCompare::Eq, Width::D, vl, pg, left, right, out),
-        LaneCompare::Ne => each_block(LaneCompare::Ne, Width::D, vl, pg, left, right, out),
+        LaneCompare::Hs => each_block(LaneCompare::Hs, shape, pg, left, right, out),
+        LaneCompare::Hi => each_block(LaneCompare::Hi, shape, pg, left, right, out),
+        LaneCompare::Ge => each_block(LaneCompare::Ge, shape, pg, left, right, out),
+        LaneCompare::Gt => each_block(LaneCompare::Gt, shape, pg, left, right, out),
+        LaneCompare::Eq => each_block(LaneCompare::Eq, shape, pg, left, right, out),
+        LaneCompare::Ne => each_block(LaneCompare::Ne, shape, pg, left, right, out),
     }
 }
 
 /// `compare` into a predicate that is there.
 pub fn compare_into(
     op: LaneCompare,
-    width: Width,
-    vl: Vl,
+    shape: Shape,
     pg: &PReg,
     left: &ZReg,
     right: &ZReg,
     out: &mut PReg,
 )
-    ensures { out.new.bits ≡ compare_of op width (lanes vl width) pg.now.bits left.now.bytes right.now.bytes }
+    ensures { let n = lanes shape.vl shape.width in
+        out.new.bits ≡ compare_of op shape.width n pg.now.bits left.now.bytes right.now.bytes }
 {
-    match width {
-        Width::B => compare_in_8(op, vl, pg, left, right, out),
-        Width::H => compare_in_16(op, vl, pg, left, right, out),
-        Width::S => compare_in_32(op, vl, pg, left, right, out),
-        Width::D => compare_in_64(op, vl, pg, left, right, out),
+    match shape.width {
+        Width::B => compare_in_8(op, shape.vl, pg, left, right, out),
+        Width::H => compare_in_16(op, shape.vl, pg, left, right, out),
+        Width::S => compare_in_32(op, shape.vl, pg, left, right, out),
+        Width::D => compare_in_64(op, shape.vl, pg, left, right, out),
     }
 }
 
@@ -207,6 +218,6 @@ pub fn compare(op: LaneCompare, width: Width, vl: Vl, pg: &PReg, left: &ZReg, ri
     ensures { result.bits ≡ compare_of op width (lanes vl width) pg.now.bits left.now.bytes right.now.bytes }
 {
     let mut out = PReg::none();
-    compare_into(op, width, vl, pg, left, right, &mut out);
+    compare_into(op, Shape { width, vl }, pg, left, right, &mut out);
     out
 }

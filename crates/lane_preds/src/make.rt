@@ -32,14 +32,6 @@ fn lanes_below(lanes: u32, from: u64, to: u64) -> usize
     to.saturating_sub(from).min(lanes as u64) as usize
 }
 
-/// `while_lo` into a predicate that is there.
-pub fn while_lo_into(width: Width, vl: Vl, from: u64, to: u64, out: &mut PReg)
-    ensures { out.new.bits ≡ while_of width (lanes vl width) from to }
-{
-    let count = lanes_below(vl.lanes(width), from, to);
-    out.bits = first_elements(width, count).to_array();
-}
-
 /// `while_lo` into a predicate that is there, and the flags N, Z, C and V that it sets, as the four
 /// lowest bits, V the lowest: those of a test of every element (Arm DDI 0487: PredTest). V is 0.
 #[inline(always)]
@@ -61,6 +53,6 @@ pub fn while_lo(width: Width, vl: Vl, from: u64, to: u64) -> PReg
     ensures { result.bits ≡ while_of width (lanes vl width) from to }
 {
     let mut out = PReg::none();
-    while_lo_into(width, vl, from, to, &mut out);
+    let _flags = while_lo_test(width, vl, from, to, &mut out);
     out
 }

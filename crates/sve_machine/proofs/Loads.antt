@@ -164,6 +164,15 @@ gather_row gather_ops.Ld1sb zt rn pg zm r core memory = gathered_is zt rn pg zm 
 gather_row gather_ops.Ld1sh zt rn pg zm r core memory = gathered_is zt rn pg zm 8 r core memory
 gather_row gather_ops.Ld1sw zt rn pg zm r core memory = gathered_is zt rn pg zm 4 r core memory
 
+-- the same where the operands were read before
+pub load_by_operands : (mode : LoadMode) (dtype base index : ℕ) (row from at zt g : ℕ) (r : VectorState) (core : Core) (memory : Memory) → row ≡ dtype → from ≡ base → at ≡ index
+    → after_load (put_load (load_of mode dtype base index r.vl memory r.stops (p_of r g) r.ffr) zt r) core memory ≡ after_load (put_load (load_of mode row from at r.vl memory r.stops (p_of r g) r.ffr) zt r) core memory
+load_by_operands mode dtype base index row from at zt g r core memory d b i =
+    let left : ℕ → ℕ → ℕ → Result LoadLeft AccessFault = λ d b i. load_of mode d b i r.vl memory r.stops (p_of r g) r.ffr in
+    ap (λ n. after_load (put_load (left n base index) zt r) core memory) (sym d)
+    ∙ ap (λ n. after_load (put_load (left row n index) zt r) core memory) (sym b)
+    ∙ ap (λ n. after_load (put_load (left row from n) zt r) core memory) (sym i)
+
 -- ---- what a load answers
 
 pub load_went : (load : Result VectorState AccessFault) (core core2 : Core) (memory : Memory) (left : VectorState) → load ≡ Ok left → core2 ≡ record core { pc = (core.pc + 4) % 2 ^ 64 } → after_load load core memory ≡ Went (state_of core2 memory left)

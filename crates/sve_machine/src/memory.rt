@@ -18,10 +18,39 @@ ghost use Rattle.sve_machine.specs.Rows.{after_load, gather_dtype};
 use crate::vectors::Vectors;
 use a64_machine::{Core, refused};
 use guest_types::row::{LoadMode, LoadRow, StoreRow};
+use lane_memory::load::LoadFrom;
 use lane_memory::store::store;
 use machine_model::outcome::{Step, StopKind};
 use paged_memory::pages::Pages;
 use sve_code::{Dtype, GatherOp, GoverningReg, OffsetReg, Reg, StoreSizes, VectorReg};
+
+/// What a load of consecutive elements names: the register, the base, the mask and the form.
+#[derive(Clone, Copy)]
+pub struct LoadOperands {
+    pub zt: VectorReg,
+    pub rn: Reg,
+    pub pg: GoverningReg,
+    pub dtype: Dtype,
+}
+
+/// What a gather names: its form, the register, the base, the mask and the register of offsets.
+#[derive(Clone, Copy)]
+pub struct GatherOperands {
+    pub op: GatherOp,
+    pub zt: VectorReg,
+    pub rn: Reg,
+    pub pg: GoverningReg,
+    pub zm: VectorReg,
+}
+
+/// What a store names: the register, the base, the mask and the form.
+#[derive(Clone, Copy)]
+pub struct StoreOperands {
+    pub zt: VectorReg,
+    pub rn: Reg,
+    pub pg: GoverningReg,
+    pub sizes: StoreSizes,
+}
 
 // The form of a load.
 #[inline(always)]
@@ -59,23 +88,19 @@ fn load(
     core: &mut Core,
     pages: &Pages,
     vectors: &mut Vectors,
-    mode: LoadMode,
-    dtype: Dtype,
-    zt: VectorReg,
-    base: u64,
-    index: u64,
-    pg: GoverningReg,
+    operands: LoadOperands,
+    load: &LoadFrom,
     answer: &mut Step,
 ) -> bool
     ensures { let r = vectors.old in
         IsAnswer
-        (after_load (put_load (load_of mode (dtype_number dtype) base index r.vl pages.now.memory r.stops
-        (p_of r pg.number) r.ffr) zt.number r) core.old pages.now.memory)
+        (after_load (put_load (load_of load.now.mode load.now.row.dtype load.now.base load.now.index
+        r.vl pages.now.memory r.stops (p_of r operands.pg.number) r.ffr) operands.zt.number r)
+        core.old pages.now.memory)
         (said result answer.new) (state_of core.old pages.now.memory r)
         (state_of core.new pages.now.memory vectors.new) }
 {
-    let row = load_row(dtype);
-    match vectors.load(pages, mode, row, base, index, zt.number, pg.number) {
+    match vectors.load(pages, load, operands.zt.number, operands.pg.number) {
         Ok(()) => {
             core.go_on();
             true
@@ -89,31 +114,26 @@ pub fn contiguous_load(
     core: &mut Core,
     pages: &Pages,
     vectors: &mut Vectors,
-    zt: VectorReg,
-    rn: Reg,
-    pg: GoverningReg,
+    operands: LoadOperands,
     offset: OffsetReg,
-    dtype: Dtype,
     answer: &mut Step,
 ) -> bool
-    ensures { let before = state_of core.old pages.now.memory vectors.old in
-        IsAnswer (do_vector (instruction_view (Sve.ContiguousLoad zt rn pg offset dtype)) before)
+    ensures { let o = operands in
+        let before = state_of core.old pages.now.memory vectors.old in
+        IsAnswer (do_vector (instruction_view (Sve.ContiguousLoad o.zt o.rn o.pg offset o.dtype)) before)
         (said result answer.new) before (state_of core.new pages.now.memory vectors.new) }
 {
-    let base = core.register_or_sp(rn);
+    let mode = LoadMode::Plain;
+    let row = load_row(operands.dtype);
+    let base = core.register_or_sp(operands.rn);
     let index = offset_of(core, offset);
-    load(
-        core,
-        pages,
-        vectors,
-        LoadMode::Plain,
-        dtype,
-        zt,
+    let from = LoadFrom {
+        mode,
+        row,
         base,
         index,
-        pg,
-        answer,
-    )
+    };
+    load(core, pages, vectors, operands, &from, answer)
 }
 
 /// "LDFF1B (scalar plus scalar)" and its like.
@@ -121,32 +141,26 @@ pub fn first_fault_load(
     core: &mut Core,
     pages: &Pages,
     vectors: &mut Vectors,
-    zt: VectorReg,
-    rn: Reg,
-    pg: GoverningReg,
+    operands: LoadOperands,
     rm: Reg,
-    dtype: Dtype,
     answer: &mut Step,
 ) -> bool
-    ensures { let before = state_of core.old pages.now.memory vectors.old in
-        IsAnswer (do_vector (instruction_view (Sve.FirstFaultLoad zt rn pg rm dtype)) before)
-        (said result answer.new) before
-        (state_of core.new pages.now.memory vectors.new) }
+    ensures { let o = operands in
+        let before = state_of core.old pages.now.memory vectors.old in
+        IsAnswer (do_vector (instruction_view (Sve.FirstFaultLoad o.zt o.rn o.pg rm o.dtype)) before)
+        (said result answer.new) before (state_of core.new pages.now.memory vectors.new) }
 {
-    let base = core.register_or_sp(rn);
+    let mode = LoadMode::FirstFault;
+    let row = load_row(operands.dtype);
+    let base = core.register_or_sp(operands.rn);
     let index = core.register(rm);
-    load(
-        core,
-        pages,
-        vectors,
-        LoadMode::FirstFault,
-        dtype,
-        zt,
+    let from = LoadFrom {
+        mode,
+        row,
         base,
         index,
-        pg,
-        answer,
-    )
+    };
+    load(core, pages, vectors, operands, &from, answer)
 }
 
 /// "LDNF1B" and its like.
@@ -154,29 +168,24 @@ pub fn non_fault_load(
     core: &mut Core,
     pages: &Pages,
     vectors: &mut Vectors,
-    zt: VectorReg,
-    rn: Reg,
-    pg: GoverningReg,
-    dtype: Dtype,
+    operands: LoadOperands,
     answer: &mut Step,
 ) -> bool
-    ensures { let before = state_of core.old pages.now.memory vectors.old in
-        IsAnswer (do_vector (instruction_view (Sve.NonFaultLoad zt rn pg dtype)) before) (said result answer.new) before
-        (state_of core.new pages.now.memory vectors.new) }
+    ensures { let o = operands in
+        let before = state_of core.old pages.now.memory vectors.old in
+        IsAnswer (do_vector (instruction_view (Sve.NonFaultLoad o.zt o.rn o.pg o.dtype)) before)
+        (said result answer.new) before (state_of core.new pages.now.memory vectors.new) }
 {
-    let base = core.register_or_sp(rn);
-    load(
-        core,
-        pages,
-        vectors,
-        LoadMode::NonFault,
-        dtype,
-        zt,
+    let mode = LoadMode::NonFault;
+    let row = load_row(operands.dtype);
+    let base = core.register_or_sp(operands.rn);
+    let from = LoadFrom {
+        mode,
+        row,
         base,
-        0,
-        pg,
-        answer,
-    )
+        index: 0,
+    };
+    load(core, pages, vectors, operands, &from, answer)
 }
 
 // The form in which a gather reads.
@@ -203,21 +212,20 @@ fn gather(
     core: &mut Core,
     pages: &Pages,
     vectors: &mut Vectors,
+    operands: GatherOperands,
     row: LoadRow,
-    zt: VectorReg,
     base: u64,
-    zm: VectorReg,
-    pg: GoverningReg,
     answer: &mut Step,
 ) -> bool
     requires wide { (load_form row.dtype).element ≡ D }
     ensures { let r = vectors.old in
         IsAnswer
-        (after_load (put_load (gather_of row.dtype base r.vl pages.now.memory r.stops (z_of r zm.number)
-        (p_of r pg.number) r.ffr) zt.number r) core.old pages.now.memory)
+        (after_load (put_load (gather_of row.dtype base r.vl pages.now.memory r.stops (z_of r operands.zm.number)
+        (p_of r operands.pg.number) r.ffr) operands.zt.number r) core.old pages.now.memory)
         (said result answer.new) (state_of core.old pages.now.memory r)
         (state_of core.new pages.now.memory vectors.new) }
 {
+    let GatherOperands { zt, zm, pg, .. } = operands;
     match vectors.gather(pages, row, base, zm.number, zt.number, pg.number) {
         Ok(()) => {
             core.go_on();
@@ -232,20 +240,17 @@ pub fn gather_load(
     core: &mut Core,
     pages: &Pages,
     vectors: &mut Vectors,
-    op: GatherOp,
-    zt: VectorReg,
-    rn: Reg,
-    pg: GoverningReg,
-    zm: VectorReg,
+    operands: GatherOperands,
     answer: &mut Step,
 ) -> bool
-    ensures { let before = state_of core.old pages.now.memory vectors.old in
-        IsAnswer (do_vector (instruction_view (Sve.GatherLoad op zt rn pg zm)) before) (said result answer.new) before
-        (state_of core.new pages.now.memory vectors.new) }
+    ensures { let o = operands in
+        let before = state_of core.old pages.now.memory vectors.old in
+        IsAnswer (do_vector (instruction_view (Sve.GatherLoad o.op o.zt o.rn o.pg o.zm)) before)
+        (said result answer.new) before (state_of core.new pages.now.memory vectors.new) }
 {
-    let base = core.register_or_sp(rn);
-    let row = gather_row(op);
-    gather(core, pages, vectors, row, zt, base, zm, pg, answer)
+    let base = core.register_or_sp(operands.rn);
+    let row = gather_row(operands.op);
+    gather(core, pages, vectors, operands, row, base, answer)
 }
 
 /// "ST1B (scalar plus scalar)" and its like. A stop leaves its lower active elements written.
@@ -254,24 +259,22 @@ pub fn contiguous_store(
     core: &mut Core,
     pages: &mut Pages,
     vectors: &Vectors,
-    zt: VectorReg,
-    rn: Reg,
-    pg: GoverningReg,
+    operands: StoreOperands,
     offset: OffsetReg,
-    sizes: StoreSizes,
     answer: &mut Step,
 ) -> bool
-    ensures answer { let before = state_of core.old pages.old.memory vectors.now in
-        IsAnswer (do_vector (instruction_view (Sve.ContiguousStore zt rn pg offset sizes)) before)
+    ensures answer { let o = operands in
+        let before = state_of core.old pages.old.memory vectors.now in
+        IsAnswer (do_vector (instruction_view (Sve.ContiguousStore o.zt o.rn o.pg offset o.sizes)) before)
         (said result answer.new) before (state_of core.new pages.new.memory vectors.now) }
     ensures past { pages.new.past ≡ pages.old.past }
 {
-    let base = core.register_or_sp(rn);
+    let base = core.register_or_sp(operands.rn);
     let index = offset_of(core, offset);
-    let row = store_row(sizes);
+    let row = store_row(operands.sizes);
     let vl = vectors.vl();
-    let mask = vectors.p(pg.number);
-    let z = vectors.z(zt.number);
+    let mask = vectors.p(operands.pg.number);
+    let z = vectors.z(operands.zt.number);
     match store(pages, row, base, index, vl, mask, z) {
         Ok(()) => {
             core.go_on();

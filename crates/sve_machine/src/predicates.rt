@@ -15,6 +15,7 @@ use a64_machine::{Core, flags_are_kept};
 use guest_types::length::{Vl, Width};
 use guest_types::operation::PredOp;
 use guest_types::predicate::PReg;
+use lane_blocks::shape::Shape;
 use lane_preds::compare::compare_into;
 use lane_preds::logic::{brk_into, logic_into};
 use lane_preds::make::{all_true_into, while_lo_test};
@@ -109,19 +110,22 @@ fn set_flags_by(core: &mut Core, op: PredicateLogicalOp, vl: Vl, mask: &PReg, ou
     }
 }
 
+/// What an operation of predicates names beside the predicate that it writes.
+#[derive(Clone, Copy)]
+pub struct LogicOperands {
+    pub op: PredicateLogicalOp,
+    pub pn: PredicateReg,
+    pub pg: PredicateReg,
+    pub pm: PredicateReg,
+}
+
 /// "AND (predicates)", "BIC (predicates)", "EOR (predicates)", "ORR (predicates)", "ANDS".
 #[inline(never)]
-pub fn logic(
-    core: &mut Core,
-    vectors: &mut Vectors,
-    op: PredicateLogicalOp,
-    pd: PredicateReg,
-    pn: PredicateReg,
-    pg: PredicateReg,
-    pm: PredicateReg,
-)
-    ensures { RowLeaves (Sve.PredicateLogical op pd pn pg pm) core.old vectors.old core.new vectors.new }
+pub fn logic(core: &mut Core, vectors: &mut Vectors, pd: PredicateReg, operands: LogicOperands)
+    ensures { let o = operands in
+        RowLeaves (Sve.PredicateLogical o.op pd o.pn o.pg o.pm) core.old vectors.old core.new vectors.new }
 {
+    let LogicOperands { op, pn, pg, pm } = operands;
     let vl = vectors.vl();
     let operation = logic_op(op);
     let mask = vectors.p(pg.number);
@@ -259,20 +263,28 @@ pub fn count_true(
     core.set_register(rd, u64::from(lanes));
 }
 
+/// What a comparison names beside the predicate that it writes.
+#[derive(Clone, Copy)]
+pub struct CompareOperands {
+    pub op: VectorCompareOp,
+    pub zn: VectorReg,
+    pub pg: GoverningReg,
+    pub zm: VectorReg,
+}
+
 /// "CMP<cc> (vectors)".
 #[inline(never)]
 pub fn compare(
     core: &mut Core,
     vectors: &mut Vectors,
-    op: VectorCompareOp,
     pd: PredicateReg,
-    zn: VectorReg,
-    pg: GoverningReg,
-    zm: VectorReg,
     size: Size,
+    operands: CompareOperands,
 )
-    ensures { RowLeaves (Sve.CompareVectors op pd zn pg zm size) core.old vectors.old core.new vectors.new }
+    ensures { let o = operands in
+        RowLeaves (Sve.CompareVectors o.op pd o.zn o.pg o.zm size) core.old vectors.old core.new vectors.new }
 {
+    let CompareOperands { op, zn, pg, zm } = operands;
     let operation = comparison(op);
     let width = width_of(size);
     let vl = vectors.vl();
@@ -280,7 +292,7 @@ pub fn compare(
     let left = vectors.z(zn.number);
     let right = vectors.z(zm.number);
     let mut out = PReg::none();
-    compare_into(operation, width, vl, mask, left, right, &mut out);
+    compare_into(operation, Shape { width, vl }, mask, left, right, &mut out);
     set_flags(core, width, vl, mask, &out);
     vectors.set_p(pd.number, &out);
 }

@@ -13,8 +13,10 @@ ghost use Rattle.sve_machine.specs.Kinds.{IsExtension, IsOnActive, IsOnLanes, Is
 ghost use Rattle.sve_machine.specs.Rows.{RowLeaves};
 
 use crate::memory::{
-    contiguous_load, contiguous_store, first_fault_load, gather_load, non_fault_load,
+    GatherOperands, LoadOperands, StoreOperands, contiguous_load, contiguous_store,
+    first_fault_load, gather_load, non_fault_load,
 };
+use crate::predicates::{CompareOperands, LogicOperands};
 use crate::vectors::Vectors;
 use crate::{lanes, predicates};
 use a64_machine::Core;
@@ -43,19 +45,27 @@ pub fn vector_goes(
             pg,
             offset,
             dtype,
-        } => contiguous_load(core, pages, vectors, zt, rn, pg, offset, dtype, answer),
+        } => {
+            let operands = LoadOperands { zt, rn, pg, dtype };
+            contiguous_load(core, pages, vectors, operands, offset, answer)
+        }
         Sve::FirstFaultLoad {
             zt,
             rn,
             pg,
             rm,
             dtype,
-        } => first_fault_load(core, pages, vectors, zt, rn, pg, rm, dtype, answer),
+        } => {
+            let operands = LoadOperands { zt, rn, pg, dtype };
+            first_fault_load(core, pages, vectors, operands, rm, answer)
+        }
         Sve::NonFaultLoad { zt, rn, pg, dtype } => {
-            non_fault_load(core, pages, vectors, zt, rn, pg, dtype, answer)
+            let operands = LoadOperands { zt, rn, pg, dtype };
+            non_fault_load(core, pages, vectors, operands, answer)
         }
         Sve::GatherLoad { op, zt, rn, pg, zm } => {
-            gather_load(core, pages, vectors, op, zt, rn, pg, zm, answer)
+            let operands = GatherOperands { op, zt, rn, pg, zm };
+            gather_load(core, pages, vectors, operands, answer)
         }
         Sve::ContiguousStore {
             zt,
@@ -63,7 +73,10 @@ pub fn vector_goes(
             pg,
             offset,
             sizes,
-        } => contiguous_store(core, pages, vectors, zt, rn, pg, offset, sizes, answer),
+        } => {
+            let operands = StoreOperands { zt, rn, pg, sizes };
+            contiguous_store(core, pages, vectors, operands, offset, answer)
+        }
         _ => in_registers(core, vectors, word),
     }
 }
@@ -94,7 +107,7 @@ fn on_registers(core: &mut Core, vectors: &mut Vectors, word: Sve)
         }
         Sve::Ptest { pn, pg } => predicates::test(core, vectors, pn, pg),
         Sve::PredicateLogical { op, pd, pn, pg, pm } => {
-            predicates::logic(core, vectors, op, pd, pn, pg, pm)
+            predicates::logic(core, vectors, pd, LogicOperands { op, pn, pg, pm })
         }
         Sve::Break { op, pd, pn, pg } => predicates::break_at(vectors, op, pd, pn, pg),
         Sve::Rdffr { pd } => predicates::read_ffr(vectors, pd),
@@ -115,7 +128,7 @@ fn on_registers(core: &mut Core, vectors: &mut Vectors, word: Sve)
             pg,
             zm,
             size,
-        } => predicates::compare(core, vectors, op, pd, zn, pg, zm, size),
+        } => predicates::compare(core, vectors, pd, size, CompareOperands { op, zn, pg, zm }),
         _ => on_lanes(core, vectors, word),
     }
 }

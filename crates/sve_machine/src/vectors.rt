@@ -10,11 +10,12 @@ use guest_types::memory::AccessFault;
 use guest_types::operation::{LaneOp, LaneUnary, ShiftOp};
 use guest_types::predicate::PReg;
 use guest_types::register::ZReg;
-use guest_types::row::{LoadMode, LoadRow, StoreRow};
+use guest_types::row::LoadRow;
 use lane_arith::bank::{binary_in, merge_in, merge_one_in, select_in, shift_in};
 use lane_arith::fill::{dup_into, index_into};
+use lane_blocks::shape::Shape;
 use lane_memory::gather::gather_into;
-use lane_memory::load::load_into;
+use lane_memory::load::{LoadFrom, load_into};
 use lane_memory::suppress::Suppress;
 use lane_preds::test::is_all_true;
 use paged_memory::pages::Pages;
@@ -168,7 +169,8 @@ impl Vectors {
         ensures { self.new ≡ put_lanes self.old zd width (binary_at op width (z_of self.old zn) (z_of self.old zm)) }
     {
         let (left, right, out) = (zn as usize, zm as usize, zd as usize);
-        binary_in(op, width, self.vl, &mut self.z, left, right, out);
+        let shape = Shape { width, vl: self.vl };
+        binary_in(op, shape, &mut self.z, left, right, out);
     }
 
     /// An operation of the active elements of two vector registers, into the first of them.
@@ -185,7 +187,8 @@ impl Vectors {
             return;
         }
         let (right, out) = (zm as usize, zdn as usize);
-        merge_in(op, width, self.vl, mask, &mut self.z, right, out);
+        let shape = Shape { width, vl: self.vl };
+        merge_in(op, shape, mask, &mut self.z, right, out);
     }
 
     /// An operation of the active elements of a vector register, into another one.
@@ -199,7 +202,8 @@ impl Vectors {
     {
         let mask = &self.p[pg as usize];
         let (z, out) = (zn as usize, zd as usize);
-        merge_one_in(op, width, self.vl, mask, &mut self.z, z, out);
+        let shape = Shape { width, vl: self.vl };
+        merge_one_in(op, shape, mask, &mut self.z, z, out);
     }
 
     /// A shift of a vector register, into another one.
@@ -210,7 +214,8 @@ impl Vectors {
         ensures { self.new ≡ put_lanes self.old zd width (shift_at op width (z_of self.old zn) count) }
     {
         let (z, out) = (zn as usize, zd as usize);
-        shift_in(op, width, self.vl, &mut self.z, z, count, out);
+        let shape = Shape { width, vl: self.vl };
+        shift_in(op, shape, &mut self.z, z, count, out);
     }
 
     /// The same number in each element of a vector register.
@@ -240,37 +245,34 @@ impl Vectors {
     {
         let mask = &self.p[pg as usize];
         let (yes, no, out) = (zn as usize, zm as usize, zd as usize);
-        select_in(width, self.vl, mask, &mut self.z, yes, no, out);
+        let shape = Shape { width, vl: self.vl };
+        select_in(shape, mask, &mut self.z, yes, no, out);
     }
 
     /// Loads a vector register under a predicate register: LD1, LDFF1 or LDNF1 by the mode.
     pub fn load(
         &mut self,
         pages: &Pages,
-        mode: LoadMode,
-        row: LoadRow,
-        base: u64,
-        index: u64,
+        load: &LoadFrom,
         zt: u32,
         pg: u32,
     ) -> Result<(), AccessFault>
         requires register { zt < 32 }
         requires predicate { pg < 16 }
-        ensures done { OnOk result
-            (put_load (load_of mode row.dtype base index self.old.vl pages.now.memory self.old.stops
-            (p_of self.old pg) self.old.ffr) zt self.old ≡ Ok self.new) }
-        ensures refused { IfErr result (λ fault.
-            put_load (load_of mode row.dtype base index self.old.vl pages.now.memory self.old.stops
-            (p_of self.old pg) self.old.ffr) zt self.old ≡ Err fault) }
+        ensures done { let l = load.now in
+            let left = load_of l.mode l.row.dtype l.base l.index self.old.vl pages.now.memory self.old.stops
+            (p_of self.old pg) self.old.ffr in
+            OnOk result (put_load left zt self.old ≡ Ok self.new) }
+        ensures refused { let l = load.now in
+            let left = load_of l.mode l.row.dtype l.base l.index self.old.vl pages.now.memory self.old.stops
+            (p_of self.old pg) self.old.ffr in
+            IfErr result (λ fault. put_load left zt self.old ≡ Err fault) }
         ensures unchanged { OnErr result (self.new ≡ self.old) }
     {
         let mask = &self.p[pg as usize];
         load_into(
             pages,
-            mode,
-            row,
-            base,
-            index,
+            load,
             self.vl,
             mask,
             &mut self.ffr,
@@ -294,12 +296,12 @@ impl Vectors {
         requires wide { (load_form row.dtype).element ≡ D }
         requires offsets { zm < 32 }
         requires predicate { pg < 16 }
-        ensures done { OnOk result
-            (gather_of row.dtype base self.now.vl pages.now.memory self.now.stops (z_of self.now zm) (p_of self.now pg) self.now.ffr
-            ≡ Ok (record { z = out.new.bytes; ffr = self.now.ffr; stops = self.now.stops })) }
-        ensures refused { IfErr result (λ fault.
-            gather_of row.dtype base self.now.vl pages.now.memory self.now.stops (z_of self.now zm) (p_of self.now pg) self.now.ffr
-            ≡ Err fault) }
+        ensures done { let own = self.now in
+            let left = gather_of row.dtype base own.vl pages.now.memory own.stops (z_of own zm) (p_of own pg) own.ffr in
+            OnOk result (left ≡ Ok (record { z = out.new.bytes; ffr = own.ffr; stops = own.stops })) }
+        ensures refused { let own = self.now in
+            let left = gather_of row.dtype base own.vl pages.now.memory own.stops (z_of own zm) (p_of own pg) own.ffr in
+            IfErr result (λ fault. left ≡ Err fault) }
         ensures shape { OnOk result (IsVector self.now.vl out.new.bytes) }
     {
         // This call tells the proof that the length is a valid one, and that FFR has its shape.

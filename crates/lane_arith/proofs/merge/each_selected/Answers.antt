@@ -1,4 +1,4 @@
-use Rattle.std.proofs.Common.{◌≡◌, length, arith}
+use Rattle.std.proofs.Common.{arith}
 use Rattle.guest_types.specs.Lanes.{select_at}
 use Rattle.lane_blocks.proofs.BlockSteps.{holds-none, holds-end}
 use Rattle.lane_arith.proofs.Blocks.{select-step}
@@ -6,8 +6,7 @@ use Rattle.lane_arith.proofs.merge.each_selected.Goals as goal
 
 pub loop-i-init : goal.loop-i-init
 loop-i-init c =
-    let long : length c.args.out.now.bytes ≡ 256 = c.blocks_of-i-end.ensures.len in
-    holds-none c.args.width (select_at c.args.width c.args.pg.now.bits c.args.yes.now.bytes c.args.no.now.bytes) c.args.out.now.bytes long
+    holds-none c.args.width (select_at c.args.width c.args.pg.now.bits c.args.yes.now.bytes c.args.no.now.bytes) _ c.blocks_of-i-end.ensures.len
 
 pub loop-i-preserved : goal.loop-i-preserved
 loop-i-preserved c =

@@ -1,4 +1,4 @@
-use Rattle.std.proofs.Common.{◌≡◌, length, arith}
+use Rattle.std.proofs.Common.{arith}
 use Rattle.guest_types.specs.Lanes.{shift_at}
 use Rattle.lane_blocks.proofs.BlockSteps.{holds-none, holds-end}
 use Rattle.lane_arith.proofs.Blocks.{shift-step}
@@ -6,8 +6,7 @@ use Rattle.lane_arith.proofs.shift.each_shifted.Goals as goal
 
 pub loop-i-init : goal.loop-i-init
 loop-i-init c =
-    let long : length c.args.out.now.bytes ≡ 256 = c.blocks_of-i-end.ensures.len in
-    holds-none c.args.width (shift_at c.args.op c.args.width c.args.z.now.bytes c.args.count) c.args.out.now.bytes long
+    holds-none c.args.width (shift_at c.args.op c.args.width c.args.z.now.bytes c.args.count) _ c.blocks_of-i-end.ensures.len
 
 pub loop-i-preserved : goal.loop-i-preserved
 loop-i-preserved c =

@@ -17,8 +17,8 @@ returns-in-Plain-clause-done c =
     let ffr = c.args.ffr.now.bits in
     let n = c.lanes-lanes.result in
     on_ok_weaker c.load_plain.result
-    (λ h. ap (λ mode. load_of mode c.args.row.dtype c.args.base c.args.index c.args.vl m stops pg ffr) c.in-Plain.is
-    ∙ load_of-reading Plain c.args.row.dtype c.args.base c.args.index c.args.vl m stops pg ffr r n c.new-reading.ensures.form c.new-reading.ensures.base c.new-reading.ensures.index c.lanes-lanes.ensures.value
+    (λ h. ap (λ mode. load_of mode c.args.load.now.row.dtype c.args.load.now.base c.args.load.now.index c.args.vl m stops pg ffr) c.in-Plain.is
+    ∙ load_of-reading Plain c.args.load.now.row.dtype c.args.load.now.base c.args.load.now.index c.args.vl m stops pg ffr r n c.new-reading.ensures.form c.new-reading.ensures.base c.new-reading.ensures.index c.lanes-lanes.ensures.value
     ∙ ap (left_by_plain stops) h)
     (c.load_plain.ensures.done ffr)
 
@@ -32,9 +32,9 @@ returns-in-Plain-clause-refused c =
     let n = c.lanes-lanes.result in
     IfErr-weaker c.load_plain.result
     (λ fault. plain_load (form_of r) m (on_of r pg) (place_of r) n ffr ≡ Err fault)
-    (λ fault. load_of c.args.mode c.args.row.dtype c.args.base c.args.index c.args.vl m stops pg ffr ≡ Err fault)
-    (λ fault h. ap (λ mode. load_of mode c.args.row.dtype c.args.base c.args.index c.args.vl m stops pg ffr) c.in-Plain.is
-    ∙ load_of-reading Plain c.args.row.dtype c.args.base c.args.index c.args.vl m stops pg ffr r n c.new-reading.ensures.form c.new-reading.ensures.base c.new-reading.ensures.index c.lanes-lanes.ensures.value
+    (λ fault. load_of c.args.load.now.mode c.args.load.now.row.dtype c.args.load.now.base c.args.load.now.index c.args.vl m stops pg ffr ≡ Err fault)
+    (λ fault h. ap (λ mode. load_of mode c.args.load.now.row.dtype c.args.load.now.base c.args.load.now.index c.args.vl m stops pg ffr) c.in-Plain.is
+    ∙ load_of-reading Plain c.args.load.now.row.dtype c.args.load.now.base c.args.load.now.index c.args.vl m stops pg ffr r n c.new-reading.ensures.form c.new-reading.ensures.base c.new-reading.ensures.index c.lanes-lanes.ensures.value
     ∙ ap (left_by_plain stops) h)
     (c.load_plain.ensures.refused ffr)
 
@@ -47,8 +47,8 @@ returns-in-FirstFault-clause-done c =
     let ffr = c.args.ffr.now.bits in
     let n = c.lanes-lanes.result in
     on_ok_weaker c.load_first_fault.result
-    (λ h. ap (λ mode. load_of mode c.args.row.dtype c.args.base c.args.index c.args.vl m stops pg ffr) c.in-FirstFault.is
-    ∙ load_of-reading FirstFault c.args.row.dtype c.args.base c.args.index c.args.vl m stops pg ffr r n c.new-reading.ensures.form c.new-reading.ensures.base c.new-reading.ensures.index c.lanes-lanes.ensures.value
+    (λ h. ap (λ mode. load_of mode c.args.load.now.row.dtype c.args.load.now.base c.args.load.now.index c.args.vl m stops pg ffr) c.in-FirstFault.is
+    ∙ load_of-reading FirstFault c.args.load.now.row.dtype c.args.load.now.base c.args.load.now.index c.args.vl m stops pg ffr r n c.new-reading.ensures.form c.new-reading.ensures.base c.new-reading.ensures.index c.lanes-lanes.ensures.value
     ∙ h)
     c.load_first_fault.ensures.done
 
@@ -62,9 +62,9 @@ returns-in-FirstFault-clause-refused c =
     let n = c.lanes-lanes.result in
     IfErr-weaker c.load_first_fault.result
     (λ fault. first_fault_early (form_of r) m stops (on_of r pg) (place_of r) n ffr ≡ Err fault)
-    (λ fault. load_of c.args.mode c.args.row.dtype c.args.base c.args.index c.args.vl m stops pg ffr ≡ Err fault)
-    (λ fault h. ap (λ mode. load_of mode c.args.row.dtype c.args.base c.args.index c.args.vl m stops pg ffr) c.in-FirstFault.is
-    ∙ load_of-reading FirstFault c.args.row.dtype c.args.base c.args.index c.args.vl m stops pg ffr r n c.new-reading.ensures.form c.new-reading.ensures.base c.new-reading.ensures.index c.lanes-lanes.ensures.value
+    (λ fault. load_of c.args.load.now.mode c.args.load.now.row.dtype c.args.load.now.base c.args.load.now.index c.args.vl m stops pg ffr ≡ Err fault)
+    (λ fault h. ap (λ mode. load_of mode c.args.load.now.row.dtype c.args.load.now.base c.args.load.now.index c.args.vl m stops pg ffr) c.in-FirstFault.is
+    ∙ load_of-reading FirstFault c.args.load.now.row.dtype c.args.load.now.base c.args.load.now.index c.args.vl m stops pg ffr r n c.new-reading.ensures.form c.new-reading.ensures.base c.new-reading.ensures.index c.lanes-lanes.ensures.value
     ∙ ap left_by_first h)
     c.load_first_fault.ensures.refused
 
@@ -77,6 +77,6 @@ returns-in-NonFault-clause-done c =
     let ffr = c.args.ffr.now.bits in
     let n = c.lanes-lanes.result in
     let left : LoadLeft = record { z = c.load_early.new.out.bytes; ffr = c.load_early.new.ffr.bits; stops = c.load_early.new.stops } in
-    ap (λ mode. load_of mode c.args.row.dtype c.args.base c.args.index c.args.vl m stops pg ffr) c.in-NonFault.is
-    ∙ load_of-reading NonFault c.args.row.dtype c.args.base c.args.index c.args.vl m stops pg ffr r n c.new-reading.ensures.form c.new-reading.ensures.base c.new-reading.ensures.index c.lanes-lanes.ensures.value
+    ap (λ mode. load_of mode c.args.load.now.row.dtype c.args.load.now.base c.args.load.now.index c.args.vl m stops pg ffr) c.in-NonFault.is
+    ∙ load_of-reading NonFault c.args.load.now.row.dtype c.args.load.now.base c.args.load.now.index c.args.vl m stops pg ffr r n c.new-reading.ensures.form c.new-reading.ensures.base c.new-reading.ensures.index c.lanes-lanes.ensures.value
     ∙ ap Ok (all-free r m stops pg n ffr left c.load_early.ensures)

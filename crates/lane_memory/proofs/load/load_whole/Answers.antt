@@ -10,12 +10,12 @@ use Rattle.lane_memory.proofs.load.load_whole.Goals as goal
 pub returns-clause-loaded : goal.returns-clause-loaded
 returns-clause-loaded c stops ffr went =
     let w = c.in-Some.width in
-    let r : Reading = record { base = c.args.base; index = c.args.index; memory = w; element = w; signed = false } in
+    let r : Reading = record { base = c.args.load.now.base; index = c.args.load.now.index; memory = w; element = w; signed = false } in
     let m = c.args.pages.now.memory in
     let pg = c.args.pg.now.bits in
     let n = c.lanes-lanes.result in
     let done : plain_load (form_of r) m (on_of r pg) (place_of r) n ffr ≡ Ok (record { z = c.fill_full.new.out.bytes; ffr = ffr }) =
     ap (λ o. or_fault (fault_at (form_of r) m (place_of r) o) (record { z = lanes_of r m pg n; ffr = ffr })) (c.fill_full.ensures.free went)
     ∙ ap (λ z. Ok (record { z = z; ffr = ffr })) (sym (c.fill_full.ensures.filled went)) in
-    load_of-reading Plain c.args.row.dtype c.args.base c.args.index c.args.vl m stops pg ffr r n (sym c.in-Some.ensures) refl refl c.lanes-lanes.ensures.value
+    load_of-reading Plain c.args.load.now.row.dtype c.args.load.now.base c.args.load.now.index c.args.vl m stops pg ffr r n (sym c.in-Some.ensures) refl refl c.lanes-lanes.ensures.value
     ∙ ap (left_by_plain stops) done

@@ -2,8 +2,8 @@ use Rattle.std.proofs.Common.{arith}
 use Rattle.lane_memory.proofs.Sizes.{lanes_most}
 use Rattle.lane_memory.proofs.write.merge_part.Goals as goal
 
-pub overflow_add-from : goal.overflow_add-from
-overflow_add-from c = omega (arith, c.requires.inside, lanes_most c.args.writing.element)
+pub overflow_add-last : goal.overflow_add-last
+overflow_add-last c = omega (arith, c.requires.inside, lanes_most c.args.elements.now.writing.element)
 
 pub is_full-requires : goal.is_full-requires
 is_full-requires c = c.requires.inside

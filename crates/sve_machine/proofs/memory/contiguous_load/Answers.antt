@@ -1,21 +1,19 @@
-use Rattle.std.proofs.Common.{sym, ap₂, ◌∙◌, subst}
+use Rattle.std.proofs.Common.{sym, ◌∙◌, subst}
 use Rattle.guest_types.specs.declared.row.LoadMode.TheVariants.{Plain}
 use Rattle.sve_code.specs.Numbers.{dtype_number}
 use Rattle.machine_model.specs.Answers.{IsAnswer}
-use Rattle.lane_memory.specs.Loads.{load_of}
 use Rattle.a64_machine.specs.Cores.{state_of, said}
-use Rattle.sve_machine.specs.VectorStates.{p_of, put_load}
-use Rattle.sve_machine.specs.Rows.{after_load}
-use Rattle.sve_machine.proofs.Loads.{plain_row}
+use Rattle.sve_machine.proofs.Loads.{plain_row, load_by_operands}
 use Rattle.sve_machine.proofs.memory.contiguous_load.Goals as goal
 
 pub returns : goal.returns
 returns c =
+    let o = c.args.operands in
     let r = c.args.vectors.now in
     let core = c.args.core.now in
     let memory = c.args.pages.now.memory in
     let e =
-    plain_row c.args.zt.number c.args.rn.number c.args.pg.number c.args.offset.number (dtype_number c.args.dtype) r core memory
-    ∙ ap₂ (λ b i. after_load (put_load (load_of Plain (dtype_number c.args.dtype) b i r.vl memory r.stops (p_of r c.args.pg.number) r.ffr) c.args.zt.number r) core memory) (sym c.register_or_sp-base.ensures) (sym c.offset_of-index.ensures)
+    plain_row o.zt.number o.rn.number o.pg.number c.args.offset.number (dtype_number o.dtype) r core memory
+    ∙ load_by_operands Plain _ _ _ c.load_row-row.result.dtype c.register_or_sp-base.result c.offset_of-index.result o.zt.number o.pg.number r core memory c.load_row-row.ensures c.register_or_sp-base.ensures c.offset_of-index.ensures
     in
     subst (λ o. IsAnswer o (said c.load.result c.load.new.answer) (state_of core memory r) (state_of c.load.new.core memory c.load.new.vectors)) (sym e) c.load.ensures

@@ -13,7 +13,7 @@ returns c =
     let core = c.args.core.now in
     let memory = c.args.pages.now.memory in
     let e =
-    gather_row c.args.op c.args.zt.number c.args.rn.number c.args.pg.number c.args.zm.number r core memory
-    ∙ ap₂ (λ d b. after_load (put_load (gather_of d b r.vl memory r.stops (z_of r c.args.zm.number) (p_of r c.args.pg.number) r.ffr) c.args.zt.number r) core memory) (sym c.gather_row-row.ensures.dtype) (sym c.register_or_sp-base.ensures)
+    gather_row c.args.operands.op c.args.operands.zt.number c.args.operands.rn.number c.args.operands.pg.number c.args.operands.zm.number r core memory
+    ∙ ap₂ (λ d b. after_load (put_load (gather_of d b r.vl memory r.stops (z_of r c.args.operands.zm.number) (p_of r c.args.operands.pg.number) r.ffr) c.args.operands.zt.number r) core memory) (sym c.gather_row-row.ensures.dtype) (sym c.register_or_sp-base.ensures)
     in
     subst (λ o. IsAnswer o (said c.gather.result c.gather.new.answer) (state_of core memory r) (state_of c.gather.new.core memory c.gather.new.vectors)) (sym e) c.gather.ensures

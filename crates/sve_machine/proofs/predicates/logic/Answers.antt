@@ -10,13 +10,13 @@ use Rattle.sve_machine.proofs.predicates.logic.Goals as goal
 pub set_p-requires-clause-shape : goal.set_p-requires-clause-shape
 set_p-requires-clause-shape c =
     let r = c.args.vectors.now in
-    (logic_are r c.logic_op-operation.result c.args.pg.number c.args.pn.number c.args.pm.number c.p-mask.result.now.bits c.p-left.result.now.bits c.p-right.result.now.bits c.logic_into.new.out.bits (record { value = c.p-mask.ensures.value; shape = c.p-mask.ensures.shape; sized = c.p-mask.ensures.sized }) (record { value = c.p-left.ensures.value; shape = c.p-left.ensures.shape; sized = c.p-left.ensures.sized }) (record { value = c.p-right.ensures.value; shape = c.p-right.ensures.shape; sized = c.p-right.ensures.sized }) c.logic_into.ensures).shape
+    (logic_are r c.logic_op-operation.result c.args.operands.pg.number c.args.operands.pn.number c.args.operands.pm.number c.p-mask.result.now.bits c.p-left.result.now.bits c.p-right.result.now.bits c.logic_into.new.out.bits (record { value = c.p-mask.ensures.value; shape = c.p-mask.ensures.shape; sized = c.p-mask.ensures.sized }) (record { value = c.p-left.ensures.value; shape = c.p-left.ensures.shape; sized = c.p-left.ensures.sized }) (record { value = c.p-right.ensures.value; shape = c.p-right.ensures.shape; sized = c.p-right.ensures.sized }) c.logic_into.ensures).shape
 
 pub returns : goal.returns
 returns c =
     let r = c.args.vectors.now in
-    logic_row c.args.op c.args.pd.number c.args.pn.number c.args.pg.number c.args.pm.number c.args.core.now c.set_flags_by.new.core r c.set_p.new.self c.logic_op-operation.result c.p-mask.result.now.bits c.logic_into.new.out.bits
+    logic_row c.args.operands.op c.args.pd.number c.args.operands.pn.number c.args.operands.pg.number c.args.operands.pm.number c.args.core.now c.set_flags_by.new.core r c.set_p.new.self c.logic_op-operation.result c.p-mask.result.now.bits c.logic_into.new.out.bits
     c.vl-vl.ensures.sized c.logic_op-operation.ensures c.p-mask.ensures.value
-    (logic_are r c.logic_op-operation.result c.args.pg.number c.args.pn.number c.args.pm.number c.p-mask.result.now.bits c.p-left.result.now.bits c.p-right.result.now.bits c.logic_into.new.out.bits (record { value = c.p-mask.ensures.value; shape = c.p-mask.ensures.shape; sized = c.p-mask.ensures.sized }) (record { value = c.p-left.ensures.value; shape = c.p-left.ensures.shape; sized = c.p-left.ensures.sized }) (record { value = c.p-right.ensures.value; shape = c.p-right.ensures.shape; sized = c.p-right.ensures.sized }) c.logic_into.ensures)
+    (logic_are r c.logic_op-operation.result c.args.operands.pg.number c.args.operands.pn.number c.args.operands.pm.number c.p-mask.result.now.bits c.p-left.result.now.bits c.p-right.result.now.bits c.logic_into.new.out.bits (record { value = c.p-mask.ensures.value; shape = c.p-mask.ensures.shape; sized = c.p-mask.ensures.sized }) (record { value = c.p-left.ensures.value; shape = c.p-left.ensures.shape; sized = c.p-left.ensures.sized }) (record { value = c.p-right.ensures.value; shape = c.p-right.ensures.shape; sized = c.p-right.ensures.sized }) c.logic_into.ensures)
     c.set_p.ensures c.set_flags_by.ensures.kept
-    (c.set_flags_by.ensures.flags ∙ ap (λ n. logic_flags c.args.op (flags_in c.args.core.now.nzcv) (pred_test (active B c.p-mask.result.now.bits) (active B c.logic_into.new.out.bits) (lanes n B))) c.vl-vl.ensures.value)
+    (c.set_flags_by.ensures.flags ∙ ap (λ n. logic_flags c.args.operands.op (flags_in c.args.core.now.nzcv) (pred_test (active B c.p-mask.result.now.bits) (active B c.logic_into.new.out.bits) (lanes n B))) c.vl-vl.ensures.value)

@@ -15,16 +15,16 @@ invariant_of-self-2 c =
     let after = c.load_into.new in
     subst (λ p. IsVectorState (vector_state_of (slice_set own.z c.args.zt after.out) p after.ffr own.vl after.stops)) (sym (mask_back own.p c.args.pg))
     (load_put own.z own.p own.ffr own.vl own.stops after.ffr after.stops c.args.zt after.out c.self.invariant
-    (load_shape c.args.mode c.args.row.dtype c.args.base c.args.index own.vl c.args.pages.now.memory own.stops (get_or own.p c.args.pg (record { bits = [] })).bits own.ffr.bits _
+    (load_shape c.args.load.now.mode c.args.load.now.row.dtype c.args.load.now.base c.args.load.now.index own.vl c.args.pages.now.memory own.stops (get_or own.p c.args.pg (record { bits = [] })).bits own.ffr.bits _
     c.self.invariant.sized c.self.invariant.ffr_is c.in_ok-load_into.ensures.done))
 
 pub returns-clause-done : goal.returns-clause-done
 returns-clause-done c =
     let own = c.self.inside in
     let after = c.load_into.new in
-    subst (λ (r : VectorState). put_load (load_of c.args.mode c.args.row.dtype c.args.base c.args.index r.vl c.args.pages.now.memory r.stops (p_of r c.args.pg) r.ffr) c.args.zt r ≡ Ok (vector_state_of (slice_set own.z c.args.zt after.out) own.p after.ffr own.vl after.stops))
+    subst (λ (r : VectorState). put_load (load_of c.args.load.now.mode c.args.load.now.row.dtype c.args.load.now.base c.args.load.now.index r.vl c.args.pages.now.memory r.stops (p_of r c.args.pg) r.ffr) c.args.zt r ≡ Ok (vector_state_of (slice_set own.z c.args.zt after.out) own.p after.ffr own.vl after.stops))
     c.self.view_is
-    (load_done c.args.mode c.args.row.dtype c.args.base c.args.index c.args.pages.now.memory own.z own.p own.ffr own.vl own.stops c.args.pg c.args.zt after.ffr after.stops after.out c.in_ok-load_into.ensures.done)
+    (load_done c.args.load.now.mode c.args.load.now.row.dtype c.args.load.now.base c.args.load.now.index c.args.pages.now.memory own.z own.p own.ffr own.vl own.stops c.args.pg c.args.zt after.ffr after.stops after.out c.in_ok-load_into.ensures.done)
     ∙ ap Ok (ap (λ p. vector_state_of (slice_set own.z c.args.zt after.out) p after.ffr own.vl after.stops) (sym (mask_back own.p c.args.pg)))
 
 pub bounds-self-inside-pg : goal.bounds-self-inside-pg
@@ -47,10 +47,10 @@ returns-in_err-load_into c =
     record {
       done = on_error _ _ c.from_residual.ensures.0;
       refused =
-          error_is (λ fault. put_load (load_of c.args.mode c.args.row.dtype c.args.base c.args.index c.args.self.now.vl c.args.pages.now.memory c.args.self.now.stops (p_of c.args.self.now c.args.pg) c.args.self.now.ffr) c.args.zt c.args.self.now ≡ Err fault) c.in_err-load_into.field-0.0 c.from_residual.result
-          (subst (λ (r : VectorState). put_load (load_of c.args.mode c.args.row.dtype c.args.base c.args.index r.vl c.args.pages.now.memory r.stops (p_of r c.args.pg) r.ffr) c.args.zt r ≡ Err c.in_err-load_into.field-0.0)
+          error_is (λ fault. put_load (load_of c.args.load.now.mode c.args.load.now.row.dtype c.args.load.now.base c.args.load.now.index c.args.self.now.vl c.args.pages.now.memory c.args.self.now.stops (p_of c.args.self.now c.args.pg) c.args.self.now.ffr) c.args.zt c.args.self.now ≡ Err fault) c.in_err-load_into.field-0.0 c.from_residual.result
+          (subst (λ (r : VectorState). put_load (load_of c.args.load.now.mode c.args.load.now.row.dtype c.args.load.now.base c.args.load.now.index r.vl c.args.pages.now.memory r.stops (p_of r c.args.pg) r.ffr) c.args.zt r ≡ Err c.in_err-load_into.field-0.0)
           c.self.view_is
-          (load_refused c.args.mode c.args.row.dtype c.args.base c.args.index c.args.pages.now.memory own.z own.p own.ffr own.vl own.stops c.args.pg c.args.zt c.in_err-load_into.field-0.0 c.in_err-load_into.ensures.refused))
+          (load_refused c.args.load.now.mode c.args.load.now.row.dtype c.args.load.now.base c.args.load.now.index c.args.pages.now.memory own.z own.p own.ffr own.vl own.stops c.args.pg c.args.zt c.in_err-load_into.field-0.0 c.in_err-load_into.ensures.refused))
           c.from_residual.ensures.1;
       unchanged =
           in_error c.from_residual.result

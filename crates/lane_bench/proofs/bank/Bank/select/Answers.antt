@@ -1,0 +1,12 @@
+use Rattle.std.proofs.Common.{◌≡◌, length, arith, rules}
+use Rattle.lane_bench.proofs.Ends.{ends_made}
+use Rattle.lane_bench.proofs.bank.Bank.select.Goals as goal
+
+pub select_in-requires-clause-ends : goal.select_in-requires-clause-ends
+select_in-requires-clause-ends c = c.self.invariant.1
+
+pub invariant_of-self : goal.invariant_of-self
+invariant_of-self c =
+    let own = c.self.inside in
+    let long : length own.zs ≡ 32 = search rules in
+    (c.self.invariant.0, ends_made own.vl 0 c.args.width _ own.zs c.select_in.new.zs c.self.invariant.0 (omega (arith, long)) c.select_in.ensures)
