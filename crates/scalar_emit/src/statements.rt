@@ -22,7 +22,7 @@ use kernel_scope::{
 use kernel_tree::{Expr, Name, Part, Stmt, Ty, UpdateOp, parts};
 use label_fix::registers::ITERATION;
 use label_fix::{BranchKind, Draft, Label};
-use scalar_values::operations::{Made, emit_offset, want_operator};
+use scalar_values::operations::{Jump, Made, emit_offset, want_operator};
 use scalar_values::{emit_jump, emit_loose, emit_side, emit_value};
 use scalar_words::operations::{emit_copy, update_operator};
 use scalar_words::{Home, KernelLayout, Site};
@@ -266,7 +266,11 @@ fn emit_stmt<'a>(
         } => emit_store(draft, site, array, index, value, item),
         Part::Update { name, op, value } => emit_update(draft, site, name, op, value, item),
         Part::Break { cond } => {
-            emit_jump(draft, site, true, exit, cond, item)?;
+            let jump = Jump {
+                sense: true,
+                to: exit,
+            };
+            emit_jump(draft, site, jump, cond, item)?;
             *item += 1;
             Ok(())
         }
@@ -300,7 +304,11 @@ fn emit_if<'a>(
         (Choose (term_of cond.now) (block_of block.now) Nothing))) }
 {
     let other = draft.label()?;
-    emit_jump(draft, site, false, other, cond, item)?;
+    let past = Jump {
+        sense: false,
+        to: other,
+    };
+    emit_jump(draft, site, past, cond, item)?;
     *item += 1;
     emit_inner(draft, site, exit, block, item)?;
     land(draft, other, item)
@@ -336,7 +344,11 @@ fn emit_if_else<'a>(
         (Choose (term_of cond.now) (block_of block.now) (Else (block_of second.now))))) }
 {
     let other = draft.label()?;
-    emit_jump(draft, site, false, other, cond, item)?;
+    let past = Jump {
+        sense: false,
+        to: other,
+    };
+    emit_jump(draft, site, past, cond, item)?;
     *item += 1;
     emit_inner(draft, site, exit, block, item)?;
     let end = branch_ahead(draft, BranchKind::Always)?;

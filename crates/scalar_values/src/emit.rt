@@ -16,16 +16,16 @@ ghost use Rattle.scalar_values.specs.Sides.{side_view};
 use crate::fusion::{is_fused, is_led, part_side};
 use crate::literal::emit_literal;
 use crate::operations::{
-    Made, emit_branch, emit_chosen, emit_load, emit_offset, emit_pick, emit_placed, want_cast,
-    want_operator, want_shift, want_unary,
+    Jump, Made, emit_branch, emit_chosen, emit_load, emit_offset, emit_pick, emit_placed,
+    want_cast, want_operator, want_shift, want_unary,
 };
 use crate::registers::{home_of, take, take_held};
 use crate::side::Side;
 use a64_code::Reg;
 use kernel_scope::{array_type, first, own_type, side_type};
 use kernel_tree::{BinaryOp, Expr, Name, Ty};
+use label_fix::Draft;
 use label_fix::registers::ITERATION;
-use label_fix::{Draft, Label};
 use scalar_words::Site;
 use std::alloc::AllocError;
 use value_code::extent::{Asked, Extent, converted_extent, within_type};
@@ -320,7 +320,11 @@ fn emit_one_of(
             emit_chosen(draft, &site.layout, *op, want, (a, b), item)
         }
         _ => {
-            emit_jump(draft, site, false, other, cond, item)?;
+            let past = Jump {
+                sense: false,
+                to: other,
+            };
+            emit_jump(draft, site, past, cond, item)?;
             emit_pick(draft, &site.layout, (a, b), other, end, item)
         }
     }
@@ -372,24 +376,23 @@ fn emit_compared(
     }
 }
 
-/// The code of a condition, which goes to a label where its truth is `sense`, and else on.
+/// The code of a condition, which jumps where its truth is the one that is wanted, and else goes on.
 #[cycle(terms)]
 pub fn emit_jump(
     draft: &mut Draft,
     site: &Site,
-    sense: bool,
-    to: Label,
+    jump: Jump,
     expr: &Expr,
     item: &mut usize,
 ) -> Result<(), AllocError>
-    requires given { to < draft.old.labels }
+    requires given { jump.to < draft.old.labels }
     requires kind { IsTruth (term_of expr.now) }
     requires fits { item.old + term_size (index_at site.now) (term_of expr.now) < 2 ^ 32 }
     ensures item { OnOk result (item.new ≡ item.old + term_size (index_at site.now)
         (term_of expr.now)) }
     ensures emits { OnOk result (Emits draft.old draft.new
         (draft.old.labels + code.labels (index_at site.now) (term_of expr.now))
-        (at site.now code.jump_code sense to item.old draft.old.labels (term_of expr.now))) }
+        (at site.now code.jump_code jump.sense jump.to item.old draft.old.labels (term_of expr.now))) }
 {
     match expr {
         Expr::Compare { op, left, right } => {
@@ -398,12 +401,13 @@ pub fn emit_jump(
             let number = compared_number(want, right);
             let (a, b) = emit_compared(draft, site, want, number, left, right, item)?;
             *item += 1;
-            emit_branch(draft, *op, sense, want, number, (a, b), to)
+            emit_branch(draft, *op, jump, want, number, (a, b))
         }
-        Expr::And { left, right } => emit_both(draft, site, sense, to, left, right, item),
-        Expr::Or { left, right } => emit_either(draft, site, sense, to, left, right, item),
+        Expr::And { left, right } => emit_both(draft, site, jump, left, right, item),
+        Expr::Or { left, right } => emit_either(draft, site, jump, left, right, item),
         Expr::Not { arg } => {
-            emit_jump(draft, site, !sense, to, arg, item)?;
+            let Jump { sense, to } = jump;
+            emit_jump(draft, site, Jump { sense: !sense, to }, arg, item)?;
             *item += 1;
             Ok(())
         }
@@ -416,13 +420,12 @@ pub fn emit_jump(
 fn emit_both(
     draft: &mut Draft,
     site: &Site,
-    sense: bool,
-    to: Label,
+    jump: Jump,
     left: &Expr,
     right: &Expr,
     item: &mut usize,
 ) -> Result<(), AllocError>
-    requires given { to < draft.old.labels }
+    requires given { jump.to < draft.old.labels }
     requires left { IsTruth (term_of left.now) }
     requires right { IsTruth (term_of right.now) }
     requires fits { item.old + term_size (index_at site.now)
@@ -431,13 +434,14 @@ fn emit_both(
         (Both (term_of left.now) (term_of right.now))) }
     ensures emits { OnOk result (Emits draft.old draft.new
         (draft.old.labels + code.labels (index_at site.now) (Both (term_of left.now) (term_of right.now)))
-        (at site.now code.jump_code sense to item.old draft.old.labels
+        (at site.now code.jump_code jump.sense jump.to item.old draft.old.labels
         (Both (term_of left.now) (term_of right.now)))) }
 {
+    let Jump { sense, to } = jump;
     let over = draft.label()?;
-    let first = if sense { over } else { to };
-    emit_jump(draft, site, false, first, left, item)?;
-    emit_jump(draft, site, sense, to, right, item)?;
+    let to = if sense { over } else { to };
+    emit_jump(draft, site, Jump { sense: false, to }, left, item)?;
+    emit_jump(draft, site, jump, right, item)?;
     *item += 1;
     emit_placed(draft, sense, over)
 }
@@ -447,13 +451,12 @@ fn emit_both(
 fn emit_either(
     draft: &mut Draft,
     site: &Site,
-    sense: bool,
-    to: Label,
+    jump: Jump,
     left: &Expr,
     right: &Expr,
     item: &mut usize,
 ) -> Result<(), AllocError>
-    requires given { to < draft.old.labels }
+    requires given { jump.to < draft.old.labels }
     requires left { IsTruth (term_of left.now) }
     requires right { IsTruth (term_of right.now) }
     requires fits { item.old + term_size (index_at site.now)
@@ -462,14 +465,15 @@ fn emit_either(
         (Either (term_of left.now) (term_of right.now))) }
     ensures emits { OnOk result (Emits draft.old draft.new
         (draft.old.labels + code.labels (index_at site.now) (Either (term_of left.now) (term_of right.now)))
-        (at site.now code.jump_code sense to item.old draft.old.labels
+        (at site.now code.jump_code jump.sense jump.to item.old draft.old.labels
         (Either (term_of left.now) (term_of right.now)))) }
 {
+    let Jump { sense, to } = jump;
     let over = draft.label()?;
-    let first = if sense { to } else { over };
-    emit_jump(draft, site, true, first, left, item)?;
+    let to = if sense { to } else { over };
+    emit_jump(draft, site, Jump { sense: true, to }, left, item)?;
     *item += 1;
-    emit_jump(draft, site, sense, to, right, item)?;
+    emit_jump(draft, site, jump, right, item)?;
     *item += 1;
     emit_placed(draft, !sense, over)
 }

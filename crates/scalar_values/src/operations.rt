@@ -100,20 +100,27 @@ pub fn signed_side(want: Option<Ty>) -> bool
     }
 }
 
-/// A branch to a label where the truth of a comparison is `sense`.
+/// Where code goes to by the truth of a condition: the truth at which it does, and the label.
+#[derive(Clone, Copy)]
+pub struct Jump {
+    pub sense: bool,
+    pub to: Label,
+}
+
+/// The jump of a comparison.
 pub fn emit_branch(
     draft: &mut Draft,
     op: CompareOp,
-    sense: bool,
+    jump: Jump,
     want: Option<Ty>,
     number: Option<u64>,
     sides: (Reg, Reg),
-    to: Label,
 ) -> Result<(), AllocError>
-    requires { to < draft.old.labels }
+    requires { jump.to < draft.old.labels }
     ensures { OnOk result (Emits draft.old draft.new draft.old.labels
-        (words.branch_code op sense (code.signed_side want) number sides.0.number sides.1.number to)) }
+        (words.branch_code op jump.sense (code.signed_side want) number sides.0.number sides.1.number jump.to)) }
 {
+    let Jump { sense, to } = jump;
     let (a, b) = sides;
     let signed = signed_side(want);
     match zero_test(op, number) {

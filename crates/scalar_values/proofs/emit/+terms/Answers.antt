@@ -62,18 +62,18 @@ emit_sides-returns-in_ok-side t c = record {
 
 pub emit_both-returns : goal.emit_both-returns
 emit_both-returns t c =
-    let first : c.if-sense.first ≡ (if c.args.sense then c.in_ok-over.over else c.args.to) = elim c.if-sense.branch [ emit_both-then-sense w ↦ w.first-is ∙ sym (ap (λ (v : Bool). if v then c.in_ok-over.over else c.args.to) w.if-sense.true) | emit_both-else-sense w ↦ w.first-is ∙ sym (ap (λ (v : Bool). if v then c.in_ok-over.over else c.args.to) w.if-sense.false) ] in
+    let first : c.if-sense.to ≡ (if c.args.jump.sense then c.in_ok-over.over else c.args.jump.to) = elim c.if-sense.branch [ emit_both-then-sense w ↦ w.to-is ∙ sym (ap (λ (v : Bool). if v then c.in_ok-over.over else c.args.jump.to) w.if-sense.true) | emit_both-else-sense w ↦ w.to-is ∙ sym (ap (λ (v : Bool). if v then c.in_ok-over.over else c.args.jump.to) w.if-sense.false) ] in
     record {
       item = on_any c.emit_placed.result (both_items c.args.item.now (term_size (scope_of c.args.site.now.scope).index (term_of c.args.left.now)) (term_size (scope_of c.args.site.now.scope).index (term_of c.args.right.now)) c.emit_jump.new.item c.emit_jump-2.new.item c.in_ok-emit_jump.ensures.item c.in_ok-emit_jump-2.ensures.item);
-      emits = on_ok c.emit_placed.result c.emit_placed.ensures (both_emits c.args.site.now.layout (homes_of c.args.site.now.homes.items) (scope_of c.args.site.now.scope) c.args.sense c.args.to c.in_ok-over.over c.if-sense.first c.args.item.now c.emit_jump.new.item c.args.draft.now c.label.new.self c.emit_jump.new.draft c.emit_jump-2.new.draft c.emit_placed.new.draft (term_of c.args.left.now) (term_of c.args.right.now) first c.in_ok-over.ensures.next c.in_ok-over.ensures.count c.in_ok-over.ensures.entries c.in_ok-emit_jump.ensures.item c.in_ok-emit_jump.ensures.emits c.in_ok-emit_jump-2.ensures.emits);
+      emits = on_ok c.emit_placed.result c.emit_placed.ensures (both_emits c.args.site.now.layout (homes_of c.args.site.now.homes.items) (scope_of c.args.site.now.scope) c.args.jump.sense c.args.jump.to c.in_ok-over.over c.if-sense.to c.args.item.now c.emit_jump.new.item c.args.draft.now c.label.new.self c.emit_jump.new.draft c.emit_jump-2.new.draft c.emit_placed.new.draft (term_of c.args.left.now) (term_of c.args.right.now) first c.in_ok-over.ensures.next c.in_ok-over.ensures.count c.in_ok-over.ensures.entries c.in_ok-emit_jump.ensures.item c.in_ok-emit_jump.ensures.emits c.in_ok-emit_jump-2.ensures.emits);
     }
 
 pub emit_either-returns : goal.emit_either-returns
 emit_either-returns t c =
-    let first : c.if-sense.first ≡ (if c.args.sense then c.args.to else c.in_ok-over.over) = elim c.if-sense.branch [ emit_either-then-sense w ↦ w.first-is ∙ sym (ap (λ (v : Bool). if v then c.args.to else c.in_ok-over.over) w.if-sense.true) | emit_either-else-sense w ↦ w.first-is ∙ sym (ap (λ (v : Bool). if v then c.args.to else c.in_ok-over.over) w.if-sense.false) ] in
+    let first : c.if-sense.to ≡ (if c.args.jump.sense then c.args.jump.to else c.in_ok-over.over) = elim c.if-sense.branch [ emit_either-then-sense w ↦ w.to-is ∙ sym (ap (λ (v : Bool). if v then c.args.jump.to else c.in_ok-over.over) w.if-sense.true) | emit_either-else-sense w ↦ w.to-is ∙ sym (ap (λ (v : Bool). if v then c.args.jump.to else c.in_ok-over.over) w.if-sense.false) ] in
     record {
       item = on_any c.emit_placed.result (either_items c.args.item.now (term_size (scope_of c.args.site.now.scope).index (term_of c.args.left.now)) (term_size (scope_of c.args.site.now.scope).index (term_of c.args.right.now)) c.emit_jump.new.item c.emit_jump-2.new.item c.in_ok-emit_jump.ensures.item c.in_ok-emit_jump-2.ensures.item);
-      emits = on_ok c.emit_placed.result c.emit_placed.ensures (either_emits c.args.site.now.layout (homes_of c.args.site.now.homes.items) (scope_of c.args.site.now.scope) c.args.sense c.args.to c.in_ok-over.over c.if-sense.first c.args.item.now c.emit_jump.new.item c.args.draft.now c.label.new.self c.emit_jump.new.draft c.emit_jump-2.new.draft c.emit_placed.new.draft (term_of c.args.left.now) (term_of c.args.right.now) first c.in_ok-over.ensures.next c.in_ok-over.ensures.count c.in_ok-over.ensures.entries c.in_ok-emit_jump.ensures.item c.in_ok-emit_jump.ensures.emits c.in_ok-emit_jump-2.ensures.emits);
+      emits = on_ok c.emit_placed.result c.emit_placed.ensures (either_emits c.args.site.now.layout (homes_of c.args.site.now.homes.items) (scope_of c.args.site.now.scope) c.args.jump.sense c.args.jump.to c.in_ok-over.over c.if-sense.to c.args.item.now c.emit_jump.new.item c.args.draft.now c.label.new.self c.emit_jump.new.draft c.emit_jump-2.new.draft c.emit_placed.new.draft (term_of c.args.left.now) (term_of c.args.right.now) first c.in_ok-over.ensures.next c.in_ok-over.ensures.count c.in_ok-over.ensures.entries c.in_ok-emit_jump.ensures.item c.in_ok-emit_jump.ensures.emits c.in_ok-emit_jump-2.ensures.emits);
     }
 
 pub emit_loose-returns-in_ok-b-in-Select : goal.emit_loose-returns-in_ok-b-in-Select
@@ -216,7 +216,7 @@ emit_jump-returns-in_ok-a-in-Compare t c =
     let sides = c.in_ok-a-in-Compare.ensures in
     record {
       item = on_any c.emit_branch.result (compared_size (scope_of c.args.site.now.scope).index c.args.item.now c.emit_compared.new.item c.in-Compare.op (term_of c.deref.result.now) (term_of c.deref-in-Compare.result.now) (term_of c.args.expr.now) is c.in_ok-a-in-Compare.ensures.item);
-      emits = on_ok c.emit_branch.result c.emit_branch.ensures (compare_emits c.args.site.now.layout (homes_of c.args.site.now.homes.items) s c.args.sense c.args.to c.side_type-want.result c.args.item.now c.args.draft.now c.emit_compared.new.draft c.emit_branch.new.draft c.in-Compare.op x y (term_of c.args.expr.now) c.compared_number-number.result c.in_ok-a-in-Compare.a.number c.in_ok-a-in-Compare.b.number is c.side_type-want.ensures c.compared_number-number.ensures.number sides.left sides.right sides.emits);
+      emits = on_ok c.emit_branch.result c.emit_branch.ensures (compare_emits c.args.site.now.layout (homes_of c.args.site.now.homes.items) s c.args.jump.sense c.args.jump.to c.side_type-want.result c.args.item.now c.args.draft.now c.emit_compared.new.draft c.emit_branch.new.draft c.in-Compare.op x y (term_of c.args.expr.now) c.compared_number-number.result c.in_ok-a-in-Compare.a.number c.in_ok-a-in-Compare.b.number is c.side_type-want.ensures c.compared_number-number.ensures.number sides.left sides.right sides.emits);
     }
 
 pub emit_one_of-returns-in_ok-put-in-Compare : goal.emit_one_of-returns-in_ok-put-in-Compare
@@ -476,11 +476,11 @@ emit_two-returns-in_err-sides t c = record { register = IfOk-from_err _ _ c.from
 
 pub emit_both-emit_jump-requires : goal.emit_both-emit_jump-requires
 emit_both-emit_jump-requires t c =
-    let first : c.if-sense.first ≡ (if c.args.sense then c.in_ok-over.over else c.args.to) = elim c.if-sense.branch [ emit_both-then-sense w ↦ w.first-is ∙ sym (ap (λ (v : Bool). if v then c.in_ok-over.over else c.args.to) w.if-sense.true) | emit_both-else-sense w ↦ w.first-is ∙ sym (ap (λ (v : Bool). if v then c.in_ok-over.over else c.args.to) w.if-sense.false) ] in
-    (four_2_to_left_0 t (term_depth (term_of c.args.left.now)) (term_depth (term_of c.args.right.now)) c.decreases, (both_given c.args.sense c.if-sense.first c.in_ok-over.over c.args.to c.args.draft.now.labels c.label.new.self.labels first c.in_ok-over.ensures.next c.in_ok-over.ensures.count c.requires.given, (c.requires.left, left_room c.args.item.now (term_size (scope_of c.args.site.now.scope).index (term_of c.args.left.now)) (term_size (scope_of c.args.site.now.scope).index (term_of c.args.right.now)) c.requires.fits)))
+    let first : c.if-sense.to ≡ (if c.args.jump.sense then c.in_ok-over.over else c.args.jump.to) = elim c.if-sense.branch [ emit_both-then-sense w ↦ w.to-is ∙ sym (ap (λ (v : Bool). if v then c.in_ok-over.over else c.args.jump.to) w.if-sense.true) | emit_both-else-sense w ↦ w.to-is ∙ sym (ap (λ (v : Bool). if v then c.in_ok-over.over else c.args.jump.to) w.if-sense.false) ] in
+    (four_2_to_left_0 t (term_depth (term_of c.args.left.now)) (term_depth (term_of c.args.right.now)) c.decreases, (both_given c.args.jump.sense c.if-sense.to c.in_ok-over.over c.args.jump.to c.args.draft.now.labels c.label.new.self.labels first c.in_ok-over.ensures.next c.in_ok-over.ensures.count c.requires.given, (c.requires.left, left_room c.args.item.now (term_size (scope_of c.args.site.now.scope).index (term_of c.args.left.now)) (term_size (scope_of c.args.site.now.scope).index (term_of c.args.right.now)) c.requires.fits)))
 
 pub emit_both-emit_jump-requires-2 : goal.emit_both-emit_jump-requires-2
-emit_both-emit_jump-requires-2 t c = (four_2_to_right_0 t (term_depth (term_of c.args.left.now)) (term_depth (term_of c.args.right.now)) c.decreases, (given_past_label c.args.to c.args.draft.now.labels c.label.new.self.labels c.emit_jump.new.draft.labels (labels (scope_of c.args.site.now.scope).index (term_of c.args.left.now)) c.requires.given c.in_ok-over.ensures.count c.in_ok-emit_jump.ensures.emits.labels, (c.requires.right, right_room c.args.item.now (term_size (scope_of c.args.site.now.scope).index (term_of c.args.left.now)) (term_size (scope_of c.args.site.now.scope).index (term_of c.args.right.now)) c.emit_jump.new.item c.requires.fits c.in_ok-emit_jump.ensures.item)))
+emit_both-emit_jump-requires-2 t c = (four_2_to_right_0 t (term_depth (term_of c.args.left.now)) (term_depth (term_of c.args.right.now)) c.decreases, (given_past_label c.args.jump.to c.args.draft.now.labels c.label.new.self.labels c.emit_jump.new.draft.labels (labels (scope_of c.args.site.now.scope).index (term_of c.args.left.now)) c.requires.given c.in_ok-over.ensures.count c.in_ok-emit_jump.ensures.emits.labels, (c.requires.right, right_room c.args.item.now (term_size (scope_of c.args.site.now.scope).index (term_of c.args.left.now)) (term_size (scope_of c.args.site.now.scope).index (term_of c.args.right.now)) c.emit_jump.new.item c.requires.fits c.in_ok-emit_jump.ensures.item)))
 
 pub emit_both-overflow_add-item : goal.emit_both-overflow_add-item
 emit_both-overflow_add-item t c = last_fits c.args.item.now (term_size (scope_of c.args.site.now.scope).index (term_of c.args.left.now)) (term_size (scope_of c.args.site.now.scope).index (term_of c.args.right.now)) c.emit_jump.new.item c.emit_jump-2.new.item c.requires.fits c.in_ok-emit_jump.ensures.item c.in_ok-emit_jump-2.ensures.item
@@ -490,14 +490,14 @@ emit_both-emit_placed-requires t c = given_past_two_parts c.in_ok-over.over c.ar
 
 pub emit_either-emit_jump-requires : goal.emit_either-emit_jump-requires
 emit_either-emit_jump-requires t c =
-    let first : c.if-sense.first ≡ (if c.args.sense then c.args.to else c.in_ok-over.over) = elim c.if-sense.branch [ emit_either-then-sense w ↦ w.first-is ∙ sym (ap (λ (v : Bool). if v then c.args.to else c.in_ok-over.over) w.if-sense.true) | emit_either-else-sense w ↦ w.first-is ∙ sym (ap (λ (v : Bool). if v then c.args.to else c.in_ok-over.over) w.if-sense.false) ] in
-    (four_2_to_left_0 t (term_depth (term_of c.args.left.now)) (term_depth (term_of c.args.right.now)) c.decreases, (either_given c.args.sense c.if-sense.first c.in_ok-over.over c.args.to c.args.draft.now.labels c.label.new.self.labels first c.in_ok-over.ensures.next c.in_ok-over.ensures.count c.requires.given, (c.requires.left, either_left_room c.args.item.now (term_size (scope_of c.args.site.now.scope).index (term_of c.args.left.now)) (term_size (scope_of c.args.site.now.scope).index (term_of c.args.right.now)) c.requires.fits)))
+    let first : c.if-sense.to ≡ (if c.args.jump.sense then c.args.jump.to else c.in_ok-over.over) = elim c.if-sense.branch [ emit_either-then-sense w ↦ w.to-is ∙ sym (ap (λ (v : Bool). if v then c.args.jump.to else c.in_ok-over.over) w.if-sense.true) | emit_either-else-sense w ↦ w.to-is ∙ sym (ap (λ (v : Bool). if v then c.args.jump.to else c.in_ok-over.over) w.if-sense.false) ] in
+    (four_2_to_left_0 t (term_depth (term_of c.args.left.now)) (term_depth (term_of c.args.right.now)) c.decreases, (either_given c.args.jump.sense c.if-sense.to c.in_ok-over.over c.args.jump.to c.args.draft.now.labels c.label.new.self.labels first c.in_ok-over.ensures.next c.in_ok-over.ensures.count c.requires.given, (c.requires.left, either_left_room c.args.item.now (term_size (scope_of c.args.site.now.scope).index (term_of c.args.left.now)) (term_size (scope_of c.args.site.now.scope).index (term_of c.args.right.now)) c.requires.fits)))
 
 pub emit_either-overflow_add-item : goal.emit_either-overflow_add-item
 emit_either-overflow_add-item t c = either_mark_fits c.args.item.now (term_size (scope_of c.args.site.now.scope).index (term_of c.args.left.now)) (term_size (scope_of c.args.site.now.scope).index (term_of c.args.right.now)) c.emit_jump.new.item c.requires.fits c.in_ok-emit_jump.ensures.item
 
 pub emit_either-emit_jump-requires-2 : goal.emit_either-emit_jump-requires-2
-emit_either-emit_jump-requires-2 t c = (four_2_to_right_0 t (term_depth (term_of c.args.left.now)) (term_depth (term_of c.args.right.now)) c.decreases, (given_past_label c.args.to c.args.draft.now.labels c.label.new.self.labels c.emit_jump.new.draft.labels (labels (scope_of c.args.site.now.scope).index (term_of c.args.left.now)) c.requires.given c.in_ok-over.ensures.count c.in_ok-emit_jump.ensures.emits.labels, (c.requires.right, either_right_room c.args.item.now (term_size (scope_of c.args.site.now.scope).index (term_of c.args.left.now)) (term_size (scope_of c.args.site.now.scope).index (term_of c.args.right.now)) c.emit_jump.new.item c.requires.fits c.in_ok-emit_jump.ensures.item)))
+emit_either-emit_jump-requires-2 t c = (four_2_to_right_0 t (term_depth (term_of c.args.left.now)) (term_depth (term_of c.args.right.now)) c.decreases, (given_past_label c.args.jump.to c.args.draft.now.labels c.label.new.self.labels c.emit_jump.new.draft.labels (labels (scope_of c.args.site.now.scope).index (term_of c.args.left.now)) c.requires.given c.in_ok-over.ensures.count c.in_ok-emit_jump.ensures.emits.labels, (c.requires.right, either_right_room c.args.item.now (term_size (scope_of c.args.site.now.scope).index (term_of c.args.left.now)) (term_size (scope_of c.args.site.now.scope).index (term_of c.args.right.now)) c.emit_jump.new.item c.requires.fits c.in_ok-emit_jump.ensures.item)))
 
 pub emit_either-overflow_add-item-2 : goal.emit_either-overflow_add-item-2
 emit_either-overflow_add-item-2 t c = either_last_fits c.args.item.now (term_size (scope_of c.args.site.now.scope).index (term_of c.args.left.now)) (term_size (scope_of c.args.site.now.scope).index (term_of c.args.right.now)) c.emit_jump.new.item c.emit_jump-2.new.item c.requires.fits c.in_ok-emit_jump.ensures.item c.in_ok-emit_jump-2.ensures.item
@@ -533,14 +533,14 @@ emit_jump-overflow_add-item t c =
     truth_fits c.args.item.now (term_size (scope_of c.args.site.now.scope).index (term_of c.deref.result.now)) (term_size (scope_of c.args.site.now.scope).index (term_of c.deref-in-Compare.result.now)) (term_size (scope_of c.args.site.now.scope).index (term_of c.args.expr.now)) c.emit_compared.new.item (ap (term_size (scope_of c.args.site.now.scope).index) is) c.requires.fits c.in_ok-a-in-Compare.ensures.item
 
 pub emit_jump-emit_branch-requires : goal.emit_jump-emit_branch-requires
-emit_jump-emit_branch-requires t c = compared_given c.args.to c.args.draft.now.labels c.emit_compared.new.draft.labels (labels (scope_of c.args.site.now.scope).index (term_of c.deref.result.now)) (labels (scope_of c.args.site.now.scope).index (term_of c.deref-in-Compare.result.now)) c.requires.given c.in_ok-a-in-Compare.ensures.emits.labels
+emit_jump-emit_branch-requires t c = compared_given c.args.jump.to c.args.draft.now.labels c.emit_compared.new.draft.labels (labels (scope_of c.args.site.now.scope).index (term_of c.deref.result.now)) (labels (scope_of c.args.site.now.scope).index (term_of c.deref-in-Compare.result.now)) c.requires.given c.in_ok-a-in-Compare.ensures.emits.labels
 
 pub emit_jump-returns-in-And : goal.emit_jump-returns-in-And
 emit_jump-returns-in-And t c =
     let is : term_of c.args.expr.now ≡ Both (term_of c.deref-in-And.result.now) (term_of c.deref-in-And-2.result.now) = and_of c.args.expr.now c.in-And.left c.in-And.right c.deref-in-And.result.now c.deref-in-And-2.result.now c.in-And.is c.deref-in-And.ensures c.deref-in-And-2.ensures in
     record {
       item = on_ok_weaker c.emit_both.result (item_as (scope_of c.args.site.now.scope).index c.args.item.now c.emit_both.new.item (term_of c.args.expr.now) _ is) c.emit_both.ensures.item;
-      emits = on_ok_weaker c.emit_both.result (λ p. jump_as c.args.site.now.layout (homes_of c.args.site.now.homes.items) (scope_of c.args.site.now.scope) c.args.sense c.args.to c.args.item.now c.args.draft.now c.emit_both.new.draft (term_of c.args.expr.now) (Both (term_of c.deref-in-And.result.now) (term_of c.deref-in-And-2.result.now)) is p) c.emit_both.ensures.emits;
+      emits = on_ok_weaker c.emit_both.result (λ p. jump_as c.args.site.now.layout (homes_of c.args.site.now.homes.items) (scope_of c.args.site.now.scope) c.args.jump.sense c.args.jump.to c.args.item.now c.args.draft.now c.emit_both.new.draft (term_of c.args.expr.now) (Both (term_of c.deref-in-And.result.now) (term_of c.deref-in-And-2.result.now)) is p) c.emit_both.ensures.emits;
     }
 
 pub emit_jump-returns-in-Or : goal.emit_jump-returns-in-Or
@@ -548,7 +548,7 @@ emit_jump-returns-in-Or t c =
     let is : term_of c.args.expr.now ≡ Either (term_of c.deref-in-Or.result.now) (term_of c.deref-in-Or-2.result.now) = or_of c.args.expr.now c.in-Or.left c.in-Or.right c.deref-in-Or.result.now c.deref-in-Or-2.result.now c.in-Or.is c.deref-in-Or.ensures c.deref-in-Or-2.ensures in
     record {
       item = on_ok_weaker c.emit_either.result (item_as (scope_of c.args.site.now.scope).index c.args.item.now c.emit_either.new.item (term_of c.args.expr.now) _ is) c.emit_either.ensures.item;
-      emits = on_ok_weaker c.emit_either.result (λ p. jump_as c.args.site.now.layout (homes_of c.args.site.now.homes.items) (scope_of c.args.site.now.scope) c.args.sense c.args.to c.args.item.now c.args.draft.now c.emit_either.new.draft (term_of c.args.expr.now) (Either (term_of c.deref-in-Or.result.now) (term_of c.deref-in-Or-2.result.now)) is p) c.emit_either.ensures.emits;
+      emits = on_ok_weaker c.emit_either.result (λ p. jump_as c.args.site.now.layout (homes_of c.args.site.now.homes.items) (scope_of c.args.site.now.scope) c.args.jump.sense c.args.jump.to c.args.item.now c.args.draft.now c.emit_either.new.draft (term_of c.args.expr.now) (Either (term_of c.deref-in-Or.result.now) (term_of c.deref-in-Or-2.result.now)) is p) c.emit_either.ensures.emits;
     }
 
 pub emit_jump-overflow_add-item-in-Not : goal.emit_jump-overflow_add-item-in-Not
@@ -561,7 +561,7 @@ emit_jump-returns-in_ok-emit_jump-in-Not t c =
     let is : term_of c.args.expr.now ≡ Not (term_of c.deref-in-Not.result.now) = not_of c.args.expr.now c.in-Not.arg c.deref-in-Not.result.now c.in-Not.is c.deref-in-Not.ensures in
     record {
       item = one_part c.args.item.now (term_size (scope_of c.args.site.now.scope).index (term_of c.args.expr.now)) (term_size (scope_of c.args.site.now.scope).index (term_of c.deref-in-Not.result.now)) c.emit_jump.new.item (ap (term_size (scope_of c.args.site.now.scope).index) is) c.in_ok-emit_jump-in-Not.ensures.item;
-      emits = jump_as c.args.site.now.layout (homes_of c.args.site.now.homes.items) (scope_of c.args.site.now.scope) c.args.sense c.args.to c.args.item.now c.args.draft.now c.emit_jump.new.draft (term_of c.args.expr.now) (Not (term_of c.deref-in-Not.result.now)) is (record { labels = c.in_ok-emit_jump-in-Not.ensures.emits.labels; code = λ rest. c.in_ok-emit_jump-in-Not.ensures.emits.code rest });
+      emits = jump_as c.args.site.now.layout (homes_of c.args.site.now.homes.items) (scope_of c.args.site.now.scope) c.args.jump.sense c.args.jump.to c.args.item.now c.args.draft.now c.emit_jump.new.draft (term_of c.args.expr.now) (Not (term_of c.deref-in-Not.result.now)) is (record { labels = c.in_ok-emit_jump-in-Not.ensures.emits.labels; code = λ rest. c.in_ok-emit_jump-in-Not.ensures.emits.code rest });
     }
 
 -- ---- a value by its kind
