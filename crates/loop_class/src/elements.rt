@@ -12,7 +12,7 @@ use crate::updates::has_break;
 use guest_types::length::Width;
 use kernel_tree::Checked;
 use loop_form::{Content, Entry, Stream, is_stream};
-use loop_lists::{entry_reach, lane_width};
+use loop_lists::entry_reach;
 
 fn is_store_to(entry: &Entry<'_>, array: &str) -> bool
     ensures { result ≡ stores_to array.now (entry_of entry.now) }
@@ -52,18 +52,11 @@ fn stores(entries: &[Entry<'_>]) -> bool
     false
 }
 
-fn is_narrow_lane(width: Width) -> bool
+// Whether lanes are narrower than an address.
+fn has_narrow_lanes(width: Width) -> bool
     ensures { result ≡ is_narrow width }
 {
     width.bits() < 64
-}
-
-// Whether the lanes are narrower than an address.
-#[tactic(auto, unfolding(loop_form::specs::View::program))]
-fn has_narrow_lanes(kernel: &Checked) -> bool
-    ensures { result ≡ is_narrow (lane_width_of (program kernel.now)) }
-{
-    is_narrow_lane(lane_width(kernel))
 }
 
 fn is_endless(kernel: &Checked, entry: &Entry<'_>) -> bool
@@ -75,15 +68,17 @@ fn is_endless(kernel: &Checked, entry: &Entry<'_>) -> bool
 // What stands against a read of an array by a computed index.
 fn is_barred_from(
     kernel: &Checked,
+    width: Width,
     all: &[Entry<'_>],
     following: &[Entry<'_>],
     array: &str,
     entry: &Entry<'_>,
 ) -> bool
+    requires { width ≡ lane_width_of (program kernel.now) }
     ensures { result ≡ is_barred_read (program kernel.now) (entries_view all.now) (entries_view following.now) array.now
         (entry_of entry.now) }
 {
-    if has_narrow_lanes(kernel) {
+    if has_narrow_lanes(width) {
         return true;
     }
     if has_break(following) {
@@ -97,16 +92,18 @@ fn is_barred_from(
 
 fn is_barred_entry(
     kernel: &Checked,
+    width: Width,
     all: &[Entry<'_>],
     following: &[Entry<'_>],
     entry: &Entry<'_>,
 ) -> bool
+    requires { width ≡ lane_width_of (program kernel.now) }
     ensures { result ≡ is_barred (program kernel.now) (entries_view all.now) (entries_view following.now)
         (entry_of entry.now) }
 {
     match entry.content {
         Content::Read { array, index } => {
-            !is_stream(kernel, index) && is_barred_from(kernel, all, following, array, entry)
+            !is_stream(kernel, index) && is_barred_from(kernel, width, all, following, array, entry)
         }
         _ => false,
     }
@@ -115,13 +112,14 @@ fn is_barred_entry(
 /// Whether an element is read by a computed index where that is no gather: in lanes narrower than an address, before a
 /// `break`, from an array that the loop stores to, or from anywhere while it stores.
 #[tactic(auto, unfolding(dependence::specs::Classes::computed_index))]
-pub fn reads_computed(kernel: &Checked, entries: &[Entry<'_>]) -> bool
+pub fn reads_computed(kernel: &Checked, width: Width, entries: &[Entry<'_>]) -> bool
+    requires { width ≡ lane_width_of (program kernel.now) }
     ensures { let es = entries_view entries.now in result ≡ computed_index (program kernel.now) es es }
 {
     let mut following = 0;
     for entry in entries {
         following += 1;
-        if is_barred_entry(kernel, entries, &entries[following..], entry) {
+        if is_barred_entry(kernel, width, entries, &entries[following..], entry) {
             return true;
         }
     }

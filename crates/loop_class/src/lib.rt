@@ -5,4 +5,4 @@ mod decide;
 mod elements;
 mod updates;
 
-pub use decide::class;
+pub use decide::{class, class_by};

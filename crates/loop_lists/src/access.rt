@@ -5,11 +5,12 @@ ghost use Rattle.arrayvec.specs.ArrayVec.{array_vec_len};
 ghost use Rattle.kernel_tree.specs.Plain.{term_of, program_of};
 ghost use Rattle.kernel_tree.specs.Items.{stream_offset, loop_index};
 ghost use Rattle.kernel_tree.specs.Checked.{kernel_of};
+ghost use Rattle.loop_form.specs.Entries.{loop_entries};
 ghost use Rattle.loop_form.specs.Near.{IsNear, HasNear, AreNear};
 ghost use Rattle.loop_form.specs.View.{program, content_of, entry_of, entries_view};
 ghost use Rattle.loop_form.specs.Streams.{place_of, access, stream_of, streams_of};
 
-use crate::entry_list::loop_entries;
+use crate::entry_list::{few_looped, loop_entries};
 use kernel_tree::{Checked, Expr};
 use loop_form::stream::Streams;
 use loop_form::{Content, Entry, Stream, offset, param_place};
@@ -58,12 +59,13 @@ fn streams_among(kernel: &Checked, entries: &[Entry<'_>]) -> Streams
     streams
 }
 
-/// The accesses of the loop by stream index, in their order, without taking memory.
-pub fn accesses(kernel: &Checked) -> Streams
+/// The accesses of the loop by stream index, in their order, by the loop's items, without taking memory.
+pub fn accesses(kernel: &Checked, looped: &[Entry<'_>]) -> Streams
+    requires items { entries_view looped.now ≡ loop_entries (program kernel.now) }
     ensures { result.items ≡ streams_of (program kernel.now) }
 {
-    let entries = loop_entries(kernel);
-    streams_among(kernel, &entries)
+    few_looped(kernel, looped);
+    streams_among(kernel, looped)
 }
 
 /// The accesses of the loop by stream index, in the order of the listing.
@@ -71,5 +73,5 @@ pub fn accesses(kernel: &Checked) -> Streams
 pub fn streams(alloc: Global, kernel: &Checked) -> Result<Vec<Stream>, AllocError>
     ensures { IfOk result (λ streams. streams.items ≡ streams_of (program_of (kernel_of kernel.now))) }
 {
-    Vec::from_slice(alloc, &accesses(kernel))
+    Vec::from_slice(alloc, &accesses(kernel, &loop_entries(kernel)))
 }

@@ -7,13 +7,15 @@ ghost use Rattle.kernel_tree.specs.Items.{loop_index, loop_start, size_of, for_l
 ghost use Rattle.loop_form.specs.Entries.{params_entries, for_loop_entries, answer_entries, entries_of, loop_entries};
 ghost use Rattle.loop_form.specs.Near.{AreNear};
 ghost use Rattle.loop_form.specs.View.{program, entries_view};
+ghost use Rattle.loop_lists.specs.ItemLists.{AreItems};
 
-use crate::walk::{list_block, list_ended, list_vars, put};
+use crate::items::Items;
+use crate::walk::{Context, list_block, list_ended, list_vars, put};
 use kernel_tree::{Answer, Checked, Loop, Param};
 use loop_form::entry::Entries;
-use loop_form::laws::{few_items, near_offsets};
+use loop_form::laws::{few_items, near_offsets, numbered_items};
 use loop_form::size::statements_size;
-use loop_form::{Content, ItemKind, vars_size_of};
+use loop_form::{Content, Entry, ItemKind, vars_size_of};
 
 /// The number of the loop's `for`.
 #[tactic(auto, unfolding(loop_form::specs::View::program))]
@@ -66,7 +68,11 @@ fn list_for_loop<'a>(
 {
     if let Some(for_loop) = for_loop {
         put(kernel, entries, from, Content::Plain(ItemKind::For), from);
-        list_block(kernel, entries, from + 1, &for_loop.body);
+        let at = Context {
+            kernel,
+            from: from + 1,
+        };
+        list_block(at, entries, &for_loop.body);
     }
 }
 
@@ -84,13 +90,8 @@ fn list_answer<'a>(
         (option_map returned_of answer.now) }
 {
     if let Some(answer) = answer {
-        list_ended(
-            kernel,
-            entries,
-            from,
-            &answer.value,
-            Content::Plain(ItemKind::Return),
-        );
+        let content = Content::Plain(ItemKind::Return);
+        list_ended(Context { kernel, from }, entries, &answer.value, content);
     }
 }
 
@@ -108,7 +109,7 @@ pub fn entries(kernel: &Checked) -> Entries<'_>
     let end = start + for_loop_size_of(kernel, &tree.body);
     let mut entries = Entries::new();
     list_params(kernel, &mut entries, &tree.params);
-    list_vars(kernel, &mut entries, vars, &tree.vars);
+    list_vars(Context { kernel, from: vars }, &mut entries, &tree.vars);
     list_for_loop(kernel, &mut entries, start, &tree.body);
     list_answer(kernel, &mut entries, end, &tree.answer);
     entries
@@ -133,9 +134,33 @@ pub fn loop_entries(kernel: &Checked) -> Entries<'_>
     entries
 }
 
-/// How many items a kernel has.
-pub fn item_count(kernel: &Checked) -> u32
+/// All items of a kernel and those of its loop, listed once.
+pub fn list_items(kernel: &Checked) -> Items<'_>
+    ensures { AreItems (program kernel.now) result }
+{
+    Items {
+        all: entries(kernel),
+        looped: loop_entries(kernel),
+    }
+}
+
+/// How many items a kernel has, by all of them.
+pub fn item_count(kernel: &Checked, all: &[Entry<'_>]) -> u32
+    requires { entries_view all.now ≡ entries_of (program kernel.now) }
     ensures { result ≡ size_of (program kernel.now) }
 {
-    entries(kernel).len() as u32
+    few_items(kernel);
+    numbered_items(kernel);
+    all.len() as u32
+}
+
+/// The items of the loop are few, and the offsets of its stream indexes near.
+pub fn few_looped(kernel: &Checked, looped: &[Entry<'_>])
+    requires { entries_view looped.now ≡ loop_entries (program kernel.now) }
+    ensures small { length looped.now ≤ 1000 }
+    ensures near { AreNear (loop_index (program kernel.now)) (entries_view looped.now) }
+{
+    few_items(kernel);
+    numbered_items(kernel);
+    near_offsets(kernel);
 }

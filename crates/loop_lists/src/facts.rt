@@ -3,10 +3,12 @@
 ghost use Rattle.std.specs.Prelude.{◌≡◌, IfOk};
 ghost use Rattle.loop_form.specs.Entries.{entries_of, loop_entries};
 ghost use Rattle.loop_form.specs.View.{program, entries_view};
+ghost use Rattle.loop_lists.specs.ItemLists.{AreItems};
 
-use crate::entry_list::{entries, first_item, loop_entries};
+use crate::entry_list::{first_item, list_items};
 use crate::held_throughout::push_of_loop;
 use crate::item_list::items;
+use crate::items::Items;
 use crate::places::places_from;
 use crate::widest_type::widest_of;
 use kernel_tree::Checked;
@@ -47,9 +49,21 @@ fn facts_by<'a>(
     })
 }
 
+/// What the vector code of a kernel's loop is written by, by the items of the kernel.
+pub fn loop_facts_by<'a>(
+    alloc: Global,
+    kernel: &'a Checked,
+    items: &Items<'a>,
+) -> Result<LoopFacts<'a>, AllocError>
+    requires items { AreItems (program kernel.now) items.now }
+    ensures { IfOk result (λ facts. facts.kernel.now ≡ kernel.now) }
+{
+    facts_by(alloc, kernel, &items.all, &items.looped)
+}
+
 /// What the vector code of a kernel's loop is written by.
 pub fn loop_facts(alloc: Global, kernel: &Checked) -> Result<LoopFacts<'_>, AllocError>
     ensures { IfOk result (λ facts. facts.kernel.now ≡ kernel.now) }
 {
-    facts_by(alloc, kernel, &entries(kernel), &loop_entries(kernel))
+    loop_facts_by(alloc, kernel, &list_items(kernel))
 }

@@ -11,7 +11,6 @@ ghost use Rattle.loop_form.specs.Listing.{names};
 ghost use Rattle.loop_form.specs.Needs.{is_named_scalar, scalars, is_literal, is_constant, new_constant, constants, index_held, is_updated, accumulating_of, throughout};
 ghost use Rattle.loop_form.specs.View.{program, content_of, entry_of, entries_view};
 
-use crate::entry_list::loop_entries;
 use crate::item_list::is_name;
 use kernel_tree::{Checked, Param, Shape, Ty, Var};
 use loop_form::laws::few_intervals;
@@ -205,23 +204,31 @@ pub fn push_of_loop<'a>(
 fn push_of_class<'a>(
     kernel: &'a Checked,
     held: &mut Vec<Held<'a>>,
+    looped: &[Entry<'_>],
     class: RegClass,
 ) -> Result<(), AllocError>
+    requires { entries_view looped.now ≡ loop_entries (program kernel.now) }
     ensures { OnOk result (view held.new.items ≡ view held.old.items ++ throughout (program kernel.now) class) }
 {
     match class {
-        RegClass::Z => push_of_loop(kernel, held, &loop_entries(kernel)),
+        RegClass::Z => push_of_loop(kernel, held, looped),
         RegClass::P => Ok(()),
         RegClass::X => push_vars(held, &kernel.kernel().vars),
     }
 }
 
-/// How much is held throughout in the registers of a class.
-pub fn held_count(alloc: Global, kernel: &Checked, class: RegClass) -> Result<u32, AllocError>
+/// How much is held throughout in the registers of a class, by the items of the loop.
+pub fn held_count(
+    alloc: Global,
+    kernel: &Checked,
+    looped: &[Entry<'_>],
+    class: RegClass,
+) -> Result<u32, AllocError>
+    requires { entries_view looped.now ≡ loop_entries (program kernel.now) }
     ensures { IfOk result (λ count. count ≡ length (throughout (program kernel.now) class)) }
 {
     few_intervals(kernel, class);
     let mut held = Vec::new(alloc);
-    push_of_class(kernel, &mut held, class)?;
+    push_of_class(kernel, &mut held, looped, class)?;
     Ok(held.len() as u32)
 }

@@ -3,9 +3,9 @@
 ghost use Rattle.std.specs.Prelude.{◌≡◌, map, IfOk};
 ghost use Rattle.kernel_tree.specs.Plain.{program_of};
 ghost use Rattle.kernel_tree.specs.Checked.{kernel_of};
-ghost use Rattle.loop_form.specs.Entries.{kind_of};
+ghost use Rattle.loop_form.specs.Entries.{kind_of, entries_of};
 ghost use Rattle.loop_form.specs.Listing.{names, has_x, has_z, has_p, has_value, last_use_from, last_use_at, last_use_in, item_of, listing_of, held};
-ghost use Rattle.loop_form.specs.View.{content_of, entry_of, entries_view};
+ghost use Rattle.loop_form.specs.View.{program, content_of, entry_of, entries_view};
 
 use crate::entry_list::entries;
 use kernel_tree::Checked;
@@ -142,5 +142,17 @@ pub fn items(alloc: Global, all: &[Entry<'_>]) -> Result<Vec<Item>, AllocError>
 pub fn listing(alloc: Global, kernel: &Checked) -> Result<Vec<Item>, AllocError>
     ensures { IfOk result (λ items. items.items ≡ listing_of (program_of (kernel_of kernel.now))) }
 {
-    items(alloc, &entries(kernel))
+    listing_by(alloc, kernel, &entries(kernel))
+}
+
+/// The same by all items of the kernel.
+pub fn listing_by(
+    alloc: Global,
+    kernel: &Checked,
+    all: &[Entry<'_>],
+) -> Result<Vec<Item>, AllocError>
+    requires items { entries_view all.now ≡ entries_of (program kernel.now) }
+    ensures { IfOk result (λ items. items.items ≡ listing_of (program kernel.now)) }
+{
+    items(alloc, all)
 }

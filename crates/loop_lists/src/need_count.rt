@@ -5,9 +5,11 @@ ghost use Rattle.kernel_tree.specs.Plain.{program_of};
 ghost use Rattle.kernel_tree.specs.Checked.{kernel_of};
 ghost use Rattle.loop_form.specs.Needs.{need, needs_of};
 ghost use Rattle.loop_form.specs.View.{program};
+ghost use Rattle.loop_lists.specs.ItemLists.{AreItems};
 
-use crate::entry_list::item_count;
-use crate::values::intervals;
+use crate::entry_list::{item_count, list_items};
+use crate::items::Items;
+use crate::values::intervals_by;
 use kernel_tree::Checked;
 use loop_form::laws::ordered_intervals;
 use loop_form::need::Needs;
@@ -16,11 +18,17 @@ use std::alloc::{AllocError, Global};
 
 // How many registers of a class are needed.
 #[tactic(auto, unfolding(loop_form::specs::View::program))]
-fn class_need(alloc: Global, kernel: &Checked, class: RegClass) -> Result<u32, AllocError>
+fn class_need(
+    alloc: Global,
+    kernel: &Checked,
+    items: &Items<'_>,
+    class: RegClass,
+) -> Result<u32, AllocError>
+    requires { AreItems (program kernel.now) items.now }
     ensures { IfOk result (λ count. count ≡ need (program kernel.now) class) }
 {
     ordered_intervals(kernel, class);
-    let intervals = intervals(alloc, kernel, class)?;
+    let intervals = intervals_by(alloc, kernel, items, class)?;
     let count = need(&intervals);
     Ok(count)
 }
@@ -32,9 +40,10 @@ fn class_need(alloc: Global, kernel: &Checked, class: RegClass) -> Result<u32, A
 pub fn needs(alloc: Global, kernel: &Checked) -> Result<Needs, AllocError>
     ensures { IfOk result (λ needs. needs ≡ needs_of (program_of (kernel_of kernel.now))) }
 {
-    let size = item_count(kernel);
-    let z = class_need(alloc, kernel, RegClass::Z)?;
-    let p = class_need(alloc, kernel, RegClass::P)?;
-    let x = class_need(alloc, kernel, RegClass::X)?;
+    let items = list_items(kernel);
+    let size = item_count(kernel, &items.all);
+    let z = class_need(alloc, kernel, &items, RegClass::Z)?;
+    let p = class_need(alloc, kernel, &items, RegClass::P)?;
+    let x = class_need(alloc, kernel, &items, RegClass::X)?;
     Ok(Needs { size, z, p, x })
 }

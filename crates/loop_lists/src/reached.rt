@@ -3,10 +3,11 @@
 ghost use Rattle.std.specs.Prelude.{◌≡◌, ◌≤◌, length, filter_map, option_and_then};
 ghost use Rattle.std.specs.List.{find};
 ghost use Rattle.kernel_tree.specs.Plain.{term_of};
+ghost use Rattle.loop_form.specs.Entries.{loop_entries};
 ghost use Rattle.loop_form.specs.View.{program, content_of, entry_of, entries_view};
 ghost use Rattle.loop_form.specs.Reaches.{source_type, reach_of_type, read_reach, reach_of, has_number, index_reach, reach_at, reaches_of};
 
-use crate::entry_list::loop_entries;
+use crate::entry_list::{few_looped, loop_entries};
 use kernel_tree::{Checked, Expr, Ty};
 use loop_form::reach::Reaches;
 use loop_form::{Content, Entry, Reach, is_stream, param_place, type_reach, widens};
@@ -99,10 +100,12 @@ fn reaches_among(kernel: &Checked, entries: &[Entry<'_>]) -> Reaches
     reaches
 }
 
-/// The reads of the loop at computed indexes that have a reach, in their order, without taking memory.
-pub fn reaches(kernel: &Checked) -> Reaches
+/// The reads of the loop at computed indexes that have a reach, in their order, by the loop's items, without taking
+/// memory.
+pub fn reaches(kernel: &Checked, looped: &[Entry<'_>]) -> Reaches
+    requires items { entries_view looped.now ≡ loop_entries (program kernel.now) }
     ensures { result.items ≡ reaches_of (program kernel.now) }
 {
-    let entries = loop_entries(kernel);
-    reaches_among(kernel, &entries)
+    few_looped(kernel, looped);
+    reaches_among(kernel, looped)
 }

@@ -6,10 +6,12 @@ ghost use Rattle.kernel_tree.specs.Plain.{program_of};
 ghost use Rattle.kernel_tree.specs.Checked.{kernel_of};
 ghost use Rattle.loop_form.specs.Needs.{span_of, spans_of, values, intervals};
 ghost use Rattle.loop_form.specs.View.{program, entry_of, entries_view};
+ghost use Rattle.loop_lists.specs.ItemLists.{AreItems};
 
-use crate::entry_list::{entries, item_count, loop_entries};
+use crate::entry_list::{item_count, list_items};
 use crate::held_throughout::held_count;
 use crate::item_list::last_use_if_made;
+use crate::items::Items;
 use kernel_tree::Checked;
 use loop_form::Entry;
 use reg_assign::{Interval, RegClass};
@@ -40,14 +42,15 @@ fn push_spans(
 fn push_values(
     spans: &mut Vec<Interval>,
     kernel: &Checked,
+    items: &Items<'_>,
     class: RegClass,
 ) -> Result<(), AllocError>
+    requires { AreItems (program kernel.now) items.now }
     ensures { OnOk result (spans.new.items ≡ spans.old.items ++ values (program kernel.now) class) }
 {
-    let all = entries(kernel);
     match class {
-        RegClass::X => push_spans(spans, class, &all, &all),
-        RegClass::Z | RegClass::P => push_spans(spans, class, &all, &loop_entries(kernel)),
+        RegClass::X => push_spans(spans, class, &items.all, &items.all),
+        RegClass::Z | RegClass::P => push_spans(spans, class, &items.all, &items.looped),
     }
 }
 
@@ -65,6 +68,23 @@ fn whole_intervals(alloc: Global, count: u32, size: u32) -> Result<Vec<Interval>
     Ok(intervals)
 }
 
+/// The intervals of a class, by the items of the kernel.
+#[tactic(auto, unfolding(loop_form::specs::View::program))]
+pub fn intervals_by(
+    alloc: Global,
+    kernel: &Checked,
+    items: &Items<'_>,
+    class: RegClass,
+) -> Result<Vec<Interval>, AllocError>
+    requires items { AreItems (program kernel.now) items.now }
+    ensures { IfOk result (λ v. v.items ≡ intervals (program kernel.now) class) }
+{
+    let held = held_count(alloc, kernel, &items.looped, class)?;
+    let mut intervals = whole_intervals(alloc, held, item_count(kernel, &items.all))?;
+    push_values(&mut intervals, kernel, items, class)?;
+    Ok(intervals)
+}
+
 /// The intervals of a class, in items of the listing: what is held throughout, over all items, and then the values in
 /// the order of their items, each until the item that uses it last. For the classes Z and P only the loop counts. A
 /// `let` that nothing reads has an empty interval.
@@ -76,8 +96,5 @@ pub fn intervals(
 ) -> Result<Vec<Interval>, AllocError>
     ensures { IfOk result (λ v. v.items ≡ intervals (program_of (kernel_of kernel.now)) class) }
 {
-    let held = held_count(alloc, kernel, class)?;
-    let mut intervals = whole_intervals(alloc, held, item_count(kernel))?;
-    push_values(&mut intervals, kernel, class)?;
-    Ok(intervals)
+    intervals_by(alloc, kernel, &list_items(kernel), class)
 }

@@ -35,212 +35,216 @@ pub fn put<'a>(
     });
 }
 
-/// Lists an expression whose items begin at a number and whose value is used by the item `last_use`.
+/// A place in the listing of a kernel: the number of the item that is next.
+#[derive(Clone, Copy)]
+pub struct Context<'k> {
+    pub kernel: &'k Checked,
+    pub from: u32,
+}
+
+/// Lists an expression whose items begin at a place and whose value is used by the item `last_use`.
 #[cycle(terms)]
-pub fn list_expr<'a>(
-    kernel: &Checked,
-    entries: &mut Entries<'a>,
-    from: u32,
-    last_use: u32,
-    expr: &'a Expr,
-)
-    requires following { array_vec_len entries.old ≤ from }
-    requires fits { from + term_size (loop_index (program kernel.now)) (term_of expr.now) ≤ 1000 }
+pub fn list_expr<'a>(at: Context<'_>, entries: &mut Entries<'a>, last_use: u32, expr: &'a Expr)
+    requires following { array_vec_len entries.old ≤ at.from }
+    requires fits { at.from + term_size (loop_index (program at.kernel.now)) (term_of expr.now) ≤ 1000 }
     ensures items { entries_view entries.new.items ≡ entries_view entries.old.items
-        ++ term_entries (program kernel.now) from last_use (term_of expr.now) }
-    ensures len { array_vec_len entries.new ≡ array_vec_len entries.old + term_size (loop_index (program kernel.now))
-        (term_of expr.now) }
+        ++ term_entries (program at.entry.kernel.now) at.entry.from last_use (term_of expr.now) }
+    ensures len { array_vec_len entries.new ≡ array_vec_len entries.old + term_size
+        (loop_index (program at.entry.kernel.now)) (term_of expr.now) }
 {
     match expr {
-        Expr::Lit(value) => put(kernel, entries, from, Content::Literal(*value), last_use),
-        Expr::Var(name) => put(kernel, entries, from, Content::Name(name.text()), last_use),
-        Expr::Read { array, index } => list_read(kernel, entries, from, last_use, array, index),
-        Expr::Unary { arg, .. } => list_one(kernel, entries, from, last_use, arg, ItemKind::Unary),
+        Expr::Lit(value) => put(
+            at.kernel,
+            entries,
+            at.from,
+            Content::Literal(*value),
+            last_use,
+        ),
+        Expr::Var(name) => put(
+            at.kernel,
+            entries,
+            at.from,
+            Content::Name(name.text()),
+            last_use,
+        ),
+        Expr::Read { array, index } => list_read(at, entries, last_use, array, index),
+        Expr::Unary { arg, .. } => list_one(at, entries, last_use, arg, ItemKind::Unary),
         Expr::Binary { left, right, .. } => {
             let kind = ItemKind::Binary;
-            list_two(kernel, entries, from, last_use, left, right, kind);
+            list_two(at, entries, last_use, left, right, kind);
         }
-        Expr::Shift { arg, .. } => list_one(kernel, entries, from, last_use, arg, ItemKind::Shift),
-        Expr::Cast { arg, .. } => list_one(kernel, entries, from, last_use, arg, ItemKind::Cast),
-        Expr::Select { cond, yes, no } => {
-            list_select(kernel, entries, from, last_use, yes, no, cond)
-        }
+        Expr::Shift { arg, .. } => list_one(at, entries, last_use, arg, ItemKind::Shift),
+        Expr::Cast { arg, .. } => list_one(at, entries, last_use, arg, ItemKind::Cast),
+        Expr::Select { cond, yes, no } => list_select(at, entries, last_use, yes, no, cond),
         Expr::Compare { left, right, .. } => {
             let kind = ItemKind::Compare;
-            list_two(kernel, entries, from, last_use, left, right, kind);
+            list_two(at, entries, last_use, left, right, kind);
         }
-        Expr::And { left, right } => {
-            list_two(kernel, entries, from, last_use, left, right, ItemKind::And)
-        }
-        Expr::Or { left, right } => list_or(kernel, entries, from, last_use, left, right),
-        Expr::Not { arg } => list_one(kernel, entries, from, last_use, arg, ItemKind::Not),
+        Expr::And { left, right } => list_two(at, entries, last_use, left, right, ItemKind::And),
+        Expr::Or { left, right } => list_or(at, entries, last_use, left, right),
+        Expr::Not { arg } => list_one(at, entries, last_use, arg, ItemKind::Not),
     }
 }
 
 // A read: its index where it is computed, and the read.
 #[cycle(terms)]
 fn list_read<'a>(
-    kernel: &Checked,
+    at: Context<'_>,
     entries: &mut Entries<'a>,
-    from: u32,
     last_use: u32,
     array: &'a Name,
     index: &'a Expr,
 )
-    requires following { array_vec_len entries.old ≤ from }
-    requires fits { from + (index_items (loop_index (program kernel.now)) (term_of index.now) + 1) ≤ 1000 }
-    ensures items { let k = program kernel.now in entries_view entries.new.items
+    requires following { array_vec_len entries.old ≤ at.from }
+    requires fits { at.from + (index_items (loop_index (program at.kernel.now)) (term_of index.now) + 1) ≤ 1000 }
+    ensures items { let k = program at.entry.kernel.now in entries_view entries.new.items
         ≡ entries_view entries.old.items
-        ++ term_entries k from last_use (Element (name_of array.now) (term_of index.now)) }
+        ++ term_entries k at.entry.from last_use (Element (name_of array.now) (term_of index.now)) }
     ensures len { array_vec_len entries.new ≡ array_vec_len entries.old +
-        (index_items (loop_index (program kernel.now)) (term_of index.now) + 1) }
+        (index_items (loop_index (program at.entry.kernel.now)) (term_of index.now) + 1) }
 {
     let content = Content::Read {
         array: array.text(),
         index,
     };
-    if is_stream(kernel, index) {
-        put(kernel, entries, from, content, last_use);
+    if is_stream(at.kernel, index) {
+        put(at.kernel, entries, at.from, content, last_use);
     } else {
-        let item = from + expr_size(kernel, index);
-        list_expr(kernel, entries, from, item, index);
-        put(kernel, entries, item, content, last_use);
+        let item = at.from + expr_size(at.kernel, index);
+        list_expr(at, entries, item, index);
+        put(at.kernel, entries, item, content, last_use);
     }
 }
 
 // An operand and what is made of it.
 #[cycle(terms)]
 fn list_one<'a>(
-    kernel: &Checked,
+    at: Context<'_>,
     entries: &mut Entries<'a>,
-    from: u32,
     last_use: u32,
     arg: &'a Expr,
     kind: ItemKind,
 )
-    requires following { array_vec_len entries.old ≤ from }
-    requires fits { from + (term_size (loop_index (program kernel.now)) (term_of arg.now) + 1) ≤ 1000 }
-    ensures items { let k = program kernel.now in let item = from + term_size (loop_index k)
+    requires following { array_vec_len entries.old ≤ at.from }
+    requires fits { at.from + (term_size (loop_index (program at.kernel.now)) (term_of arg.now) + 1) ≤ 1000 }
+    ensures items { let k = program at.entry.kernel.now in let item = at.entry.from + term_size (loop_index k)
         (term_of arg.now) in entries_view entries.new.items
-        ≡ entries_view entries.old.items ++ (term_entries k from item (term_of arg.now)
+        ≡ entries_view entries.old.items ++ (term_entries k at.entry.from item (term_of arg.now)
         ++ entry k item (IsPlain kind) last_use ∷ []) }
     ensures len { array_vec_len entries.new ≡ array_vec_len entries.old +
-        (term_size (loop_index (program kernel.now)) (term_of arg.now) + 1) }
+        (term_size (loop_index (program at.entry.kernel.now)) (term_of arg.now) + 1) }
 {
-    let item = from + expr_size(kernel, arg);
-    list_expr(kernel, entries, from, item, arg);
-    put(kernel, entries, item, Content::Plain(kind), last_use);
+    let item = at.from + expr_size(at.kernel, arg);
+    list_expr(at, entries, item, arg);
+    put(at.kernel, entries, item, Content::Plain(kind), last_use);
 }
 
 // Two operands and what is made of them.
 #[cycle(terms)]
 fn list_two<'a>(
-    kernel: &Checked,
+    at: Context<'_>,
     entries: &mut Entries<'a>,
-    from: u32,
     last_use: u32,
     left: &'a Expr,
     right: &'a Expr,
     kind: ItemKind,
 )
-    requires following { array_vec_len entries.old ≤ from }
-    requires fits { let i = loop_index (program kernel.now) in from +
+    requires following { array_vec_len entries.old ≤ at.from }
+    requires fits { let i = loop_index (program at.kernel.now) in at.from +
         (term_size i (term_of left.now) + term_size i (term_of right.now) + 1) ≤ 1000 }
-    ensures items { let k = program kernel.now in let next = from + term_size (loop_index k)
+    ensures items { let k = program at.entry.kernel.now in let next = at.entry.from + term_size (loop_index k)
         (term_of left.now) in let item = next + term_size (loop_index k) (term_of right.now) in
         entries_view entries.new.items
-        ≡ entries_view entries.old.items ++ (term_entries k from item (term_of left.now)
+        ≡ entries_view entries.old.items ++ (term_entries k at.entry.from item (term_of left.now)
         ++ (term_entries k next item (term_of right.now) ++ entry k item (IsPlain kind) last_use ∷ [])) }
-    ensures len { let i = loop_index (program kernel.now) in array_vec_len entries.new
+    ensures len { let i = loop_index (program at.entry.kernel.now) in array_vec_len entries.new
         ≡ array_vec_len entries.old + (term_size i (term_of left.now) + term_size i (term_of right.now) + 1) }
 {
-    let next = from + expr_size(kernel, left);
-    let item = next + expr_size(kernel, right);
-    list_expr(kernel, entries, from, item, left);
-    list_expr(kernel, entries, next, item, right);
-    put(kernel, entries, item, Content::Plain(kind), last_use);
+    let next = at.from + expr_size(at.kernel, left);
+    let item = next + expr_size(at.kernel, right);
+    list_expr(at, entries, item, left);
+    list_expr(Context { from: next, ..at }, entries, item, right);
+    put(at.kernel, entries, item, Content::Plain(kind), last_use);
 }
 
 // `||` and its operands, with the mark after the left one.
 #[cycle(terms)]
 fn list_or<'a>(
-    kernel: &Checked,
+    at: Context<'_>,
     entries: &mut Entries<'a>,
-    from: u32,
     last_use: u32,
     left: &'a Expr,
     right: &'a Expr,
 )
-    requires following { array_vec_len entries.old ≤ from }
-    requires fits { from + term_size (loop_index (program kernel.now))
+    requires following { array_vec_len entries.old ≤ at.from }
+    requires fits { at.from + term_size (loop_index (program at.kernel.now))
         (Either (term_of left.now) (term_of right.now)) ≤ 1000 }
     ensures items { entries_view entries.new.items ≡ entries_view entries.old.items
-        ++ term_entries (program kernel.now) from last_use (Either (term_of left.now) (term_of right.now)) }
-    ensures len { array_vec_len entries.new ≡ array_vec_len entries.old + term_size (loop_index (program kernel.now))
+        ++ term_entries (program at.entry.kernel.now) at.entry.from last_use
         (Either (term_of left.now) (term_of right.now)) }
+    ensures len { array_vec_len entries.new ≡ array_vec_len entries.old + term_size
+        (loop_index (program at.entry.kernel.now)) (Either (term_of left.now) (term_of right.now)) }
 {
-    let mark = from + expr_size(kernel, left);
-    let item = mark + 1 + expr_size(kernel, right);
-    list_expr(kernel, entries, from, item, left);
-    put(kernel, entries, mark, Content::Plain(ItemKind::Mark), item);
-    list_expr(kernel, entries, mark + 1, item, right);
-    put(
-        kernel,
+    let mark = at.from + expr_size(at.kernel, left);
+    let item = mark + 1 + expr_size(at.kernel, right);
+    list_expr(at, entries, item, left);
+    let content = Content::Plain(ItemKind::Mark);
+    put(at.kernel, entries, mark, content, item);
+    list_expr(
+        Context {
+            from: mark + 1,
+            ..at
+        },
         entries,
         item,
-        Content::Plain(ItemKind::Or),
-        last_use,
+        right,
     );
+    let content = Content::Plain(ItemKind::Or);
+    put(at.kernel, entries, item, content, last_use);
 }
 
 // `select`: both values, the condition, and the choice.
 #[cycle(terms)]
 fn list_select<'a>(
-    kernel: &Checked,
+    at: Context<'_>,
     entries: &mut Entries<'a>,
-    from: u32,
     last_use: u32,
     yes: &'a Expr,
     no: &'a Expr,
     cond: &'a Expr,
 )
-    requires following { array_vec_len entries.old ≤ from }
-    requires fits { from + term_size (loop_index (program kernel.now))
+    requires following { array_vec_len entries.old ≤ at.from }
+    requires fits { at.from + term_size (loop_index (program at.kernel.now))
         (Choice (term_of cond.now) (term_of yes.now) (term_of no.now)) ≤ 1000 }
     ensures items { entries_view entries.new.items ≡ entries_view entries.old.items
-        ++ term_entries (program kernel.now) from last_use
+        ++ term_entries (program at.entry.kernel.now) at.entry.from last_use
         (Choice (term_of cond.now) (term_of yes.now) (term_of no.now)) }
-    ensures len { array_vec_len entries.new ≡ array_vec_len entries.old + term_size (loop_index (program kernel.now))
-        (Choice (term_of cond.now) (term_of yes.now) (term_of no.now)) }
+    ensures len { array_vec_len entries.new ≡ array_vec_len entries.old + term_size
+        (loop_index (program at.entry.kernel.now)) (Choice (term_of cond.now) (term_of yes.now) (term_of no.now)) }
 {
-    let next = from + expr_size(kernel, yes);
-    let last = next + expr_size(kernel, no);
-    let item = last + expr_size(kernel, cond);
-    list_expr(kernel, entries, from, item, yes);
-    list_expr(kernel, entries, next, item, no);
-    list_expr(kernel, entries, last, item, cond);
-    put(
-        kernel,
-        entries,
-        item,
-        Content::Plain(ItemKind::Select),
-        last_use,
-    );
+    let next = at.from + expr_size(at.kernel, yes);
+    let last = next + expr_size(at.kernel, no);
+    let item = last + expr_size(at.kernel, cond);
+    list_expr(at, entries, item, yes);
+    list_expr(Context { from: next, ..at }, entries, item, no);
+    list_expr(Context { from: last, ..at }, entries, item, cond);
+    let content = Content::Plain(ItemKind::Select);
+    put(at.kernel, entries, item, content, last_use);
 }
 
 /// Lists a statement.
 #[cycle(statements)]
-fn list_stmt<'a>(kernel: &Checked, entries: &mut Entries<'a>, from: u32, stmt: &'a Stmt)
-    requires following { array_vec_len entries.old ≤ from }
-    requires fits { from + action_size (loop_index (program kernel.now)) (action_of stmt.now) ≤ 1000 }
+fn list_stmt<'a>(at: Context<'_>, entries: &mut Entries<'a>, stmt: &'a Stmt)
+    requires following { array_vec_len entries.old ≤ at.from }
+    requires fits { at.from + action_size (loop_index (program at.kernel.now)) (action_of stmt.now) ≤ 1000 }
     ensures items { entries_view entries.new.items ≡ entries_view entries.old.items
-        ++ action_entries (program kernel.now) from (action_of stmt.now) }
-    ensures len { array_vec_len entries.new ≡ array_vec_len entries.old + action_size (loop_index (program kernel.now))
-        (action_of stmt.now) }
+        ++ action_entries (program at.entry.kernel.now) at.entry.from (action_of stmt.now) }
+    ensures len { array_vec_len entries.new ≡ array_vec_len entries.old + action_size
+        (loop_index (program at.entry.kernel.now)) (action_of stmt.now) }
 {
     match parts(stmt) {
         Part::Let { name, value, .. } => {
-            list_ended(kernel, entries, from, value, Content::Let(name.text()));
+            list_ended(at, entries, value, Content::Let(name.text()));
         }
         Part::Store {
             array,
@@ -248,162 +252,159 @@ fn list_stmt<'a>(kernel: &Checked, entries: &mut Entries<'a>, from: u32, stmt: &
             value,
         } => {
             let array = array.text();
-            list_ended(
-                kernel,
-                entries,
-                from,
-                value,
-                Content::Store { array, index },
-            );
+            list_ended(at, entries, value, Content::Store { array, index });
         }
         Part::Update { name, op, value } => {
             let name = name.text();
-            list_ended(kernel, entries, from, value, Content::Update { name, op });
+            list_ended(at, entries, value, Content::Update { name, op });
         }
-        Part::If { cond, block } => list_if(kernel, entries, from, cond, block),
+        Part::If { cond, block } => list_if(at, entries, cond, block),
         Part::IfElse { cond, block, other } => {
-            list_if_else(kernel, entries, from, cond, block, other);
+            list_if_else(at, entries, cond, block, other);
         }
         Part::Break { cond } => {
-            list_ended(kernel, entries, from, cond, Content::Plain(ItemKind::Break));
+            list_ended(at, entries, cond, Content::Plain(ItemKind::Break));
         }
     }
 }
 
 /// Lists an expression and the item that it ends in.
 pub fn list_ended<'a>(
-    kernel: &Checked,
+    at: Context<'_>,
     entries: &mut Entries<'a>,
-    from: u32,
     value: &'a Expr,
     content: Content<'a>,
 )
-    requires following { array_vec_len entries.old ≤ from }
-    requires fits { from + (term_size (loop_index (program kernel.now)) (term_of value.now) + 1) ≤ 1000 }
-    ensures items { let k = program kernel.now in let item = from + term_size (loop_index k)
+    requires following { array_vec_len entries.old ≤ at.from }
+    requires fits { at.from + (term_size (loop_index (program at.kernel.now)) (term_of value.now) + 1) ≤ 1000 }
+    ensures items { let k = program at.entry.kernel.now in let item = at.entry.from + term_size (loop_index k)
         (term_of value.now) in entries_view entries.new.items
-        ≡ entries_view entries.old.items ++ (term_entries k from item (term_of value.now)
+        ≡ entries_view entries.old.items ++ (term_entries k at.entry.from item (term_of value.now)
         ++ entry k item (content_of content.entry) item ∷ []) }
     ensures len { array_vec_len entries.new ≡ array_vec_len entries.old +
-        (term_size (loop_index (program kernel.now)) (term_of value.now) + 1) }
+        (term_size (loop_index (program at.entry.kernel.now)) (term_of value.now) + 1) }
 {
-    let item = from + expr_size(kernel, value);
-    list_expr(kernel, entries, from, item, value);
-    put(kernel, entries, item, content, item);
+    let item = at.from + expr_size(at.kernel, value);
+    list_expr(at, entries, item, value);
+    put(at.kernel, entries, item, content, item);
 }
 
 // A condition, `then` and a block; the condition is used by the item after the block.
 #[cycle(statements)]
 fn list_then<'a>(
-    kernel: &Checked,
+    at: Context<'_>,
     entries: &mut Entries<'a>,
-    from: u32,
     cond: &'a Expr,
     block: &'a [Stmt],
 ) -> u32
-    requires following { array_vec_len entries.old ≤ from }
-    requires fits { let i = loop_index (program kernel.now) in from +
+    requires following { array_vec_len entries.old ≤ at.from }
+    requires fits { let i = loop_index (program at.kernel.now) in at.from +
         (term_size i (term_of cond.now) + 1 + block_size i (block_of block.now)) ≤ 1000 }
-    ensures following { let i = loop_index (program kernel.now) in result
-        ≡ from + term_size i (term_of cond.now) + 1 + block_size i (block_of block.now) }
-    ensures items { let k = program kernel.now in let first = from + term_size (loop_index k)
+    ensures following { let i = loop_index (program at.entry.kernel.now) in result
+        ≡ at.entry.from + term_size i (term_of cond.now) + 1 + block_size i (block_of block.now) }
+    ensures items { let k = program at.entry.kernel.now in let first = at.entry.from + term_size (loop_index k)
         (term_of cond.now) in entries_view entries.new.items
-        ≡ entries_view entries.old.items ++ (term_entries k from result (term_of cond.now)
+        ≡ entries_view entries.old.items ++ (term_entries k at.entry.from result (term_of cond.now)
         ++ (entry k first (IsPlain ItemKind.Then) first ∷ block_entries k (first + 1) (block_of block.now))) }
-    ensures len { let i = loop_index (program kernel.now) in array_vec_len entries.new
+    ensures len { let i = loop_index (program at.entry.kernel.now) in array_vec_len entries.new
         ≡ array_vec_len entries.old + (term_size i (term_of cond.now) + 1 + block_size i (block_of block.now)) }
 {
-    let first = from + expr_size(kernel, cond);
-    let following = first + 1 + statements_size(kernel, block);
-    list_expr(kernel, entries, from, following, cond);
-    put(
-        kernel,
+    let first = at.from + expr_size(at.kernel, cond);
+    let following = first + 1 + statements_size(at.kernel, block);
+    list_expr(at, entries, following, cond);
+    let content = Content::Plain(ItemKind::Then);
+    put(at.kernel, entries, first, content, first);
+    list_block(
+        Context {
+            from: first + 1,
+            ..at
+        },
         entries,
-        first,
-        Content::Plain(ItemKind::Then),
-        first,
+        block,
     );
-    list_block(kernel, entries, first + 1, block);
     following
 }
 
 #[cycle(statements)]
-fn list_if<'a>(
-    kernel: &Checked,
-    entries: &mut Entries<'a>,
-    from: u32,
-    cond: &'a Expr,
-    block: &'a [Stmt],
-)
-    requires following { array_vec_len entries.old ≤ from }
-    requires fits { from + action_size (loop_index (program kernel.now))
+fn list_if<'a>(at: Context<'_>, entries: &mut Entries<'a>, cond: &'a Expr, block: &'a [Stmt])
+    requires following { array_vec_len entries.old ≤ at.from }
+    requires fits { at.from + action_size (loop_index (program at.kernel.now))
         (Choose (term_of cond.now) (block_of block.now) Nothing) ≤ 1000 }
     ensures items { entries_view entries.new.items ≡ entries_view entries.old.items
-        ++ action_entries (program kernel.now) from (Choose (term_of cond.now) (block_of block.now) Nothing) }
-    ensures len { array_vec_len entries.new ≡ array_vec_len entries.old + action_size (loop_index (program kernel.now))
+        ++ action_entries (program at.entry.kernel.now) at.entry.from
         (Choose (term_of cond.now) (block_of block.now) Nothing) }
+    ensures len { array_vec_len entries.new ≡ array_vec_len entries.old + action_size
+        (loop_index (program at.entry.kernel.now)) (Choose (term_of cond.now) (block_of block.now) Nothing) }
 {
-    let end = list_then(kernel, entries, from, cond, block);
-    put(kernel, entries, end, Content::Plain(ItemKind::End), end);
+    let end = list_then(at, entries, cond, block);
+    put(at.kernel, entries, end, Content::Plain(ItemKind::End), end);
 }
 
 #[cycle(statements)]
 fn list_if_else<'a>(
-    kernel: &Checked,
+    at: Context<'_>,
     entries: &mut Entries<'a>,
-    from: u32,
     cond: &'a Expr,
     block: &'a [Stmt],
     other: &'a [Stmt],
 )
-    requires following { array_vec_len entries.old ≤ from }
-    requires fits { from + action_size (loop_index (program kernel.now))
+    requires following { array_vec_len entries.old ≤ at.from }
+    requires fits { at.from + action_size (loop_index (program at.kernel.now))
         (Choose (term_of cond.now) (block_of block.now) (Else (block_of other.now))) ≤ 1000 }
     ensures items { entries_view entries.new.items ≡ entries_view entries.old.items
-        ++ action_entries (program kernel.now) from
+        ++ action_entries (program at.entry.kernel.now) at.entry.from
         (Choose (term_of cond.now) (block_of block.now) (Else (block_of other.now))) }
-    ensures len { array_vec_len entries.new ≡ array_vec_len entries.old + action_size (loop_index (program kernel.now))
+    ensures len { array_vec_len entries.new ≡ array_vec_len entries.old + action_size
+        (loop_index (program at.entry.kernel.now))
         (Choose (term_of cond.now) (block_of block.now) (Else (block_of other.now))) }
 {
-    let place = list_then(kernel, entries, from, cond, block);
-    let end = place + (1 + statements_size(kernel, other));
-    put(kernel, entries, place, Content::Plain(ItemKind::Else), end);
-    list_block(kernel, entries, place + 1, other);
-    put(kernel, entries, end, Content::Plain(ItemKind::End), end);
+    let place = list_then(at, entries, cond, block);
+    let end = place + (1 + statements_size(at.kernel, other));
+    let content = Content::Plain(ItemKind::Else);
+    put(at.kernel, entries, place, content, end);
+    list_block(
+        Context {
+            from: place + 1,
+            ..at
+        },
+        entries,
+        other,
+    );
+    put(at.kernel, entries, end, Content::Plain(ItemKind::End), end);
 }
 
 /// Lists the statements of a block.
 #[cycle(statements)]
-pub fn list_block<'a>(kernel: &Checked, entries: &mut Entries<'a>, from: u32, block: &'a [Stmt])
-    requires following { array_vec_len entries.old ≤ from }
-    requires fits { from + block_size (loop_index (program kernel.now)) (block_of block.now) ≤ 1000 }
+pub fn list_block<'a>(at: Context<'_>, entries: &mut Entries<'a>, block: &'a [Stmt])
+    requires following { array_vec_len entries.old ≤ at.from }
+    requires fits { at.from + block_size (loop_index (program at.kernel.now)) (block_of block.now) ≤ 1000 }
     ensures items { entries_view entries.new.items ≡ entries_view entries.old.items
-        ++ block_entries (program kernel.now) from (block_of block.now) }
-    ensures len { array_vec_len entries.new ≡ array_vec_len entries.old + block_size (loop_index (program kernel.now))
-        (block_of block.now) }
+        ++ block_entries (program at.entry.kernel.now) at.entry.from (block_of block.now) }
+    ensures len { array_vec_len entries.new ≡ array_vec_len entries.old + block_size
+        (loop_index (program at.entry.kernel.now)) (block_of block.now) }
 {
     let [stmt, rest @ ..] = block else {
         return;
     };
-    let next = from + count_items(kernel, stmt);
-    list_stmt(kernel, entries, from, stmt);
-    list_block(kernel, entries, next, rest);
+    let next = at.from + count_items(at.kernel, stmt);
+    list_stmt(at, entries, stmt);
+    list_block(Context { from: next, ..at }, entries, rest);
 }
 
 /// Lists the accumulators with their initial values.
-pub fn list_vars<'a>(kernel: &Checked, entries: &mut Entries<'a>, from: u32, vars: &'a [Var])
-    requires following { array_vec_len entries.old ≤ from }
-    requires fits { from + vars_size (loop_index (program kernel.now)) (accumulators_of vars.now) ≤ 1000 }
+pub fn list_vars<'a>(at: Context<'_>, entries: &mut Entries<'a>, vars: &'a [Var])
+    requires following { array_vec_len entries.old ≤ at.from }
+    requires fits { at.from + vars_size (loop_index (program at.kernel.now)) (accumulators_of vars.now) ≤ 1000 }
     ensures items { entries_view entries.new.items ≡ entries_view entries.old.items
-        ++ vars_entries (program kernel.now) from (accumulators_of vars.now) }
-    ensures len { array_vec_len entries.new ≡ array_vec_len entries.old + vars_size (loop_index (program kernel.now))
-        (accumulators_of vars.now) }
+        ++ vars_entries (program at.entry.kernel.now) at.entry.from (accumulators_of vars.now) }
+    ensures len { array_vec_len entries.new ≡ array_vec_len entries.old + vars_size
+        (loop_index (program at.entry.kernel.now)) (accumulators_of vars.now) }
 {
     let [var, rest @ ..] = vars else {
         return;
     };
-    let next = from + expr_size(kernel, &var.init) + 1;
+    let next = at.from + expr_size(at.kernel, &var.init) + 1;
     let content = Content::Plain(ItemKind::Var);
-    list_ended(kernel, entries, from, &var.init, content);
-    list_vars(kernel, entries, next, rest);
+    list_ended(at, entries, &var.init, content);
+    list_vars(Context { from: next, ..at }, entries, rest);
 }

@@ -4,6 +4,7 @@ ghost use Rattle.std.specs.Prelude.{◌≡◌};
 ghost use Rattle.kernel_tree.specs.Plain.{parameters_of, program_of};
 ghost use Rattle.kernel_tree.specs.Checked.{kernel_of};
 ghost use Rattle.kernel_tree.specs.Typing.{element_type, binding_of_shape};
+ghost use Rattle.loop_form.specs.Entries.{loop_entries};
 ghost use Rattle.loop_form.specs.Lanes.{type_width, wider, type_of_array, target_type, widest, lane_width_of};
 ghost use Rattle.loop_form.specs.View.{program, content_of, entries_view};
 
@@ -87,5 +88,14 @@ pub fn widest_of(kernel: &Checked, entries: &[Entry<'_>]) -> Width
 pub fn lane_width(kernel: &Checked) -> Width
     ensures { result ≡ lane_width_of (program_of (kernel_of kernel.now)) }
 {
-    widest_of(kernel, &loop_entries(kernel))
+    lane_width_by(kernel, &loop_entries(kernel))
+}
+
+/// The same by the items of the loop.
+#[tactic(auto, unfolding(loop_form::specs::View::program))]
+pub fn lane_width_by(kernel: &Checked, looped: &[Entry<'_>]) -> Width
+    requires items { entries_view looped.now ≡ loop_entries (program kernel.now) }
+    ensures { result ≡ lane_width_of (program kernel.now) }
+{
+    widest_of(kernel, looped)
 }

@@ -5,7 +5,8 @@ ghost use Rattle.std.specs.List.{list_any};
 ghost use Rattle.label_fix.specs.Emits.{Emits, AppendsWords};
 ghost use Rattle.dependence.specs.declared.used.Extent.{Extent};
 ghost use Rattle.dependence.specs.Apart.{is_stored, used_of};
-ghost use Rattle.loop_form.specs.View.{program};
+ghost use Rattle.loop_form.specs.Entries.{loop_entries};
+ghost use Rattle.loop_form.specs.View.{program, entries_view};
 ghost use Rattle.overlap_guard.specs.Guard as guard;
 ghost use Rattle.overlap_guard.specs.Guard.{IsFit, AreFit};
 ghost use Rattle.word_rows.specs.Field.{flag_number};
@@ -22,6 +23,8 @@ use guest_types::length::Width;
 use kernel_tree::Checked;
 use label_fix::registers::{SCRATCH, SECOND_SCRATCH};
 use label_fix::{BranchKind, Draft, Label};
+use loop_form::Entry;
+use loop_lists::loop_entries;
 use std::alloc::AllocError;
 use word_rows::Bits;
 
@@ -372,8 +375,25 @@ pub fn guard(kernel: &Checked, fail: Label, draft: &mut Draft) -> Result<(), All
         OnOk result (Emits draft.old draft.new (guard.label_by (guard.is_free used) draft.old.labels used)
         (guard.guard_code (program kernel.now) fail draft.old.labels)) }
 {
+    guard_by(kernel, &loop_entries(kernel), fail, draft)
+}
+
+/// The same by the items of the loop.
+pub fn guard_by(
+    kernel: &Checked,
+    looped: &[Entry<'_>],
+    fail: Label,
+    draft: &mut Draft,
+) -> Result<(), AllocError>
+    requires items { entries_view looped.now ≡ loop_entries (program kernel.now) }
+    requires failed { fail < draft.old.labels }
+    ensures words { OnOk result (AppendsWords draft.old draft.new 464) }
+    ensures emits { let used = used_of (program kernel.now) in
+        OnOk result (Emits draft.old draft.new (guard.label_by (guard.is_free used) draft.old.labels used)
+        (guard.guard_code (program kernel.now) fail draft.old.labels)) }
+{
     fit_arrays(kernel);
     few_arrays(kernel);
-    let used = arrays(kernel);
+    let used = arrays(kernel, looped);
     emit_used(draft, register(bound_place(kernel)), fail, &used)
 }

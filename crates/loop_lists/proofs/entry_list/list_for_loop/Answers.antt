@@ -15,8 +15,8 @@ put-requires c =
     let size = ap (λ o. for_loop_size (option_map for_loop_of o)) c.in-Some.is in
     omega (arith, size, c.requires.fits, c.requires.following)
 
-pub overflow_add-from : goal.overflow_add-from
-overflow_add-from c =
+pub overflow_add-at : goal.overflow_add-at
+overflow_add-at c =
     let size = ap (λ o. for_loop_size (option_map for_loop_of o)) c.in-Some.is in
     record { fits = omega (arith, size, c.requires.fits) }
 

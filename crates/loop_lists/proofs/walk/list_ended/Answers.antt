@@ -21,7 +21,7 @@ put-requires c = omega (arith, c.requires.fits, c.requires.following, c.list_exp
 
 pub returns-clause-items : goal.returns-clause-items
 returns-clause-items c =
-    ended_by_operand (program c.args.kernel.now) c.args.from (content_of c.args.content) (entries_view c.args.entries.now.items) _ (term_of c.args.value.now) _ _ c.expr_size.ensures c.list_expr.ensures.items c.put.ensures.items
+    ended_by_operand (program c.args.at.kernel.now) c.args.at.from (content_of c.args.content) (entries_view c.args.entries.now.items) _ (term_of c.args.value.now) _ _ c.expr_size.ensures c.list_expr.ensures.items c.put.ensures.items
 
 pub returns-clause-len : goal.returns-clause-len
 returns-clause-len c = omega (arith, c.list_expr.ensures.len, c.put.ensures.len)

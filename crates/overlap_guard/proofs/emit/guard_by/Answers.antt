@@ -2,7 +2,7 @@ use Rattle.std.proofs.Common.{[], rules}
 use Rattle.std.proofs.lemmas.Result.{on_ok_weaker}
 use Rattle.loop_form.specs.View.{program}
 use Rattle.overlap_guard.proofs.Placed.{guard_appended}
-use Rattle.overlap_guard.proofs.emit.guard.Goals as goal
+use Rattle.overlap_guard.proofs.emit.guard_by.Goals as goal
 
 pub returns-clause-emits : goal.returns-clause-emits
 returns-clause-emits c = search rules

@@ -4,7 +4,7 @@ use Rattle.reg_assign.specs.declared.interval.Interval.{Interval}
 use Rattle.loop_form.specs.Needs.{throughout, values}
 use Rattle.loop_form.specs.View.{program}
 use Rattle.loop_form.proofs.IntervalLaws.{whole-replicate}
-use Rattle.loop_lists.proofs.values.intervals.Goals as goal
+use Rattle.loop_lists.proofs.values.intervals_by.Goals as goal
 
 pub returns : goal.returns
 unfolding program
