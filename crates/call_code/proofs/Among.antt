@@ -6,7 +6,7 @@ use Rattle.std.proofs.lemmas.List.Elements.{All-nil, All-cons}
 use Rattle.machine_model.specs.CodeInMemory.{spell, IsListed}
 use Rattle.machine_model.specs.InstructionTable.{Listed}
 use Rattle.machine_model.proofs.ListedWords.{listed_spell}
-use Rattle.call_code.specs.Written.{is_number, word_writes, is_written, written_among}
+use Rattle.promises.specs.Saved.{is_number, word_writes, is_written, written_among}
 use Rattle.call_code.proofs.Restores.{Absent, AreRegisters, Back}
 
 pub is_other : (r d : ℕ) → is_number r (Some d) ≡ false → r ≢ d

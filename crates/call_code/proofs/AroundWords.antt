@@ -6,8 +6,8 @@ use Rattle.sve_code.proofs.Valid.{is_instruction as sve_instruction}
 use Rattle.machine_model.specs.CodeInMemory.{IsListed, AllListed}
 use Rattle.machine_model.specs.InstructionTable.{Listed}
 use Rattle.promises.specs.Reserved.{register_written}
-use Rattle.call_code.specs.Frame.{Saved, doublewords, frame_size, store_at, load_at, take_low, spread_low, move_sp, back, save_x, save_z, restore_x, restore_z, enter, leave}
-use Rattle.call_code.specs.Written.{kept_x, kept_z, vector_written, saved_by}
+use Rattle.promises.specs.Saved.{Saved, doublewords, frame_size, kept_x, kept_z, vector_written, saved_by}
+use Rattle.call_code.specs.Frame.{store_at, load_at, take_low, spread_low, move_sp, back, save_x, save_z, restore_x, restore_z, enter, leave}
 use Rattle.call_code.proofs.Among.{among_registers, among_few}
 use Rattle.call_code.proofs.Restores.{AreRegisters, registers}
 use Rattle.call_code.proofs.StackPointer.{down_listed, up_listed}

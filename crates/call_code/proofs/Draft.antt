@@ -68,9 +68,6 @@ placed (Branch k m ∷ rest) l = ap suc (placed rest l)
 placed (Place m ∷ rest) l =
     elim (nat_eq m l) as (λ c. (if c then 0 else place_of rest l) ≡ size (if c then [] else before rest l)) [ true ↦ refl | false ↦ placed rest l ]
 
-pub place-small : (es : List DraftEntry) (l : ℕ) → place_of es l ≤ size es
-place-small es l = let e = ap size (parts es l) ∙ size-append (before es l) (after_label es l) in omega (arith, placed es l, e)
-
 pub onward : (d : Laid) (x : DraftEntry) (pre rest : List DraftEntry) → d.entries ≡ pre ++ x ∷ rest → d.entries ≡ (pre ++ x ∷ []) ++ rest
 onward d x pre rest e = e ∙ sym (append_assoc pre (x ∷ []) rest)
 

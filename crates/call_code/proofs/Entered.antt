@@ -13,15 +13,17 @@ use Rattle.machine_model.specs.Machine.{State, x_at}
 use Rattle.machine_model.specs.Run.{after_steps}
 use Rattle.machine_model.proofs.CodeInMemory.{code_back}
 use Rattle.machine_model.proofs.StatesOfRuns.{steps_keep}
-use Rattle.call_code.specs.Called.{words_around, IsCall, Enters, before}
-use Rattle.call_code.specs.Frame.{Saved, doublewords, frame_size, move_sp, save_x, save_z, enter, leave, low_at, kept_words, with_words}
+use Rattle.call_code.specs.Called.{words_around, Enters, before}
+use Rattle.promises.specs.Function.{IsCall}
+use Rattle.promises.specs.Saved.{Saved, doublewords, frame_size}
+use Rattle.call_code.specs.Frame.{move_sp, save_x, save_z, enter, leave, low_at, kept_words, with_words}
 use Rattle.call_code.specs.Returning.{returning}
 use Rattle.call_code.proofs.AroundWords.{AreSaved, frame_holds, enter_listed}
 use Rattle.call_code.proofs.FrameNumbers.{words_append}
 use Rattle.call_code.proofs.SavedWords.{words_write}
 use Rattle.call_code.proofs.Saves.{saves_x, saves_z}
 use Rattle.call_code.proofs.StackPointer.{moves_down}
-use Rattle.call_code.proofs.Stands.{stand_front, has_code, place_is}
+use Rattle.call_code.proofs.Stands.{stand_front, has_code, place_by_count}
 use Rattle.call_code.proofs.Walks.{after_add, code_later}
 
 pub place_append : (is js : List Listed) (pc : ℕ) → place_after pc (is ++ js) ≡ place_after (place_after pc is) js
@@ -29,7 +31,7 @@ place_append [] js pc = refl
 place_append (i ∷ is) js pc = place_append is js (word_after pc)
 
 pub place_low : (is : List Listed) (pc : ℕ) → pc < 2 ^ 64 → place_after pc is < 2 ^ 64
-place_low is pc low = subst (λ p. p < 2 ^ 64) (sym (place_is is pc low)) (mod-lt (pc + 4 * length is) (pow_pos 64))
+place_low is pc low = subst (λ p. p < 2 ^ 64) (sym (place_by_count is pc low)) (mod-lt (pc + 4 * length is) (pow_pos 64))
 
 -- the state after them
 pub record Inside (v : Saved) (s t : State) : Type 0 where
@@ -52,10 +54,10 @@ module _ (v : Saved) (saved : AreSaved v) (words : List ℕ) (s : State) (c : Is
 
   -- the bytes of the doublewords below a number may be written
   free_at : (x : ℕ) → foot ≤ x → x < foot + 8 * doublewords v → can_write s.memory x ≡ true
-  free_at x from until = let room = c.room in c.free x (omega (arith, room, from)) (omega (arith, room, until))
+  free_at x from until = let room = c.room in c.free x (omega (arith, room, from), omega (arith, room, until))
 
-  pub into : (t : State) × Inside v s t
-  into =
+  pub code_entered : (t : State) × Inside v s t
+  code_entered =
       let place = c.state.place in
       let low = c.state.sp_small in
       let room = c.room in
@@ -104,6 +106,6 @@ module _ (v : Saved) (saved : AreSaved v) (words : List ℕ) (s : State) (c : Is
             vl = ht.vl ∙ hb.vl ∙ ha.vl;
             memory = bytes ∙ ap (λ k. with_words s.memory k (kept_words v s)) (sym t_sp);
           };
-          pc = place_t ∙ place_is (enter v) s.pc place;
+          pc = place_t ∙ place_by_count (enter v) s.pc place;
         },
       )

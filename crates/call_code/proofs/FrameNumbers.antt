@@ -7,7 +7,8 @@ use Rattle.a64_code.specs.Table as a64
 use Rattle.machine_model.specs.Machine.{State, x_at, with_x, next}
 use Rattle.machine_model.specs.States.{IsState}
 use Rattle.machine_model.proofs.ScalarStates.{scalar_keeps}
-use Rattle.call_code.specs.Frame.{Saved, low_at, kept_words, with_words}
+use Rattle.promises.specs.Saved.{Saved}
+use Rattle.call_code.specs.Frame.{low_at, kept_words, with_words}
 use Rattle.call_code.proofs.AroundWords.{AreLow, AreSaved, z_low}
 use Rattle.call_code.proofs.Restores.{AreRegisters}
 use Rattle.call_code.proofs.SavedWords.{Holds}

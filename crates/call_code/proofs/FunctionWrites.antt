@@ -8,10 +8,10 @@ use Rattle.machine_model.specs.CodeInMemory.{spell, IsListed, AllListed, words_o
 use Rattle.machine_model.specs.InstructionTable.{Listed, Scalar}
 use Rattle.promises.specs.Reserved.{register_written}
 use Rattle.call_code.specs.Called.{function_words}
-use Rattle.call_code.specs.Frame.{Saved, frame_size, a64_of, move_sp, back, save_x, save_z, restore_x, restore_z, enter, leave}
+use Rattle.promises.specs.Saved.{Saved, frame_size, kept_x, kept_z, is_number, word_writes, is_written, written_among, vector_written, saved_by}
+use Rattle.call_code.specs.Frame.{a64_of, move_sp, back, save_x, save_z, restore_x, restore_z, enter, leave}
 use Rattle.promises.specs.OneExit.{exit_call, exit_word}
 use Rattle.call_code.specs.Returning.{trap_word, branch_by, returning_word, returning}
-use Rattle.call_code.specs.Written.{kept_x, kept_z, is_number, word_writes, is_written, written_among, vector_written, saved_by}
 use Rattle.call_code.proofs.Among.{spelled_writes, unwritten_absent}
 use Rattle.call_code.proofs.AroundWords.{AreSaved, are_saved, enter_listed, leave_listed}
 use Rattle.call_code.proofs.Exits.{exit_listed}
@@ -35,10 +35,10 @@ module _ (written : Listed → Option ℕ) (r : ℕ) where
   none_both [] js h k = k
   none_both (i ∷ is) js h k = (h.0, none_both is js h.1 k)
 
-  none_written : (is : List Listed) → AllListed is → NoneWrites is → is_written written r (listed_words is) ≡ false
+  no_word_writes : (is : List Listed) → AllListed is → NoneWrites is → is_written written r (listed_words is) ≡ false
   unfolding is_written
-  none_written [] listed h = refl
-  none_written (i ∷ is) listed h = ap₂ (λ a b. a || b) (spelled_writes written i r listed.0 ∙ h.0) (none_written is listed.1 h.1)
+  no_word_writes [] listed h = refl
+  no_word_writes (i ∷ is) listed h = ap₂ (λ a b. a || b) (spelled_writes written i r listed.0 ∙ h.0) (no_word_writes is listed.1 h.1)
 
   written_append : (xs ys : List ℕ) → is_written written r (xs ++ ys) ≡ (is_written written r xs || is_written written r ys)
   unfolding is_written
@@ -84,7 +84,7 @@ module _ (written : Listed → Option ℕ) (r : ℕ) where
       written_append (listed_words (enter v)) (returning words ++ listed_words (leave v))
       ∙ ap (λ b. is_written written r (listed_words (enter v)) || b) (written_append (returning words) (listed_words (leave v)))
       ∙ same_either (is_written written r (listed_words (enter v))) (is_written written r (listed_words (leave v))) (is_written written r (returning words)) (is_written written r words)
-      (none_written (enter v) (enter_listed v h) before) (returning_writes none words few) (λ off. none_written (leave v) (leave_listed v h) (behind off))
+      (no_word_writes (enter v) (enter_listed v h) before) (returning_writes none words few) (λ off. no_word_writes (leave v) (leave_listed v h) (behind off))
 
 -- ---- the words around the code
 
@@ -146,8 +146,8 @@ module _ (r : ℕ) where
   up_no_z zero = tt
   up_no_z (suc n) = (refl, tt)
 
-  z_same : (words : List ℕ) → length words ≤ 65536 → is_written vector_written r (function_words words) ≡ is_written vector_written r words
-  z_same words few =
+  vectors_written_same : (words : List ℕ) → length words ≤ 65536 → is_written vector_written r (function_words words) ≡ is_written vector_written r words
+  vectors_written_same words few =
       let v = saved_by words in
       function_writes vector_written r (λ n. refl, refl, refl) words few
       (none_both vector_written r (move_sp a64.sub_imm (frame_size v)) (save_x 0 v.x ++ save_z (length v.x) v.z) (down_no_z (frame_size v)) (none_both vector_written r (save_x 0 v.x) (save_z (length v.x) v.z) (saves_no_z v.x 0) (low_saves_no_z v.z (length v.x))))
@@ -166,7 +166,7 @@ among_same written words others (r ∷ rs) low off same =
 among_z : (words : List ℕ) → length words ≤ 65536 → (rs : List ℕ) → written_among vector_written (function_words words) rs ≡ written_among vector_written words rs
 unfolding written_among
 among_z words few [] = refl
-among_z words few (r ∷ rs) = ap₂ (λ b more. if b then r ∷ more else more) (z_same r words few) (among_z words few rs)
+among_z words few (r ∷ rs) = ap₂ (λ b more. if b then r ∷ more else more) (vectors_written_same r words few) (among_z words few rs)
 
 pub keeps_same : (words : List ℕ) → length words ≤ 65536 → saved_by (function_words words) ≡ saved_by words
 keeps_same words few =

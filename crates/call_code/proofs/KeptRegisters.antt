@@ -14,22 +14,12 @@ use Rattle.label_fix.specs.DraftRun.{DraftEntry, Put, Branch, Place, Laid}
 use Rattle.label_fix.specs.Finished.{AreFit, words_from, words_of}
 use Rattle.promises.specs.Reserved.{register_written, writes_stack_pointer, is_reserved, none_reserved, leaves_reserved}
 use Rattle.call_code.specs.Called.{LeavesAlone}
-use Rattle.call_code.specs.Written.{is_number, word_writes, is_written, vector_written}
+use Rattle.promises.specs.Saved.{is_number, word_writes, is_written, vector_written}
+use Rattle.promises.proofs.ReservedKept.{reserved_x_stays, sp_unless_written}
 use Rattle.call_code.proofs.Among.{spelled_writes, head_not, tail_not, is_other}
 use Rattle.call_code.proofs.ReturnedRuns.{IsKept}
 
 -- ---- what an instruction keeps
-
-apart : (n d : ℕ) → is_reserved n ≡ true → not (is_reserved d) ≡ true → n ≢ d
-apart n d h k e = let same = ap is_reserved e in let free = ap not (sym same ∙ h) in absurd cc
-
-x_stays : (o : Option ℕ) (s t : State) (n : ℕ) → none_reserved o ≡ true → is_reserved n ≡ true → OtherX o s t → x_at t n ≡ x_at s n
-x_stays None s t n free h same = ap (λ x. slice_index x n) same
-x_stays (Some d) s t n free h same = same n (apart n d h free)
-
-sp_stays : (b : Bool) (old new : ℕ) → not b ≡ true → SameUnless b old new → new ≡ old
-sp_stays true old new h same = absurd cc
-sp_stays false old new h same = same
 
 other_x_stays : (o : Option ℕ) (s t : State) (n : ℕ) → is_number n o ≡ false → OtherX o s t → x_at t n ≡ x_at s n
 other_x_stays None s t n h same = ap (λ x. slice_index x n) same
@@ -65,21 +55,21 @@ pub record Keeps (words : List ℕ) (s t : State) : Type 0 where
 abbrev IsAmong : List ℕ → Listed → Type 0
 IsAmong words i = (written : Listed → Option ℕ) (r : ℕ) → is_written written r words ≡ false → is_number r (written i) ≡ false
 
-does_keep : (words : List ℕ) (i : Listed) (s t : State) → IsAmong words i → leaves_reserved i ≡ true → does i s ≡ Went t → Keeps words s t
-does_keep words (Scalar i) s t among h e =
+goes_keeping : (words : List ℕ) (i : Listed) (s t : State) → IsAmong words i → leaves_reserved i ≡ true → does i s ≡ Went t → Keeps words s t
+goes_keeping words (Scalar i) s t among h e =
     let l = scalar_leaves i.name i.numbers s t e in
     let two = and_parts (none_reserved (register_written (Scalar i))) (not (writes_stack_pointer (Scalar i))) h in
     record {
-      x = λ n r. x_stays (register_written (Scalar i)) s t n two.0 r l.x;
-      sp = sp_stays (writes_stack_pointer (Scalar i)) s.sp t.sp two.1 l.sp;
+      x = λ n r. reserved_x_stays (register_written (Scalar i)) s t n two.0 r l.x;
+      sp = sp_unless_written (writes_stack_pointer (Scalar i)) s.sp t.sp two.1 l.sp;
       other_x = λ n off. other_x_stays (register_written (Scalar i)) s t n (among register_written n off) l.x;
       other_z = λ n off. other_z_stays None s t n refl l.z;
     }
-does_keep words (Vector i) s t among h e =
+goes_keeping words (Vector i) s t among h e =
     let l = went_leaves i.name (field_of i.name i.numbers) s t e in
     let two = and_parts (none_reserved (register_written (Vector i))) (not (writes_stack_pointer (Vector i))) h in
     record {
-      x = λ n r. x_stays (register_written (Vector i)) s t n two.0 r l.x;
+      x = λ n r. reserved_x_stays (register_written (Vector i)) s t n two.0 r l.x;
       sp = l.sp;
       other_x = λ n off. other_x_stays (register_written (Vector i)) s t n (among register_written n off) l.x;
       other_z = λ n off. other_z_stays (vector_written (Vector i)) s t n (among vector_written n off) l.z;
@@ -93,14 +83,14 @@ keeps_on words s t u h k = record {
   other_z = λ n off. k.other_z n off ∙ h.other_z n off;
 }
 
-pub kept_by : (labels : ℕ) (d : Laid) → AreFit labels d.entries → LeavesAlone d.entries → IsKept (Keeps (words_of d.entries)) d
+pub draft_keeps : (labels : ℕ) (d : Laid) → AreFit labels d.entries → LeavesAlone d.entries → IsKept (Keeps (words_of d.entries)) d
 unfolding words_of
-kept_by labels d fit alone = record {
+draft_keeps labels d fit alone = record {
   on = keeps_on (words_of d.entries);
   jumps = λ s pc. record { x = λ n r. refl; sp = refl; other_x = λ n off. refl; other_z = λ n off. refl };
   puts = λ i pre rest s t e is.
       let listed = put_listed labels pre rest i (subst (AreFit labels) e fit) in
-      does_keep (words_of d.entries) i s t
+      goes_keeping (words_of d.entries) i s t
       (λ written r off. sym (spelled_writes written i r listed) ∙ put_not written r d.entries pre rest 0 i (ap (λ es. is_written written r (words_from d.entries 0 es)) (sym e) ∙ off))
       (alone i pre rest e) is;
 }

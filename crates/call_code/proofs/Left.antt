@@ -12,7 +12,8 @@ use Rattle.machine_model.specs.OneStep.{step}
 use Rattle.machine_model.specs.Run.{after_steps}
 use Rattle.machine_model.specs.States.{IsState}
 use Rattle.machine_model.proofs.CodeInMemory.{code_does, code_back}
-use Rattle.call_code.specs.Frame.{Saved, doublewords, frame_size, move_sp, back, restore_x, restore_z, leave, low_at, kept_words}
+use Rattle.promises.specs.Saved.{Saved, doublewords, frame_size}
+use Rattle.call_code.specs.Frame.{move_sp, back, restore_x, restore_z, leave, low_at, kept_words}
 use Rattle.call_code.proofs.AroundWords.{AreSaved, frame_holds, z_low}
 use Rattle.call_code.proofs.Entered.{place_low}
 use Rattle.call_code.proofs.FrameNumbers.{holds_front, holds_back, z_words_small}

@@ -22,7 +22,7 @@ use Rattle.machine_model.specs.Run.{after_steps}
 use Rattle.machine_model.proofs.CodeInMemory.{code_does}
 use Rattle.call_code.specs.Frame.{load_at, spread_low, restore_x, restore_z, low_at}
 use Rattle.call_code.proofs.SavedWords.{none_faults, Holds}
-use Rattle.call_code.proofs.Walks.{first_then, code_on}
+use Rattle.call_code.proofs.Walks.{word_after_below, first_then, code_on}
 
 -- ---- lists of registers
 
@@ -69,18 +69,15 @@ Back at (r ∷ rs) (v ∷ vs) = (at r ≡ v) × Back at rs vs
 abbrev pub AreReadable : Memory → ℕ → ℕ → Type 0
 AreReadable m a n = (x : ℕ) → a ≤ x → x < a + 8 * n → can_read m x ≡ true
 
-lower : (pc : ℕ) → word_after pc < 2 ^ 64
-lower pc = mod-lt (pc + 4) (pow_pos 64)
-
-loaded_as : (s : State) (r a v : ℕ) → first_fault (can_read s.memory) a 8 ≡ None → number_at s.memory a 8 ≡ v → load_to s r a 8 as_it_is ≡ Went (next (with_x s r v))
-loaded_as s r a v free is = ap (λ o. elim o as (λ o. Step) [ Ok v ↦ write s r (as_it_is v) | Err fault ↦ Stopped Read s.pc fault.address s.memory ]) (loaded-done s.memory a 8 free ∙ ap Ok is)
+doubleword_loaded : (s : State) (r a v : ℕ) → first_fault (can_read s.memory) a 8 ≡ None → number_at s.memory a 8 ≡ v → load_to s r a 8 as_it_is ≡ Went (next (with_x s r v))
+doubleword_loaded s r a v free is = ap (λ o. elim o as (λ o. Step) [ Ok v ↦ write s r (as_it_is v) | Err fault ↦ Stopped Read s.pc fault.address s.memory ]) (loaded-done s.memory a 8 free ∙ ap Ok is)
 
 pub load_step : (s : State) (r p a v n : ℕ) (rest : List Listed) → HasCode s.memory s.pc (load_at r p ∷ rest) → s.sp + 8 * p ≡ a → a + 8 * suc n ≤ 2 ^ 64 → AreReadable s.memory a (suc n) → number_at s.memory a 8 ≡ v → step s ≡ Went (next (with_x s r v))
 load_step s r p a v n rest code at room free is =
     let e : (s.sp + p * 8) % 2 ^ 64 ≡ a = omega (arith, at, room) in
     code_does s (load_at r p) rest code
     ∙ ap (λ c. load_to s r c 8 as_it_is) e
-    ∙ loaded_as s r a v (none_faults (can_read s.memory) a 8 (omega (arith, room)) (λ x from until. free x from (omega (arith, until)))) is
+    ∙ doubleword_loaded s r a v (none_faults (can_read s.memory) a 8 (omega (arith, room)) (λ x from until. free x from (omega (arith, until)))) is
 
 -- ---- general registers
 
@@ -104,7 +101,7 @@ restores_x (r ∷ rs) (v ∷ vs) p a rest s code sized regs long at room free ho
     let sized1 : length s1.x ≡ 31 = length-set s.x r v ∙ sized in
     let low : r < 31 = regs.0 in
     let given : x_at s1 r ≡ v = get_or-set_same s.x r v 0 (omega (arith, sized, low)) in
-    let more = restores_x rs vs (p + 1) (a + 8) rest s1 (code_on s s1 (word_after s.pc) tail one (lower s.pc) code.2) sized1 regs.2 (omega (arith, long)) (omega (arith, at)) (omega (arith, room)) (λ x from until. free x (omega (arith, from)) (omega (arith, until))) holds.1 in
+    let more = restores_x rs vs (p + 1) (a + 8) rest s1 (code_on s s1 (word_after s.pc) tail one (word_after_below s.pc) code.2) sized1 regs.2 (omega (arith, long)) (omega (arith, at)) (omega (arith, room)) (λ x from until. free x (omega (arith, from)) (omega (arith, until))) holds.1 in
     let h = more.1 in (
       more.0,
       record {
@@ -139,7 +136,7 @@ restores_z (r ∷ rs) (v ∷ vs) p a rest s code sized wide vl regs long small a
     let s1 : State = next (with_x s 9 v) in
     let tail = restore_z (p + 1) rs ++ rest in
     let one : step s ≡ Went s1 = load_step s 9 p a v (length rs) (spread_low r ∷ tail) code at room free holds.0 in
-    let code1 = code_on s s1 (word_after s.pc) (spread_low r ∷ tail) one (lower s.pc) code.2 in
+    let code1 = code_on s s1 (word_after s.pc) (spread_low r ∷ tail) one (word_after_below s.pc) code.2 in
     let sized1 : length s1.x ≡ 31 = length-set s.x 9 v ∙ sized in
     let taken : x_at s1 9 ≡ v = get_or-set_same s.x 9 v 0 (omega (arith, sized)) in
     let made = register 8 (dup_at (x_at s1 9)) (lanes s.vl D) in
@@ -151,7 +148,7 @@ restores_z (r ∷ rs) (v ∷ vs) p a rest s code sized wide vl regs long small a
     let stands : z_at s2 r ≡ made = get_or-set_same s.z r made [] (omega (arith, wide, low)) in
     let given : low_at s2 r ≡ v = ap (λ z. element 8 z 0) stands ∙ element-register 8 (dup_at (x_at s1 9)) (lanes s.vl D) 0 some ∙ ap (λ k. k % 256 ^ 8) taken ∙ fits in
     let wide2 : length s2.z ≡ 32 = length-set s.z r made ∙ wide in
-    let more = restores_z rs vs (p + 1) (a + 8) rest s2 (code_on s1 s2 (word_after s1.pc) tail two (lower s1.pc) code1.2) sized1 wide2 vl regs.2 (omega (arith, long)) (All-tail (λ v. v < 2 ^ 64) v vs small) (omega (arith, at)) (omega (arith, room)) (λ x from until. free x (omega (arith, from)) (omega (arith, until))) holds.1 in
+    let more = restores_z rs vs (p + 1) (a + 8) rest s2 (code_on s1 s2 (word_after s1.pc) tail two (word_after_below s1.pc) code1.2) sized1 wide2 vl regs.2 (omega (arith, long)) (All-tail (λ v. v < 2 ^ 64) v vs small) (omega (arith, at)) (omega (arith, room)) (λ x from until. free x (omega (arith, from)) (omega (arith, until))) holds.1 in
     let h = more.1 in (
       more.0,
       record {

@@ -17,10 +17,11 @@ use Rattle.machine_model.proofs.ListedWords.{step_does, step_cuts}
 use Rattle.label_fix.specs.DraftRun.{Kind, Always, DraftEntry, Put, Branch, Place, Laid, is_taken, following, place_of, address_of, walk, draft_run}
 use Rattle.label_fix.specs.Suppressions.{count_on, walk_cuts, cuts}
 use Rattle.label_fix.specs.Finished.{size, branch_of, is_plain, AreFit, StandAt, words_from, words_of}
+use Rattle.label_fix.proofs.Collected.{place_within}
 use Rattle.label_fix.proofs.PlacedRuns.{size-append, address_at, branch_listed}
 use Rattle.promises.specs.OneExit.{exit_call, exit_word}
 use Rattle.call_code.specs.Returning.{trap_word, returning_word, returning}
-use Rattle.call_code.proofs.Draft.{branch_does, target_forward, before, parts, placed, place-small, onward, next_place, passes}
+use Rattle.call_code.proofs.Draft.{branch_does, target_forward, before, parts, placed, onward, next_place, passes}
 use Rattle.call_code.proofs.Exits.{is_end, is_exit, ends_by_exit}
 
 -- ---- the words in memory
@@ -61,6 +62,10 @@ from_next d m n v words f k w e = let j : n + suc k ≡ suc n + k = omega arith 
 
 from_here : (d : Laid) (m : Memory) (n v : ℕ) (words : List ℕ) → From d m n (v ∷ words) → fetched m (address_at d n) ≡ Some v
 from_here d m n v words f = let j : n ≡ n + 0 = omega arith in ap (λ i. fetched m (address_at d i)) j ∙ f 0 v refl
+
+pub length_returning : (words : List ℕ) → length (returning words) ≡ length words + 1
+length_returning [] = refl
+length_returning (w ∷ words) = omega (arith, length_returning words)
 
 length_from : (whole rest : List DraftEntry) (n : ℕ) → length (words_from whole n rest) ≡ size rest
 length_from whole [] n = refl
@@ -115,7 +120,7 @@ Answers K d s taken n (End m r steps) = Returned K d s taken n m r steps
 Answers K d s taken n (Stop kind pc at m steps) = IsAccess kind → run n taken s ≡ Stop kind pc at m steps
 Answers K d s taken n (Spent pc m steps) = Unit {0}
 
--- what relates a state to a later one
+-- what relates a state to a answers_later one
 pub record IsKept (K : State → State → Type 0) (d : Laid) : Type 0 where
   pub on : (s t u : State) → K s t → K t u → K s u
   pub jumps : (s : State) (pc : ℕ) → K s (jump s pc)
@@ -130,8 +135,8 @@ break_is_none (inl e) = cc
 break_is_none (inr e) = cc
 
 module _ (K : State → State → Type 0) (d : Laid) (is : IsKept K d) (few : size d.entries ≤ 65536) where
-  later : (s t : State) (taken n : ℕ) (o : Outcome) → step s ≡ Went t → K s t → Answers K d t (taken + 1) n o → Answers K d s taken (suc n) o
-  later s t taken n (End m r steps) e k h =
+  answers_later : (s t : State) (taken n : ℕ) (o : Outcome) → step s ≡ Went t → K s t → Answers K d t (taken + 1) n o → Answers K d s taken (suc n) o
+  answers_later s t taken n (End m r steps) e k h =
       let c = h.counted in
       let w = h.within in
       record {
@@ -145,8 +150,8 @@ module _ (K : State → State → Type 0) (d : Laid) (is : IsKept K d) (few : si
         place = h.place;
         kept = is.on s t h.end k h.kept;
       }
-  later s t taken n (Stop kind pc at m steps) e k h = λ ok. ap (λ o. go_on o s (taken + 1) (run n (taken + 1))) e ∙ h ok
-  later s t taken n (Spent pc m steps) e k h = tt
+  answers_later s t taken n (Stop kind pc at m steps) e k h = λ ok. ap (λ o. go_on o s (taken + 1) (run n (taken + 1))) e ∙ h ok
+  answers_later s t taken n (Spent pc m steps) e k h = tt
 
   -- for n words, from any place
   abbrev Answered : ℕ → Type 0
@@ -157,14 +162,14 @@ module _ (K : State → State → Type 0) (d : Laid) (is : IsKept K d) (few : si
     went_on i (Went t) taken pre rest s e f on plain at p h =
         let k = passes i s t plain e in
         let z : size (pre ++ Put i ∷ []) ≡ size pre + 1 = size-append pre (Put i ∷ []) in
-        later s t taken n (draft_run d n (taken + 1) rest t) f (is.puts i pre rest s t at e)
+        answers_later s t taken n (draft_run d n (taken + 1) rest t) f (is.puts i pre rest s t at e)
         (ih (taken + 1) (pre ++ Put i ∷ []) rest t (onward d (Put i) pre rest at) (k.pc ∙ next_place d s.pc (size pre) p ∙ ap (address_at d) (sym z)) (stands_keep d s.memory t.memory 0 d.entries k.code h))
     went_on i (Ended r) taken pre rest s e f on plain at p h = absurd cc
     went_on i (Stopped kind pc at m) taken pre rest s e f on plain here p h = λ ok. ap (λ o. go_on o s (taken + 1) (run n (taken + 1))) f
 
     -- at the exit call the machine branches
-    exits : (b : Bool) (taken : ℕ) (pre rest : List DraftEntry) (s t : State) → step s ≡ Went t → t ≡ jump s (address_at d (size d.entries + 1)) → Answers K d s taken (suc n) (go_on (if b then Ended (x_at s 0) else Stopped Call s.pc (x_at s 8) s.memory) s (taken + 1) (draft_run d n (taken + 1) rest))
-    exits true taken pre rest s t e f = record {
+    exit_answers : (b : Bool) (taken : ℕ) (pre rest : List DraftEntry) (s t : State) → step s ≡ Went t → t ≡ jump s (address_at d (size d.entries + 1)) → Answers K d s taken (suc n) (go_on (if b then Ended (x_at s 0) else Stopped Call s.pc (x_at s 8) s.memory) s (taken + 1) (draft_run d n (taken + 1) rest))
+    exit_answers true taken pre rest s t e f = record {
       count = 1;
       within = omega arith;
       counted = refl;
@@ -175,17 +180,17 @@ module _ (K : State → State → Type 0) (d : Laid) (is : IsKept K d) (few : si
       place = ap (λ (u : State). u.pc) f;
       kept = subst (K s) (sym f) (is.jumps s (address_at d (size d.entries + 1)));
     }
-    exits false taken pre rest s t e f = λ ok. absurd (call_is_none ok)
+    exit_answers false taken pre rest s t e f = λ ok. absurd (call_is_none ok)
 
-    put_on : (b : Bool) (i : Listed) (taken : ℕ) (pre rest : List DraftEntry) (s : State) → nat_eq (spell i) exit_word ≡ b → fetched s.memory s.pc ≡ Some (returning_word (spell i) (size rest)) → IsListed i → is_plain i ≡ true → d.entries ≡ pre ++ Put i ∷ rest → s.pc ≡ address_at d (size pre) → Stands d s.memory 0 d.entries → Answers K d s taken (suc n) (go_on (does i s) s (taken + 1) (draft_run d n (taken + 1) rest))
-    put_on false i taken pre rest s e at listed plain all p h =
+    put_answers : (b : Bool) (i : Listed) (taken : ℕ) (pre rest : List DraftEntry) (s : State) → nat_eq (spell i) exit_word ≡ b → fetched s.memory s.pc ≡ Some (returning_word (spell i) (size rest)) → IsListed i → is_plain i ≡ true → d.entries ≡ pre ++ Put i ∷ rest → s.pc ≡ address_at d (size pre) → Stands d s.memory 0 d.entries → Answers K d s taken (suc n) (go_on (does i s) s (taken + 1) (draft_run d n (taken + 1) rest))
+    put_answers false i taken pre rest s e at listed plain all p h =
         let word : fetched s.memory s.pc ≡ Some (spell i) = at ∙ ap Some (cond-false _ _ _ e) in
         went_on i (does i s) taken pre rest s refl (step_does s i listed word) (no_end (is_end (does i s)) refl) plain all p h
       where
         no_end : (c : Bool) → is_end (does i s) ≡ c → is_end (does i s) ≡ false
         no_end false f = f
         no_end true f = let same = sym e ∙ eq-eqb _ _ (ends_by_exit i s listed f) in absurd cc
-    put_on true i taken pre rest s e at listed plain all p h =
+    put_answers true i taken pre rest s e at listed plain all p h =
         let same : i ≡ exit_call = is_exit i listed (eqb-true _ _ e) in
         let over : size rest + 2 ≤ 65538 = let z = ap size all ∙ size-append pre (Put i ∷ rest) in omega (arith, few, z) in
         let jumped : Listed = Scalar (record { name = a64.b; numbers = (size rest + 2) ∷ [] }) in
@@ -195,15 +200,15 @@ module _ (K : State → State → Type 0) (d : Laid) (is : IsKept K d) (few : si
         let there : size pre + (size rest + 2) ≡ size d.entries + 1 = let z = ap size all ∙ size-append pre (Put i ∷ rest) in omega (arith, z) in
         let t : State = jump s (address_at d (size d.entries + 1)) in
         let steps : step s ≡ Went t = step_does s jumped known word ∙ ap (λ a. Went (jump s a)) (to ∙ ap (λ k. (d.base + 4 * k) % 2 ^ 64) there) in
-        subst (λ j. Answers K d s taken (suc n) (go_on (does j s) s (taken + 1) (draft_run d n (taken + 1) rest))) (sym same) (exits (nat_eq (x_at s 8) 93) taken pre rest s t steps refl)
+        subst (λ j. Answers K d s taken (suc n) (go_on (does j s) s (taken + 1) (draft_run d n (taken + 1) rest))) (sym same) (exit_answers (nat_eq (x_at s 8) 93) taken pre rest s t steps refl)
 
     branched : (c : Bool) (k : Kind) (l taken : ℕ) (pre rest : List DraftEntry) (s : State) → step s ≡ Went (if c then jump s (address_of d l) else next s) → d.entries ≡ pre ++ Branch k l ∷ rest → s.pc ≡ address_at d (size pre) → Stands d s.memory 0 d.entries → Answers K d s taken (suc n) (if c then draft_run d n (taken + 1) (following d l) (jump s (address_of d l)) else draft_run d n (taken + 1) rest (next s))
     branched true k l taken pre rest s f e p h =
-        later s (jump s (address_of d l)) taken n (draft_run d n (taken + 1) (following d l) (jump s (address_of d l))) f (is.jumps s (address_of d l))
+        answers_later s (jump s (address_of d l)) taken n (draft_run d n (taken + 1) (following d l) (jump s (address_of d l))) f (is.jumps s (address_of d l))
         (ih (taken + 1) (before d.entries l) (following d l) (jump s (address_of d l)) (parts d.entries l) (ap (address_at d) (placed d.entries l)) h)
     branched false k l taken pre rest s f e p h =
         let z : size (pre ++ Branch k l ∷ []) ≡ size pre + 1 = size-append pre (Branch k l ∷ []) in
-        later s (next s) taken n (draft_run d n (taken + 1) rest (next s)) f (is.jumps s ((s.pc + 4) % 2 ^ 64))
+        answers_later s (next s) taken n (draft_run d n (taken + 1) rest (next s)) f (is.jumps s ((s.pc + 4) % 2 ^ 64))
         (ih (taken + 1) (pre ++ Branch k l ∷ []) rest (next s) (onward d (Branch k l) pre rest e) (next_place d s.pc (size pre) p ∙ ap (address_at d) (sym z)) h)
 
     trapped : (taken : ℕ) (s : State) → fetched s.memory s.pc ≡ Some trap_word → Answers K d s taken (suc n) (run (suc n) taken s)
@@ -217,11 +222,11 @@ module _ (K : State → State → Type 0) (d : Laid) (is : IsKept K d) (few : si
     answered_walk [] pre taken s e p h = trapped taken s (ap (fetched s.memory) p ∙ here d pre [] s e h)
     answered_walk (Put i ∷ rest) pre taken s e p h =
         let at = here d pre _ s e h in
-        put_on (nat_eq (spell i) exit_word) i taken pre rest s refl (ap (fetched s.memory) p ∙ at.0) at.1 at.2 e p h
+        put_answers (nat_eq (spell i) exit_word) i taken pre rest s refl (ap (fetched s.memory) p ∙ at.0) at.1 at.2 e p h
     answered_walk (Branch k l ∷ rest) pre taken s e p h =
         let at = here d pre _ s e h in
         let z = ap size e ∙ size-append pre (Branch k l ∷ rest) in
-        let to = place-small d.entries l in
+        let to = place_within d.entries l in
         branched (is_taken k s) k l taken pre rest s
         (step_does s (Scalar (branch_of k (size pre) (place_of d.entries l))) at.1 (ap (fetched s.memory) p ∙ at.0) ∙ branch_does d k (size pre) (place_of d.entries l) s (omega (arith, few, z)) (omega (arith, few, to)) p)
         e p h
@@ -289,7 +294,7 @@ module _ (d : Laid) (few : size d.entries ≤ 65536) (n : ℕ) (ih : Fewer d n) 
   fewer_walk (Branch k l ∷ rest) pre s e p h =
       let at = here d pre _ s e h in
       let z = ap size e ∙ size-append pre (Branch k l ∷ rest) in
-      let to = place-small d.entries l in
+      let to = place_within d.entries l in
       let i = branch_of k (size pre) (place_of d.entries l) in
       let is = step_counts s (Scalar i) n at.1 (ap (fetched s.memory) p ∙ at.0) ∙ ap (λ o. counted_by o false n) (branch_does d k (size pre) (place_of d.entries l) s (omega (arith, few, z)) (omega (arith, few, to)) p) in
       let le = fewer_branch (is_taken k s) k l pre rest s e p h in

@@ -24,13 +24,13 @@ none_faults test a (suc (suc n)) room h =
     ∙ none_faults test (a + 1) (suc n) (omega (arith, room)) (λ x from until. h x (omega (arith, from)) (omega (arith, until)))
 
 -- the number of bytes that are the same
-pub number_same : (m w : Memory) (a n : ℕ) → a + n ≤ 2 ^ 64 → ((x : ℕ) → a ≤ x → x < a + n → byte_at w x ≡ byte_at m x) → number_at w a n ≡ number_at m a n
-number_same m w a zero room h = refl
-number_same m w a (suc zero) room h = ap (λ o. unwrap_or o 0 + 256 * 0) (h a (omega arith) (omega arith))
-number_same m w a (suc (suc n)) room h =
+pub doubleword_same : (m w : Memory) (a n : ℕ) → a + n ≤ 2 ^ 64 → ((x : ℕ) → a ≤ x → x < a + n → byte_at w x ≡ byte_at m x) → number_at w a n ≡ number_at m a n
+doubleword_same m w a zero room h = refl
+doubleword_same m w a (suc zero) room h = ap (λ o. unwrap_or o 0 + 256 * 0) (h a (omega arith) (omega arith))
+doubleword_same m w a (suc (suc n)) room h =
     let e : next_address a ≡ a + 1 = omega (arith, room) in
     let rest : number_at w (next_address a) (suc n) ≡ number_at m (next_address a) (suc n) =
-    ap (λ c. number_at w c (suc n)) e ∙ number_same m w (a + 1) (suc n) (omega (arith, room)) (λ x from until. h x (omega (arith, from)) (omega (arith, until))) ∙ ap (λ c. number_at m c (suc n)) (sym e) in
+    ap (λ c. number_at w c (suc n)) e ∙ doubleword_same m w (a + 1) (suc n) (omega (arith, room)) (λ x from until. h x (omega (arith, from)) (omega (arith, until))) ∙ ap (λ c. number_at m c (suc n)) (sym e) in
     ap₂ (λ low high. low + 256 * high) (ap (λ o. unwrap_or o 0) (h a (omega arith) (omega arith))) rest
 
 -- ---- one number written
@@ -78,10 +78,10 @@ words_memory m a [] is = is
 words_memory m a (v ∷ vs) is = words_memory (put_number m a 8 v) (a + 8) vs (IsMemory-put_number m a 8 v is)
 
 -- bytes below and above stay
-pub words_below : (m : Memory) (a : ℕ) (vs : List ℕ) (c : ℕ) → a + 8 * length vs ≤ 2 ^ 64 → c < a → byte_at (with_words m a vs) c ≡ byte_at m c
-words_below m a [] c room lt = refl
-words_below m a (v ∷ vs) c room lt =
-    words_below (put_number m a 8 v) (a + 8) vs c (omega (arith, room)) (omega (arith, lt))
+pub doublewords_spare : (m : Memory) (a : ℕ) (vs : List ℕ) (c : ℕ) → a + 8 * length vs ≤ 2 ^ 64 → c < a → byte_at (with_words m a vs) c ≡ byte_at m c
+doublewords_spare m a [] c room lt = refl
+doublewords_spare m a (v ∷ vs) c room lt =
+    doublewords_spare (put_number m a 8 v) (a + 8) vs c (omega (arith, room)) (omega (arith, lt))
     ∙ byte_at-put_number_other m a 8 v c (omega (arith, room)) (omega (arith, room, lt)) (below_apart a 8 c (omega (arith, room)) lt)
 
 pub words_above : (m : Memory) (a : ℕ) (vs : List ℕ) (c : ℕ) → a + 8 * length vs ≤ c → c < 2 ^ 64 → byte_at (with_words m a vs) c ≡ byte_at m c
@@ -104,7 +104,7 @@ words_hold m a [] is room small h = tt
 words_hold m a (v ∷ vs) is room small h =
     let next = put_number m a 8 v in
     let kept : number_at (with_words next (a + 8) vs) a 8 ≡ number_at next a 8 =
-    number_same next (with_words next (a + 8) vs) a 8 (omega (arith, room)) (λ x from until. words_below next (a + 8) vs x (omega (arith, room)) until) in
+    doubleword_same next (with_words next (a + 8) vs) a 8 (omega (arith, room)) (λ x from until. doublewords_spare next (a + 8) vs x (omega (arith, room)) until) in
     let fits : v % 256 ^ 8 ≡ v = mod-eq_of_lt (let lt : v < 256 ^ 8 = All-head (λ v. v < 2 ^ 64) v vs small in lt) in (
       kept ∙ number_written m a 8 v is (omega (arith, room)) (λ x from until. h x from (omega (arith, until))) ∙ number-bytes_of 8 v ∙ fits,
       words_hold next (a + 8) vs (IsMemory-put_number m a 8 v is) (omega (arith, room)) (All-tail (λ v. v < 2 ^ 64) v vs small) (λ x from until. can_read-put_number m a 8 v x ∙ h x (omega (arith, from)) (omega (arith, until))),
@@ -114,6 +114,6 @@ words_hold m a (v ∷ vs) is room small h =
 pub held_in : (m w : Memory) (a : ℕ) (vs : List ℕ) → a + 8 * length vs ≤ 2 ^ 64 → ((x : ℕ) → a ≤ x → x < a + 8 * length vs → byte_at w x ≡ byte_at m x) → Holds m a vs → Holds w a vs
 held_in m w a [] room same h = tt
 held_in m w a (v ∷ vs) room same h = (
-  number_same m w a 8 (omega (arith, room)) (λ x from until. same x from (omega (arith, until))) ∙ h.0,
+  doubleword_same m w a 8 (omega (arith, room)) (λ x from until. same x from (omega (arith, until))) ∙ h.0,
   held_in m w (a + 8) vs (omega (arith, room)) (λ x from until. same x (omega (arith, from)) (omega (arith, until))) h.1,
 )

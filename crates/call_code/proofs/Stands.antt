@@ -40,8 +40,8 @@ has_code m (i ∷ is) pc low listed h =
     let rest : StandAt m (word_after pc) (words_of is) = λ k w e. let p : ((pc + 4) % 2 ^ 64 + 4 * k) % 2 ^ 64 ≡ (pc + 4 * suc k) % 2 ^ 64 = omega arith in ap (fetched m) p ∙ h (suc k) w e in
     (first, listed.0, has_code m is (word_after pc) (mod-lt (pc + 4) (pow_pos 64)) listed.1 rest)
 
-pub place_is : (is : List Listed) (pc : ℕ) → pc < 2 ^ 64 → place_after pc is ≡ (pc + 4 * length is) % 2 ^ 64
-place_is [] pc low = omega (arith, low)
-place_is (i ∷ is) pc low =
-    place_is is (word_after pc) (mod-lt (pc + 4) (pow_pos 64))
+pub place_by_count : (is : List Listed) (pc : ℕ) → pc < 2 ^ 64 → place_after pc is ≡ (pc + 4 * length is) % 2 ^ 64
+place_by_count [] pc low = omega (arith, low)
+place_by_count (i ∷ is) pc low =
+    place_by_count is (word_after pc) (mod-lt (pc + 4) (pow_pos 64))
     ∙ (let e : ((pc + 4) % 2 ^ 64 + 4 * length is) % 2 ^ 64 ≡ (pc + 4 * suc (length is)) % 2 ^ 64 = omega arith in e)

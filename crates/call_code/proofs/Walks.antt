@@ -12,14 +12,17 @@ use Rattle.machine_model.proofs.CodeInMemory.{code_stays}
 use Rattle.machine_model.proofs.MemoryStays.{run_code, run_access}
 use Rattle.machine_model.proofs.Runs.{leads_after}
 
+pub word_after_below : (pc : ℕ) → word_after pc < 2 ^ 64
+word_after_below pc = mod-lt (pc + 4) (pow_pos 64)
+
 -- one step, and more
 pub first_then : (n : ℕ) (s t u : State) → step s ≡ Went t → after_steps n t ≡ Some u → after_steps (suc n) s ≡ Some u
 first_then n s t u e h = ap (λ o. elim o as (λ o. Option State) [ Went v ↦ after_steps n v | Ended result ↦ None | Stopped kind pc at memory ↦ None ]) e ∙ h
 
-add_on : (o : Step) (m n : ℕ) (t u : State) → ((v : State) → after_steps m v ≡ Some t → after_steps (m + n) v ≡ Some u) → elim o as (λ o. Option State) [ Went v ↦ after_steps m v | Ended result ↦ None | Stopped kind pc at memory ↦ None ] ≡ Some t → elim o as (λ o. Option State) [ Went v ↦ after_steps (m + n) v | Ended result ↦ None | Stopped kind pc at memory ↦ None ] ≡ Some u
-add_on (Went v) m n t u more h = more v h
-add_on (Ended r) m n t u more h = absurd cc
-add_on (Stopped kind pc at memory) m n t u more h = absurd cc
+step_and_more : (o : Step) (m n : ℕ) (t u : State) → ((v : State) → after_steps m v ≡ Some t → after_steps (m + n) v ≡ Some u) → elim o as (λ o. Option State) [ Went v ↦ after_steps m v | Ended result ↦ None | Stopped kind pc at memory ↦ None ] ≡ Some t → elim o as (λ o. Option State) [ Went v ↦ after_steps (m + n) v | Ended result ↦ None | Stopped kind pc at memory ↦ None ] ≡ Some u
+step_and_more (Went v) m n t u more h = more v h
+step_and_more (Ended r) m n t u more h = absurd cc
+step_and_more (Stopped kind pc at memory) m n t u more h = absurd cc
 
 -- steps, and more
 pub after_add : (m n : ℕ) (s t u : State) → after_steps m s ≡ Some t → after_steps n t ≡ Some u → after_steps (m + n) s ≡ Some u
@@ -29,7 +32,7 @@ after_add zero n s t u h k =
     ap (λ j. after_steps j s) e ∙ ap (after_steps n) same ∙ k
 after_add (suc m) n s t u h k =
     let e : suc m + n ≡ suc (m + n) = omega arith in
-    ap (λ j. after_steps j s) e ∙ add_on (step s) m n t u (λ v is. after_add m n v t u is k) h
+    ap (λ j. after_steps j s) e ∙ step_and_more (step s) m n t u (λ v is. after_add m n v t u is k) h
 
 -- code stays over a step
 pub code_on : (s t : State) (pc : ℕ) (is : List Listed) → step s ≡ Went t → pc < 2 ^ 64 → HasCode s.memory pc is → HasCode t.memory pc is

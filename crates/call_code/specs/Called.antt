@@ -1,18 +1,19 @@
 -- A call of a function whose code is that of a draft: what the caller gives, and what it finds again.
 use Rattle.std.specs.Prelude.{◌≡◌, ◌≢◌, ℕ, ◌+◌, ◌*◌, ◌<◌, ◌≤◌, true, List, ◌∷◌, ◌++◌, length, Some, All}
-use Rattle.guest_types.specs.Memory.{Memory, byte_at, can_write}
+use Rattle.guest_types.specs.Memory.{Memory, byte_at}
 use Rattle.machine_model.specs.CodeInMemory.{words_of as listed_words}
 use Rattle.machine_model.specs.InstructionTable.{Listed}
 use Rattle.machine_model.specs.Machine.{State, x_at}
 use Rattle.machine_model.specs.Run.{Outcome, End, Stop, Spent, IsAccess, run, after_steps, suppressed}
 use Rattle.machine_model.specs.States.{IsState}
 use Rattle.label_fix.specs.DraftRun.{DraftEntry, Put, draft_run}
-use Rattle.label_fix.specs.Finished.{AreFit, StandAt, size, words_of}
+use Rattle.label_fix.specs.Finished.{AreFit, size, words_of}
 use Rattle.label_fix.specs.Suppressions.{cuts}
-use Rattle.promises.specs.Reserved.{leaves_reserved}
-use Rattle.call_code.specs.Frame.{Saved, doublewords, frame_size, enter, leave, low_at, kept_words, with_words}
+use Rattle.promises.specs.Function.{IsCall}
+use Rattle.promises.specs.Reserved.{platform_register, frame_pointer, link_register, leaves_reserved}
+use Rattle.promises.specs.Saved.{Saved, doublewords, frame_size, kept_x, kept_z, saved_by}
+use Rattle.call_code.specs.Frame.{carrier, enter, leave, low_at, kept_words, with_words}
 use Rattle.call_code.specs.Returning.{returning}
-use Rattle.call_code.specs.Written.{kept_x, kept_z, saved_by}
 
 -- the words of a function with this code, which keeps some registers
 abbrev pub words_around : Saved → List ℕ → List ℕ
@@ -22,17 +23,10 @@ words_around v words = listed_words (enter v) ++ (returning words ++ listed_word
 abbrev pub function_words : List ℕ → List ℕ
 function_words words = words_around (saved_by words) words
 
--- the state at the first word of a function: its words stand there, and the frame below SP may be written
-pub record IsCall (v : Saved) (words : List ℕ) (s : State) : Type 0 where
-  pub state : IsState s
-  pub code : StandAt s.memory s.pc words
-  pub room : frame_size v ≤ s.sp
-  pub free : (x : ℕ) → s.sp ≤ x + frame_size v → x + frame_size v < s.sp + 8 * doublewords v → can_write s.memory x ≡ true
-
 -- The state in which the code of the draft is entered: the registers are kept in the frame.
 pub record Enters (v : Saved) (s t : State) : Type 0 where
   pub state : IsState t
-  pub x : (r : ℕ) → r ≢ 9 → x_at t r ≡ x_at s r
+  pub x : (r : ℕ) → r ≢ carrier → x_at t r ≡ x_at s r
   pub sp : t.sp + frame_size v ≡ s.sp
   pub z : t.z ≡ s.z
   pub vl : t.vl ≡ s.vl
@@ -48,11 +42,11 @@ pub record Returns (s : State) (most : ℕ) (m : Memory) (answer : ℕ) : Type 0
   pub within : count ≤ most
   pub end : State
   pub after : after_steps count s ≡ Some end
-  pub back : end.pc ≡ x_at s 30
+  pub back : end.pc ≡ x_at s link_register
   pub memory : end.memory ≡ m
   pub result : x_at end 0 ≡ answer
   pub sp : end.sp ≡ s.sp
-  pub x : All (λ r. x_at end r ≡ x_at s r) (18 ∷ 29 ∷ 30 ∷ kept_x)
+  pub x : All (λ r. x_at end r ≡ x_at s r) (platform_register ∷ frame_pointer ∷ link_register ∷ kept_x)
   pub z : All (λ r. low_at end r ≡ low_at s r) kept_z
 
 -- steps before the code of the draft, and before and after it

@@ -1,28 +1,15 @@
 -- The words around the code of a function: what it keeps of the registers that a caller finds as they were is stored in a frame below
 -- SP, and put back before it returns (Procedure Call Standard for the Arm 64-bit Architecture, AAPCS64, sections 6.1.1 and 6.1.2: X19 to
 -- X28, and the low 64 bits of V8 to V15).
-use Rattle.std.specs.Prelude.{ℕ, zero, suc, ◌+◌, ◌*◌, ◌/◌, List, [], ◌∷◌, ◌++◌, length, map}
+use Rattle.std.specs.Prelude.{ℕ, zero, suc, ◌+◌, List, [], ◌∷◌, ◌++◌, length, map}
 use Rattle.a64_code.specs.Table as a64
 use Rattle.sve_code.specs.Table as sve
 use Rattle.guest_types.specs.Elements.{element}
 use Rattle.guest_types.specs.Memory.{Memory, put_number}
 use Rattle.machine_model.specs.InstructionTable.{Listed, Scalar, Vector}
 use Rattle.machine_model.specs.Machine.{State, x_at, z_at}
-
--- ---- what is kept
-
--- general registers, and vector registers of which the low doubleword is kept
-pub record Saved : Type 0 where
-  pub x : List ℕ
-  pub z : List ℕ
-
--- the doublewords that the frame holds
-abbrev pub doublewords : Saved → ℕ
-doublewords v = length v.x + length v.z
-
--- the bytes of the frame: SP stays a multiple of 16 (AAPCS64, section 6.4.5.1)
-abbrev pub frame_size : Saved → ℕ
-frame_size v = 16 * ((doublewords v + 1) / 2)
+use Rattle.promises.specs.Reserved.{link_register, stack_pointer}
+use Rattle.promises.specs.Saved.{Saved, frame_size}
 
 -- ---- the instructions
 
@@ -31,26 +18,29 @@ a64_of name numbers = Scalar (record { name = name; numbers = numbers })
 
 -- STR and LDR of Xr at doubleword p of the frame
 abbrev pub store_at : ℕ → ℕ → Listed
-store_at r p = a64_of a64.str_x (r ∷ 31 ∷ p ∷ [])
+store_at r p = a64_of a64.str_x (r ∷ stack_pointer ∷ p ∷ [])
 
 abbrev pub load_at : ℕ → ℕ → Listed
-load_at r p = a64_of a64.ldr_x (r ∷ 31 ∷ p ∷ [])
+load_at r p = a64_of a64.ldr_x (r ∷ stack_pointer ∷ p ∷ [])
 
--- UMOV X9, Vr.D[0], and DUP Zr.D, X9
+-- X9, through which vector registers are kept: UMOV X9, Vr.D[0], and DUP Zr.D, X9
+abbrev pub carrier : ℕ
+carrier = 9
+
 abbrev pub take_low : ℕ → Listed
-take_low r = a64_of a64.umov (9 ∷ r ∷ [])
+take_low r = a64_of a64.umov (carrier ∷ r ∷ [])
 
 abbrev pub spread_low : ℕ → Listed
-spread_low r = Vector (record { name = sve.dup; numbers = r ∷ 9 ∷ 3 ∷ [] })
+spread_low r = Vector (record { name = sve.dup; numbers = r ∷ carrier ∷ 3 ∷ [] })
 
 -- ADD or SUB of so many bytes to SP, where there are some
 abbrev pub move_sp : a64.Name → ℕ → List Listed
 move_sp name zero = []
-move_sp name (suc n) = a64_of name (31 ∷ 31 ∷ suc n ∷ 0 ∷ []) ∷ []
+move_sp name (suc n) = a64_of name (stack_pointer ∷ stack_pointer ∷ suc n ∷ 0 ∷ []) ∷ []
 
 -- RET
 abbrev pub back : Listed
-back = a64_of a64.ret (30 ∷ [])
+back = a64_of a64.ret (link_register ∷ [])
 
 -- ---- the code
 
@@ -66,11 +56,11 @@ restore_x p (r ∷ rs) = load_at r p ∷ restore_x (p + 1) rs
 -- the low doublewords of vector registers
 abbrev pub save_z : ℕ → List ℕ → List Listed
 save_z p [] = []
-save_z p (r ∷ rs) = take_low r ∷ store_at 9 p ∷ save_z (p + 1) rs
+save_z p (r ∷ rs) = take_low r ∷ store_at carrier p ∷ save_z (p + 1) rs
 
 abbrev pub restore_z : ℕ → List ℕ → List Listed
 restore_z p [] = []
-restore_z p (r ∷ rs) = load_at 9 p ∷ spread_low r ∷ restore_z (p + 1) rs
+restore_z p (r ∷ rs) = load_at carrier p ∷ spread_low r ∷ restore_z (p + 1) rs
 
 abbrev pub enter : Saved → List Listed
 enter v = move_sp a64.sub_imm (frame_size v) ++ (save_x 0 v.x ++ save_z (length v.x) v.z)

@@ -1,4 +1,3 @@
 pub mod Returning
 pub mod Frame
-pub mod Written
 pub mod Called

@@ -3,7 +3,7 @@ use Rattle.std.proofs.Common.{◌≡◌, ℕ, ◌+◌, ◌<◌, ◌≤◌, Bool,
 use Rattle.std.specs.Prelude.{◌||◌, if◌then◌else◌, slice_index_or}
 use Rattle.std.proofs.lemmas.List.{drop_more, drop_all}
 use Rattle.machine_model.specs.InstructionTable.{Listed}
-use Rattle.call_code.specs.Written.{word_writes, is_written, written_among}
+use Rattle.promises.specs.Saved.{word_writes, is_written, written_among}
 
 module _ (written : Listed → Option ℕ) where
   -- ---- whether some word does
@@ -32,9 +32,9 @@ module _ (written : Listed → Option ℕ) where
   -- ---- those that are written
 
   -- one register, and those behind it
-  pub single : (words : List ℕ) (r : ℕ) → written_among written words (r ∷ []) ≡ (if is_written written r words then r ∷ [] else [])
+  pub among_one : (words : List ℕ) (r : ℕ) → written_among written words (r ∷ []) ≡ (if is_written written r words then r ∷ [] else [])
   unfolding written_among
-  single words r = refl
+  among_one words r = refl
 
   both : (b : Bool) (r : ℕ) (rest : List ℕ) → (if b then r ∷ rest else rest) ≡ (if b then r ∷ [] else []) ++ rest
   both true r rest = refl

@@ -3,7 +3,7 @@ use Rattle.std.specs.Prelude.{ℕ, List, Option, map}
 use Rattle.word_rows.specs.declared.Bits.{Bits}
 use Rattle.machine_model.specs.InstructionTable.{Listed}
 use Rattle.promises.specs.Reserved.{register_written}
-use Rattle.call_code.specs.Written.{vector_written}
+use Rattle.promises.specs.Saved.{vector_written}
 use Rattle.call_words.specs.declared.class.Class.{Class}
 use Rattle.call_words.specs.declared.class.Class.TheVariants.{General, Vector}
 

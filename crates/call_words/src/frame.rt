@@ -3,7 +3,7 @@
 ghost use Rattle.std.specs.Prelude.{◌≡◌, ◌+◌, ◌*◌, ◌/◌, ◌<◌, ◌≤◌, ◌++◌, ◌∷◌, [], IfOk, length};
 ghost use Rattle.a64_code.specs.Table as a64;
 ghost use Rattle.machine_model.specs.CodeInMemory.{spell, words_of};
-ghost use Rattle.call_code.specs.Frame.{back, load_at, move_sp, restore_x, restore_z, save_x, save_z, spread_low, store_at, take_low};
+ghost use Rattle.call_code.specs.Frame.{back, carrier, load_at, move_sp, restore_x, restore_z, save_x, save_z, spread_low, store_at, take_low};
 ghost use Rattle.call_words.specs.Classes.{numbers_of};
 
 use a64_code::{A64, AddSubOp, LoadStoreOp, Reg, zero};
@@ -39,7 +39,7 @@ fn load_at(register: Reg, place: u32) -> u32
 
 // X9, through which vector registers are kept.
 fn between() -> Reg
-    ensures { result.number ≡ 9 }
+    ensures { result.number ≡ carrier }
 {
     Bits { number: 9 }
 }
@@ -68,8 +68,10 @@ fn spread_low(register: Reg) -> u32
 /// Appends the words that move SP by some bytes, where there are some.
 pub fn put_move(all: &mut Vec<u32>, op: AddSubOp, bytes: u32) -> Result<(), AllocError>
     requires { bytes < 4096 }
-    ensures down { op ≡ AddSubOp.Sub → IfOk result (λ _. all.new.items ≡ all.old.items ++ words_of (move_sp a64.sub_imm bytes)) }
-    ensures up { op ≡ AddSubOp.Add → IfOk result (λ _. all.new.items ≡ all.old.items ++ words_of (move_sp a64.add_imm bytes)) }
+    ensures down { op ≡ AddSubOp.Sub
+        → IfOk result (λ _. all.new.items ≡ all.old.items ++ words_of (move_sp a64.sub_imm bytes)) }
+    ensures up { op ≡ AddSubOp.Add
+        → IfOk result (λ _. all.new.items ≡ all.old.items ++ words_of (move_sp a64.add_imm bytes)) }
 {
     if bytes > 0 {
         all.push(a64_code::encode(A64::AddSubImmediate {
@@ -98,7 +100,7 @@ pub fn put_stores(all: &mut Vec<u32>, registers: &[Reg]) -> Result<(), AllocErro
 fn put_low_store(all: &mut Vec<u32>, register: Reg, place: u32) -> Result<(), AllocError>
     requires { place < 4096 }
     ensures { IfOk result (λ _. all.new.items
-        ≡ all.old.items ++ spell (take_low register.number) ∷ spell (store_at 9 place) ∷ []) }
+        ≡ all.old.items ++ spell (take_low register.number) ∷ spell (store_at carrier place) ∷ []) }
 {
     let words = [take_low(register), store_at(between(), place)];
     all.extend_from_slice(&words)
@@ -108,7 +110,7 @@ fn put_low_store(all: &mut Vec<u32>, register: Reg, place: u32) -> Result<(), Al
 fn put_low_load(all: &mut Vec<u32>, register: Reg, place: u32) -> Result<(), AllocError>
     requires { place < 4096 }
     ensures { IfOk result (λ _. all.new.items
-        ≡ all.old.items ++ spell (load_at 9 place) ∷ spell (spread_low register.number) ∷ []) }
+        ≡ all.old.items ++ spell (load_at carrier place) ∷ spell (spread_low register.number) ∷ []) }
 {
     let words = [load_at(between(), place), spread_low(register)];
     all.extend_from_slice(&words)
@@ -143,7 +145,8 @@ pub fn put_loads(all: &mut Vec<u32>, registers: &[Reg]) -> Result<(), AllocError
 pub fn put_low_loads(all: &mut Vec<u32>, first: usize, registers: &[Reg]) -> Result<(), AllocError>
     requires first { first < 2048 }
     requires few { length registers.now < 2048 }
-    ensures { IfOk result (λ _. all.new.items ≡ all.old.items ++ words_of (restore_z first (numbers_of registers.now))) }
+    ensures { IfOk result (λ _. all.new.items
+        ≡ all.old.items ++ words_of (restore_z first (numbers_of registers.now))) }
 {
     let mut place = first as u32;
     for register in registers {

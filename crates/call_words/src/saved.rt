@@ -1,7 +1,7 @@
 //! The registers that a function has to keep.
 
 ghost use Rattle.std.specs.Prelude.{◌≡◌, ◌<◌, ◌≤◌, ◌++◌, ◌∷◌, [], All, IfOk, length};
-ghost use Rattle.call_code.specs.Written.{written_among};
+ghost use Rattle.promises.specs.Saved.{written_among};
 ghost use Rattle.call_words.specs.Classes.{numbers_of, written_of};
 
 use crate::class::Class;
@@ -45,7 +45,8 @@ pub fn saved(
     registers: &[u32],
 ) -> Result<Vec<Reg>, AllocError>
     requires { All (λ r. r < 32) registers.now }
-    ensures kept { IfOk result (λ kept. numbers_of kept.items ≡ written_among (written_of class) words.now registers.now) }
+    ensures kept { IfOk result (λ kept.
+        numbers_of kept.items ≡ written_among (written_of class) words.now registers.now) }
     ensures few { IfOk result (λ kept. length kept.items ≤ length registers.now) }
 {
     let mut kept = Vec::new(alloc);

@@ -7,7 +7,7 @@ ghost use Rattle.machine_model.specs.Effects.{arg};
 ghost use Rattle.machine_model.specs.Frames.{x_field, x_written, z_field};
 ghost use Rattle.machine_model.specs.VectorEffects.{field_of};
 ghost use Rattle.sve_code.specs.View as vectors;
-ghost use Rattle.call_code.specs.Written.{is_written, word_writes, written_by};
+ghost use Rattle.promises.specs.Saved.{is_written, word_writes, written_by};
 ghost use Rattle.call_words.specs.Classes.{written_of};
 ghost use Rattle.std.specs.Prelude.{List, ℕ};
 
@@ -72,7 +72,8 @@ fn scalar_register(instruction: A64) -> Option<u32>
 // The general register that an SVE instruction writes.
 #[tactic(auto, using(crate::proofs::VectorForms::vector_forms))]
 fn counted_register(instruction: Sve) -> Option<u32>
-    ensures { result ≡ option_map (field_of (vectors.instruction_view instruction).name (vectors.instruction_view instruction).numbers)
+    ensures { result ≡ option_map
+        (field_of (vectors.instruction_view instruction).name (vectors.instruction_view instruction).numbers)
         (x_field (vectors.instruction_view instruction).name) }
 {
     match instruction {
@@ -86,7 +87,8 @@ fn counted_register(instruction: Sve) -> Option<u32>
 // The vector register that an SVE instruction writes.
 #[tactic(auto, using(crate::proofs::VectorForms::vector_forms))]
 fn vector_register(instruction: Sve) -> Option<u32>
-    ensures { result ≡ option_map (field_of (vectors.instruction_view instruction).name (vectors.instruction_view instruction).numbers)
+    ensures { result ≡ option_map
+        (field_of (vectors.instruction_view instruction).name (vectors.instruction_view instruction).numbers)
         (z_field (vectors.instruction_view instruction).name) }
 {
     match instruction {

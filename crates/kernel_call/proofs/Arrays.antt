@@ -5,8 +5,9 @@ use Rattle.machine_model.specs.Machine.{State}
 use Rattle.kernel_tree.specs.Plain.{Program}
 use Rattle.kernel_meaning.specs.ScalarRun.{scalar_run}
 use Rattle.meaning_frame.specs.Accesses.{Access, AreOff, accesses, run_with}
-use Rattle.call_code.specs.Frame.{Saved, doublewords, frame_size}
-use Rattle.kernel_call.specs.Function.{arguments, IsUntouched, InSome, AreInside, FrameApart}
+use Rattle.promises.specs.Saved.{Saved, doublewords, frame_size}
+use Rattle.promises.specs.Function.{arguments, IsUntouched}
+use Rattle.kernel_call.specs.Untouched.{InSome, AreInside, FrameApart}
 
 module _ (v : Saved) (s : State) (fits : 8 * doublewords v ≤ frame_size v) (room : frame_size v ≤ s.sp) (low : s.sp < 2 ^ 64) where
   abbrev foot : ℕ

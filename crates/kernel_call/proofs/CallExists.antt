@@ -12,9 +12,9 @@ use Rattle.machine_model.specs.Run.{start, start_of}
 use Rattle.machine_model.specs.States.{IsState}
 use Rattle.machine_model.specs.Written.{file_of, whole, image_of_words, code_base}
 use Rattle.machine_model.proofs.StateSteps.{plain_start_is}
-use Rattle.call_code.specs.Frame.{Saved, doublewords, frame_size}
+use Rattle.promises.specs.Saved.{Saved, doublewords, frame_size}
 use Rattle.kernel_compile.proofs.FileStart.{image_memory, words_stand}
-use Rattle.kernel_call.specs.Function.{InFrame, IsCall}
+use Rattle.promises.specs.Function.{InFrame, IsCall}
 
 -- ---- the pages
 

@@ -27,30 +27,32 @@ use Rattle.promises.specs.Faithful as promises
 use Rattle.promises.specs.Faithful.{IsNearFault, Follows, end_steps}
 use Rattle.promises.specs.Reserved.{leaves_reserved}
 use Rattle.reserved_registers.specs.Alone.{AreAlone}
+use Rattle.reserved_registers.proofs.Entries.{after_put}
 use Rattle.call_code.specs.Called as called
 use Rattle.call_code.specs.Called.{CallsAsDraft, Calls, LeavesAlone, FrameStays, before, around, function_words}
-use Rattle.call_code.specs.Frame.{Saved, doublewords, frame_size, leave, low_at, kept_words, with_words}
-use Rattle.call_code.specs.Written.{saved_by}
+use Rattle.promises.specs.Saved.{Saved, doublewords, frame_size, saved_by, call_steps}
+use Rattle.call_code.specs.Frame.{leave, low_at, kept_words, with_words}
 use Rattle.call_code.proofs.AroundWords.{AreSaved, are_saved, frame_holds}
 use Rattle.call_code.proofs.FrameNumbers.{words_small, written_is_read}
 use Rattle.call_code.proofs.FunctionWrites.{keeps_same}
 use Rattle.call_code.proofs.SavedWords.{below_apart, above_apart}
 use Rattle.kernel_compile.proofs.MapStays.{draft_map, draft_stores}
 use Rattle.kernel_compile.specs.Drafted.{AreDrafted, FollowsAnywhere, FollowsClosely}
+use Rattle.kernel_call.proofs.Lengths.{around_is}
 use Rattle.kernel_call.proofs.Frames.{number_of, words_number, whole_memory, whole_before, same_put}
 use Rattle.meaning_frame.specs.Accesses.{run_with}
-use Rattle.kernel_call.specs.Function.{arguments, InFrame, IsCall, with_frame, IsUntouched, Returns, Stops, Answers, call_steps, IsFunction, CloseFunction, FunctionEnds}
+use Rattle.promises.specs.Function.{arguments, InFrame, IsCall, with_frame, IsUntouched, Returns, Stops, Answers, IsFunction, CloseFunction, FunctionEnds}
 
 -- ---- entries that leave the reserved registers alone
 
-alone_at : (pre rest : List DraftEntry) (i : Listed) → AreAlone (pre ++ Put i ∷ rest) → leaves_reserved i ≡ true
-alone_at [] rest i h = h.0
-alone_at (Put j ∷ pre) rest i h = alone_at pre rest i h.1
-alone_at (Branch k l ∷ pre) rest i h = alone_at pre rest i h
-alone_at (Place l ∷ pre) rest i h = alone_at pre rest i h
+alone_at : (exits : ℕ) (pre rest : List DraftEntry) (i : Listed) → AreAlone exits (pre ++ Put i ∷ rest) → leaves_reserved i ≡ true
+alone_at exits [] rest i h = h.0
+alone_at exits (Put j ∷ pre) rest i h = let behind = after_put exits j (pre ++ Put i ∷ rest) h in alone_at behind.0 pre rest i behind.1
+alone_at exits (Branch k l ∷ pre) rest i h = alone_at exits pre rest i h
+alone_at exits (Place l ∷ pre) rest i h = alone_at exits pre rest i h
 
-leaves_alone : (entries : List DraftEntry) → AreAlone entries → LeavesAlone entries
-leaves_alone entries h i pre rest e = alone_at pre rest i (subst AreAlone e h)
+leaves_alone : (entries : List DraftEntry) → AreAlone 1 entries → LeavesAlone entries
+leaves_alone entries h i pre rest e = alone_at 1 pre rest i (subst (AreAlone 1) e h)
 
 -- ---- a call
 
@@ -94,8 +96,8 @@ module _ (v : Saved) (saved : AreSaved v) (k : Program) (s t : State) (entries :
         z = h.z;
       }
 
-  stops_there : (m : Memory) (u i : ℕ) → s.vl ≡ t.vl → promises.Stops k (arguments s) t.vl (with_frame v s u m) i (draft_run d n 0 entries t) → called.Answers v s t n (draft_run d n 0 entries t) → frame_size v ≤ s.sp → s.sp < 2 ^ 64 → Stops v k s steps m i
-  stops_there m u i vl h answers room low_sp =
+  call_stops : (m : Memory) (u i : ℕ) → s.vl ≡ t.vl → promises.Stops k (arguments s) t.vl (with_frame v s u m) i (draft_run d n 0 entries t) → called.Answers v s t n (draft_run d n 0 entries t) → frame_size v ≤ s.sp → s.sp < 2 ^ 64 → Stops v k s steps m i
+  call_stops m u i vl h answers room low_sp =
       let whole : run (before v + n) 0 s ≡ Stop h.kind h.pc h.at h.left (before v + h.steps) = (subst (λ o. called.Answers v s t n o) h.is answers) h.access in
       let over : is_over (run (before v + n) 0 s) ≡ true = ap is_over whole in
       record {
@@ -120,16 +122,8 @@ module _ (enough : Program → (args : List ℕ) (vl m q : ℕ) → ℕ) (k : Pr
   saved : AreSaved v
   saved = are_saved words
 
-  given_call : called.IsCall v (function_words words) s
-  given_call = record {
-    state = call.state;
-    code = call.code;
-    room = call.room;
-    free = λ x from until. call.free x (from, until);
-  }
-
   c : Calls v d.entries s
-  c = subst (λ ws. Calls (saved_by ws) d.entries s) (sym d.is) (calls d.entries d.labels s d.fit d.few (leaves_alone d.entries d.alone) (subst (λ ws. called.IsCall (saved_by ws) (function_words ws) s) d.is given_call))
+  c = subst (λ ws. Calls (saved_by ws) d.entries s) (sym d.is) (calls d.entries d.labels s d.fit d.few (leaves_alone d.entries d.alone) (subst (λ ws. IsCall (saved_by ws) (function_words ws) s) d.is call))
 
   abbrev t : State
   t = c.inner
@@ -141,15 +135,15 @@ module _ (enough : Program → (args : List ℕ) (vl m q : ℕ) → ℕ) (k : Pr
   n = steps - around v
 
   total : n + around v ≡ steps
-  total = omega (arith, le)
+  total = let e = around_is v in omega (arith, le, e)
 
   -- the registers in the frame, as one number
   abbrev u : ℕ
   u = number_of (kept_words v s)
 
   -- the doublewords of the frame
-  kept_count : length (kept_words v s) ≡ doublewords v
-  kept_count =
+  frame_count : length (kept_words v s) ≡ doublewords v
+  frame_count =
       let a = length-append (map (x_at s) v.x) (map (low_at s) v.z) in
       let b = length-map v.x (x_at s) in
       let e = length-map v.z (low_at s) in
@@ -163,20 +157,20 @@ module _ (enough : Program → (args : List ℕ) (vl m q : ℕ) → ℕ) (k : Pr
       let room = call.room in
       let low = call.state.sp_small in
       let fits = frame_holds v saved in
-      let n = kept_count in
+      let n = frame_count in
       c.enters.memory
       ∙ ap (λ f. with_words s.memory f (kept_words v s)) foot
       ∙ words_number s.memory (s.sp - frame_size v) (kept_words v s) (words_small v s saved call.state) (omega (arith, room, low, n, fits))
       ∙ ap (λ k. put_number s.memory (s.sp - frame_size v) (8 * k) u) n
 
-  same_run : scalar_run k (arguments s) w ≡ run_with (with_frame v s u) (scalar_run k (arguments s) s.memory)
-  same_run = ap (scalar_run k (arguments s)) entered ∙ untouched u
+  run_over_frame : scalar_run k (arguments s) w ≡ run_with (with_frame v s u) (scalar_run k (arguments s) s.memory)
+  run_over_frame = ap (scalar_run k (arguments s)) entered ∙ untouched u
 
   eight : length (take 8 s.x) ≡ 8
   eight = let sized = call.state.x_count in length-take-le 8 s.x (omega (arith, sized))
 
-  given : HasArguments (arguments s) w t
-  given = record {
+  entered_with : HasArguments (arguments s) w t
+  entered_with = record {
     few = omega (arith, eight);
     words = All-take (λ arg. arg < 2 ^ 64) 8 s.x call.state.x_small;
     sized = c.enters.state.x_count;
@@ -195,13 +189,14 @@ module _ (enough : Program → (args : List ℕ) (vl m q : ℕ) → ℕ) (k : Pr
 
   enough_steps : enough k (arguments s) t.vl (begun (scalar_run k (arguments s) w)) (suppressed steps s) ≤ n
   enough_steps =
-      let m = ap begun same_run ∙ same_begun (with_frame v s u) (scalar_run k (arguments s) s.memory) in
+      let m = ap begun run_over_frame ∙ same_begun (with_frame v s u) (scalar_run k (arguments s) s.memory) in
       let a = ap (λ l. enough k (arguments s) l (begun (scalar_run k (arguments s) w)) (suppressed steps s)) c.enters.vl in
       let b = ap (λ j. enough k (arguments s) s.vl j (suppressed steps s)) m in
-      omega (arith, le, a, b, total)
+      let e = around_is v in
+      omega (arith, le, a, b, total, e)
 
   f : Follows k (arguments s) t.vl (scalar_run k (arguments s) w) (draft_run (record { base = t.pc; entries = d.entries }) n 0 d.entries t)
-  f = follows t.pc n (suppressed steps s) (arguments s) t given c.enters.state few_cuts enough_steps
+  f = follows t.pc n (suppressed steps s) (arguments s) t entered_with c.enters.state few_cuts enough_steps
 
   -- the frame's bytes are those that were written
   frame_stays : (m : Memory) (r i st : ℕ) → draft_run (record { base = t.pc; entries = d.entries }) n 0 d.entries t ≡ End (with_frame v s u m) r st → FrameStays v w t.sp (with_frame v s u m)
@@ -224,10 +219,10 @@ module _ (enough : Program → (args : List ℕ) (vl m q : ℕ) → ℕ) (k : Pr
   finish : (a : scalar.Run) → Follows k (arguments s) t.vl (run_with (with_frame v s u) a) (draft_run (record { base = t.pc; entries = d.entries }) n 0 d.entries t) → Answers v k s steps a
   finish (scalar.End m r i) follow =
       comes_back v saved k s t d.entries n steps c.enters total m u r ((subst (λ o. called.Answers v s t n o) follow.1 (c.answers n)) (frame_stays m r i follow.0 follow.1))
-  finish (scalar.Fault m i) follow = stops_there v saved k s t d.entries n steps c.enters total m u i (sym c.enters.vl) follow (c.answers n) call.room call.state.sp_small
+  finish (scalar.Fault m i) follow = call_stops v saved k s t d.entries n steps c.enters total m u i (sym c.enters.vl) follow (c.answers n) call.room call.state.sp_small
 
   pub comes_out : Answers v k s steps (scalar_run k (arguments s) s.memory)
-  comes_out = finish (scalar_run k (arguments s) s.memory) (subst (λ r. Follows k (arguments s) t.vl r (draft_run (record { base = t.pc; entries = d.entries }) n 0 d.entries t)) same_run f)
+  comes_out = finish (scalar_run k (arguments s) s.memory) (subst (λ r. Follows k (arguments s) t.vl r (draft_run (record { base = t.pc; entries = d.entries }) n 0 d.entries t)) run_over_frame f)
 
 -- The words of a draft that follows the scalar loop make a function of the kernel.
 function_runs : (enough : Program → (args : List ℕ) (vl m q : ℕ) → ℕ) (k : Program) (words : List ℕ) (Holds : List DraftEntry → Type 0) → CallsAsDraft → (d : AreDrafted Holds words) → FollowsAnywhere enough k d.entries → IsFunction enough k (saved_by words) (function_words words)

@@ -8,9 +8,10 @@ use Rattle.guest_types.proofs.Writes.{All-page_at, can_read-put_byte, page_at-nu
 use Rattle.machine_model.specs.Machine.{State}
 use Rattle.kernel_tree.specs.Plain.{Program}
 use Rattle.kernel_meaning.specs.ScalarRun.{End, scalar_run}
-use Rattle.call_code.specs.Frame.{Saved, doublewords, frame_size}
+use Rattle.promises.specs.Saved.{Saved, doublewords, frame_size}
 use Rattle.meaning_frame.specs.Accesses.{run_with}
-use Rattle.kernel_call.specs.Function.{arguments, InFrame, with_frame, IsUntouched, IsElsewhere}
+use Rattle.promises.specs.Function.{arguments, InFrame, with_frame, IsUntouched}
+use Rattle.kernel_call.specs.Untouched.{IsElsewhere}
 
 -- ---- a byte in one of two memories
 

@@ -1,2 +1,2 @@
 pub mod Anywhere
-pub mod Function
+pub mod Untouched

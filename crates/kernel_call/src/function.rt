@@ -1,6 +1,6 @@
 //! A kernel as the words of a function.
 
-ghost use Rattle.kernel_call.specs.Function.{CloseFunction, FunctionEnds};
+ghost use Rattle.promises.specs.Function.{CloseFunction, FunctionEnds};
 ghost use Rattle.kernel_tree.specs.Items.{size_of};
 ghost use Rattle.loop_form.specs.View.{program};
 ghost use Rattle.promises.specs.Refusals.{IsRefusal, too_many};

@@ -2,10 +2,10 @@
 
 ghost use Rattle.std.specs.Prelude.{◌≤◌, ◌<◌, ◌^◌, All, List, ℕ, length};
 ghost use Rattle.call_code.specs.Called.{function_words};
-ghost use Rattle.call_code.specs.Frame.{frame_size};
-ghost use Rattle.call_code.specs.Written.{saved_by};
+ghost use Rattle.promises.specs.Saved.{frame_size, saved_by, call_steps};
 ghost use Rattle.kernel_call.specs.Anywhere.{ClosesAnywhere, EndsAnywhere};
-ghost use Rattle.kernel_call.specs.Function.{AreInside, CloseFunction, FrameApart, FunctionEnds, IsCall, IsElsewhere, IsUntouched, arguments, call_steps};
+ghost use Rattle.promises.specs.Function.{CloseFunction, FunctionEnds, IsCall, IsUntouched, arguments};
+ghost use Rattle.kernel_call.specs.Untouched.{AreInside, FrameApart, IsElsewhere};
 ghost use Rattle.kernel_compile.specs.Drafted.{AreDrafted, FollowsClosely};
 ghost use Rattle.kernel_tree.specs.Plain.{Program};
 ghost use Rattle.machine_model.specs.Machine.{State};
@@ -32,7 +32,8 @@ pub fn untouched_frames()
 
 /// A frame apart from some arrays is untouched by a kernel each access of whose run lies in one of them.
 pub fn untouched_arrays()
-    ensures { (k : Program) (words : List ℕ) (s : State) (arrays : List Access) → frame_size (saved_by words) ≤ s.sp → s.sp < 2 ^ 64
+    ensures { (k : Program) (words : List ℕ) (s : State) (arrays : List Access)
+        → frame_size (saved_by words) ≤ s.sp → s.sp < 2 ^ 64
         → AreInside arrays (accesses k (arguments s) s.memory) → FrameApart (saved_by words) s arrays
         → IsUntouched (saved_by words) k s }
 {
@@ -51,7 +52,9 @@ pub fn calls_exist()
         → (s : State) × IsCall (saved_by words) words s }
 {}
 
-/// The words of a kernel's draft run as the kernel does wherever they lie, from any state that has its arguments in X0 to X7.
+/// The words of a kernel's draft run as the kernel does wherever they lie, from any state that has its arguments in
+/// X0 to X7.
 pub fn anywhere()
-    ensures { (k : Program) (words : List ℕ) → AreDrafted (FollowsClosely k) words → ClosesAnywhere k words × EndsAnywhere k words }
+    ensures { (k : Program) (words : List ℕ) → AreDrafted (FollowsClosely k) words
+        → ClosesAnywhere k words × EndsAnywhere k words }
 {}

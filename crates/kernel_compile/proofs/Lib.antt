@@ -1,4 +1,5 @@
 pub mod FileStart
+pub mod DraftedFiles
 pub mod ScalarFaithful
 pub mod ArrayStreams
 pub mod ApartBoth

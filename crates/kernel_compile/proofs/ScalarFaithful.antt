@@ -1,29 +1,26 @@
 -- The words of a kernel's code do what the kernel says.
-use Rattle.std.proofs.Common.{◌≡◌, ℕ, ◌+◌, ◌-◌, ◌*◌, ◌<◌, ◌≤◌, ◌^◌, List, [], ◌++◌, length, append-nil, Option, Some, None, Ok, Err, refl, sym, ap, ◌∙◌, subst, arith}
+use Rattle.std.proofs.Common.{◌≡◌, ℕ, ◌+◌, ◌-◌, ◌*◌, ◌<◌, ◌≤◌, ◌^◌, List, [], ◌++◌, append-nil, refl, sym, ap, ◌∙◌, subst, arith}
 use Rattle.std.specs.Prelude.{All}
-use Rattle.guest_types.specs.Memory.{Memory, merged}
+use Rattle.guest_types.specs.Memory.{Memory}
 use Rattle.machine_model.specs.Machine.{State}
-use Rattle.machine_model.specs.Run.{Outcome, run, free_start}
-use Rattle.machine_model.specs.Written.{file_of, code_base, image_of_words}
-use Rattle.machine_model.proofs.WrittenLoads.{load-file_of}
+use Rattle.machine_model.specs.Written.{file_of}
 use Rattle.kernel_tree.specs.Plain.{Program}
 use Rattle.kernel_meaning.specs.ScalarRun as scalar
 use Rattle.kernel_meaning.specs.ScalarRun.{begun, scalar_run}
 use Rattle.kernel_meaning.proofs.RunsFrom.{start_within, whole_run}
 use Rattle.close_bound.specs.CloseBound.{iteration_steps, outside_steps}
 use Rattle.label_fix.specs.DraftRun.{DraftEntry, Laid, draft_run}
-use Rattle.label_fix.specs.Finished.{AreFit, StandAt, size, words_of}
+use Rattle.label_fix.specs.Finished.{AreFit, size, words_of}
 use Rattle.label_fix.specs.Stretches.{Goes, Resolves}
 use Rattle.label_fix.proofs.StretchSteps.{stop_after, end_after}
 use Rattle.label_fix.proofs.LabelsOnce.{Once, resolves_in}
-use Rattle.label_fix.proofs.PlacedRuns.{runs_as_draft, words_length}
 use Rattle.loop_code.specs.Kernel.{begin_code, scalar_code, begin_labels}
 use Rattle.loop_code.specs.Runs.{HasArguments, BeginRuns, ScalarRuns}
 use Rattle.scalar_words.specs.Iterations.{Comes, ends_so, faults_so}
 use Rattle.loop_code.proofs.Placed.{whole_once}
 use Rattle.promises.specs.Faithful.{Follows, CloseSlowFaithful, close_slow_steps}
 use Rattle.kernel_compile.specs.Drafted.{FollowsAnywhere}
-use Rattle.kernel_compile.proofs.FileStart.{file_starts, start_memory, words_stand}
+use Rattle.kernel_compile.proofs.DraftedFiles.{drafted_file}
 
 -- ---- runs that end
 
@@ -74,29 +71,10 @@ module _ (R : ℕ → ℕ) (k : Program) (begins : BeginRuns R k) (runs : Scalar
       let enough : iteration_steps k * begun (scalar_run k args s.memory) + outside_steps k ≤ steps = omega (arith, le) in
       subst (λ es. Follows k args s.vl (scalar_run k args s.memory) (draft_run D steps 0 es s)) (sym begun_by) (comes_follow k args s.vl steps enough c)
 
-  -- Entries that are the code of a kernel, after a front, come to a file that does what the kernel says.
+  -- and come to a file that does what the kernel says
   pub compiled : (labels n : ℕ) (entries front : List DraftEntry) (words : List ℕ) → entries ≡ front ++ scalar_code R k n [] → entries ≡ begin_code R k 0 (scalar_code R k n []) → Once entries → AreFit labels entries → size entries ≤ 65536 → words ≡ words_of entries → All (λ w. w < 2 ^ 32) words
       → CloseSlowFaithful k (file_of words)
-  compiled labels n entries front words following begun_by placed fits few is small =
-      let many : length words ≤ 65536 = omega (arith, ap length is, words_length entries) in
-      record {
-        image = image_of_words words;
-        loaded = load-file_of words many;
-        runs = λ args pages vl stops steps start any le.
-            let D : Laid = record { base = code_base; entries = entries } in
-            let s0 = free_start (image_of_words words) args pages vl stops in
-            let m = merged (image_of_words words).pages pages in
-            let code = begin_code R k 0 (scalar_code R k n []) in
-            let st = file_starts words args pages vl stops start.few in
-            let stand : StandAt s0.memory D.base (words_of D.entries) = subst (λ ws. StandAt s0.memory code_base ws) is (subst (λ m. StandAt m code_base words) (sym st.memory) (words_stand words pages many small start.apart)) in
-            let same : run steps 0 s0 ≡ draft_run D steps 0 code s0 = runs_as_draft D labels s0 fits few stand st.pc steps 0 ∙ ap (λ es. draft_run D steps 0 es s0) begun_by in
-            let given : HasArguments args m s0 = record { few = start.few; words = start.words; sized = st.sized; held = λ r lt. st.given r; memory = st.memory; good = start_memory words pages many start.memory start.apart } in
-            let c = code_comes D n args m s0 given (resolves_in D code [] begun_by placed) (resolves_in D (scalar_code R k n []) front following placed) in
-            let b = begun (scalar_run k args m) in
-            let enough : iteration_steps k * b + outside_steps k ≤ steps = omega (arith, le) in
-            let f = comes_follow k args vl steps enough c in
-            (run steps 0 s0, ap (λ l. elim l as (λ x. Option Outcome) [ Ok image ↦ Some (run steps 0 (free_start image args pages vl stops)) | Err fault ↦ None ]) (load-file_of words many), subst (λ o. Follows k args vl (scalar_run k args m) o) (sym same) f);
-      }
+  compiled labels n entries front words following begun_by placed fits few is small = drafted_file close_slow_steps k labels entries words (followed n entries front following begun_by placed) fits few is small
 
 -- what the two emitting calls leave in a draft
 pub record Emitted (R : ℕ → ℕ) (k : Program) (n : ℕ) (entries front : List DraftEntry) : Type 0 where

@@ -21,14 +21,14 @@ FollowsAnywhere enough k entries =
     → cuts (record { base = base; entries = entries }) steps entries s ≤ q → enough k args s.vl (begun (scalar_run k args s.memory)) q ≤ steps
     → Follows k args s.vl (scalar_run k args s.memory) (draft_run (record { base = base; entries = entries }) steps 0 entries s)
 
--- words of a fit draft of which something holds; none of its instructions writes X18, X29, X30 or SP
+-- words of a fit draft of which something holds; none of its instructions writes X18, X29, X30 or SP, and one is an exit call
 pub record AreDrafted (Holds : List DraftEntry → Type 0) (words : List ℕ) : Type 0 where
   pub entries : List DraftEntry
   pub labels : ℕ
   pub is : words ≡ words_of entries
   pub fit : AreFit labels entries
   pub few : size entries ≤ 65536
-  pub alone : AreAlone entries
+  pub alone : AreAlone 1 entries
   pub holds : Holds entries
 
 abbrev pub FollowsSlowly : Program → List DraftEntry → Type 0

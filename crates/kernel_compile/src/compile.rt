@@ -9,6 +9,7 @@ ghost use Rattle.dependence.specs.Classes.{class_of};
 ghost use Rattle.dependence.specs.declared.reason.Class.TheVariants.{Vector};
 ghost use Rattle.promises.specs.Faithful.{FreeFaithful, FreeEnds, CloseFaithful};
 ghost use Rattle.promises.specs.Refusals.{too_many, IsRefusal};
+ghost use Rattle.promises.specs.OneExit.{HasOneExit};
 ghost use Rattle.promises.specs.Reserved.{LeavesReserved};
 ghost use Rattle.kernel_compile.specs.Drafted.{AreDrafted, FollowsClosely};
 
@@ -36,6 +37,7 @@ pub fn compile_kernel(alloc: Global, kernel: &Checked) -> Result<Code, CompileFa
     ensures ends { IfOk result (λ code. FreeEnds (program kernel.now) (file_of code.words.items)) }
     ensures short { IfOk result (λ code. length code.words.items ≤ 1000 + 60 * size_of (program kernel.now)) }
     ensures reserved { IfOk result (λ code. All LeavesReserved code.words.items) }
+    ensures one_exit { IfOk result (λ code. HasOneExit code.words.items) }
     ensures drafted { IfOk result (λ code. AreDrafted (FollowsClosely (program kernel.now)) code.words.items) }
     ensures enough { OnOk result (too_many (program kernel.now) ≡ None) }
     ensures refusal { IfErr result (IsRefusal (program kernel.now)) }
@@ -52,6 +54,7 @@ fn words_of_class(alloc: Global, kernel: &Checked) -> Result<Vec<u32>, CompileFa
     ensures ends { IfOk result (λ words. FreeEnds (program kernel.now) (file_of words.items)) }
     ensures short { IfOk result (λ words. length words.items ≤ 1000 + 60 * size_of (program kernel.now)) }
     ensures reserved { IfOk result (λ words. All LeavesReserved words.items) }
+    ensures one_exit { IfOk result (λ words. HasOneExit words.items) }
     ensures drafted { IfOk result (λ words. AreDrafted (FollowsClosely (program kernel.now)) words.items) }
     ensures enough { OnOk result (too_many (program kernel.now) ≡ None) }
     ensures refusal { IfErr result (IsRefusal (program kernel.now)) }
@@ -68,6 +71,7 @@ fn scalar_words(alloc: Global, kernel: &Checked) -> Result<Vec<u32>, CompileFaul
     ensures ends { IfOk result (λ words. FreeEnds (program kernel.now) (file_of words.items)) }
     ensures short { IfOk result (λ words. length words.items ≤ 1000 + 60 * size_of (program kernel.now)) }
     ensures reserved { IfOk result (λ words. All LeavesReserved words.items) }
+    ensures one_exit { IfOk result (λ words. HasOneExit words.items) }
     ensures drafted { IfOk result (λ words. AreDrafted (FollowsClosely (program kernel.now)) words.items) }
     ensures enough { OnOk result (too_many (program kernel.now) ≡ None) }
     ensures refusal { IfErr result (IsRefusal (program kernel.now)) }
@@ -86,6 +90,7 @@ fn vector_words(alloc: Global, kernel: &Checked) -> Result<Vec<u32>, CompileFaul
     ensures ends { IfOk result (λ words. FreeEnds (program kernel.now) (file_of words.items)) }
     ensures short { IfOk result (λ words. length words.items ≤ 1000 + 60 * size_of (program kernel.now)) }
     ensures reserved { IfOk result (λ words. All LeavesReserved words.items) }
+    ensures one_exit { IfOk result (λ words. HasOneExit words.items) }
     ensures drafted { IfOk result (λ words. AreDrafted (FollowsClosely (program kernel.now)) words.items) }
     ensures enough { OnOk result (too_many (program kernel.now) ≡ None) }
     ensures refusal { IfErr result (IsRefusal (program kernel.now)) }

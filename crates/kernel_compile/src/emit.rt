@@ -9,6 +9,7 @@ ghost use Rattle.machine_model.specs.Written.{file_of};
 ghost use Rattle.dependence.specs.Classes.{class_of};
 ghost use Rattle.dependence.specs.declared.reason.Class.TheVariants.{Vector};
 ghost use Rattle.promises.specs.Faithful.{FreeEnds, CloseFaithful, CloseSlowFaithful};
+ghost use Rattle.promises.specs.OneExit.{HasOneExit};
 ghost use Rattle.promises.specs.Reserved.{LeavesReserved};
 ghost use Rattle.kernel_compile.specs.Drafted.{AreDrafted, FollowsSlowly, FollowsClosely};
 
@@ -20,7 +21,9 @@ use loop_form::laws::few_items;
 use loop_lists::listing;
 use overlap_guard::{guard, meets_apart};
 use reg_assign::{Assigned, VectorRegs};
-use reserved_registers::{guard_leaves, scalar_code_leaves, vector_code_leaves, words_leave};
+use reserved_registers::{
+    guard_leaves, scalar_code_leaves, vector_code_leaves, words_exit, words_leave,
+};
 use scalar_emit::{emit_begin, emit_scalar};
 use std::alloc::{AllocError, Global};
 use vector_emit::{emit_vector, vector_runs};
@@ -35,6 +38,7 @@ pub fn emit_scalar_code(
     ensures faithful { IfOk result (λ words. CloseSlowFaithful (program kernel.now) (file_of words.items)) }
     ensures short { IfOk result (λ words. length words.items ≤ 1000 + 60 * size_of (program kernel.now)) }
     ensures reserved { IfOk result (λ words. All LeavesReserved words.items) }
+    ensures one_exit { IfOk result (λ words. HasOneExit words.items) }
     ensures drafted { IfOk result (λ words. AreDrafted (FollowsSlowly (program kernel.now)) words.items) }
 {
     few_items(kernel);
@@ -42,6 +46,7 @@ pub fn emit_scalar_code(
     scalar_runs(kernel, regs);
     scalar_code_leaves(kernel, regs);
     words_leave();
+    words_exit();
     let items = listing(alloc, kernel)?;
     let mut draft = Draft::new(alloc);
     emit_begin(alloc, kernel, &items, regs, &mut draft)?;
@@ -66,6 +71,7 @@ pub fn emit_vector_code(
     ensures ends { IfOk result (λ words. FreeEnds (program facts.now.kernel.now) (file_of words.items)) }
     ensures short { IfOk result (λ words. length words.items ≤ 1000 + 60 * size_of (program facts.now.kernel.now)) }
     ensures reserved { IfOk result (λ words. All LeavesReserved words.items) }
+    ensures one_exit { IfOk result (λ words. HasOneExit words.items) }
     ensures drafted { IfOk result (λ words. AreDrafted (FollowsClosely (program facts.now.kernel.now)) words.items) }
 {
     let kernel = facts.kernel;
@@ -78,6 +84,7 @@ pub fn emit_vector_code(
     guard_leaves();
     vector_code_leaves(kernel, &regs.x);
     words_leave();
+    words_exit();
     let mut draft = Draft::new(alloc);
     let vector = draft.label()?;
     emit_begin(alloc, kernel, &facts.listing, &regs.x, &mut draft)?;

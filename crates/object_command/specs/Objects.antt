@@ -6,7 +6,7 @@ use Rattle.kernel_tree.specs.Plain.{Program}
 use Rattle.kernel_front.specs.Verdict.{Sound, IsVerdict}
 use Rattle.command_answers.specs.Answer.{HeldFiles}
 use Rattle.object_file.specs.Object.{IsObject}
-use Rattle.kernel_call.specs.Function.{CloseFunction, FunctionEnds}
+use Rattle.promises.specs.Function.{CloseFunction, FunctionEnds}
 
 -- The file is an object of one function, of the kernel's name. Its words do what the kernel says, wherever they stand and whatever the
 -- state in which they are called.

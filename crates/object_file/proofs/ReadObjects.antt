@@ -55,8 +55,8 @@ module _ (name words : List ℕ) (few : length words ≤ 70000) (short : length 
   behind : drop 572 file ≡ word_bytes words ++ names
   behind = refl
 
-  words_there : bytes_at file 572 (le_at file 160 8) ≡ word_bytes words
-  words_there = ap (λ n. bytes_at file 572 n) text_size ∙ take_at (word_bytes words) names (4 * length words) (length_bytes words)
+  text_there : bytes_at file 572 (le_at file 160 8) ≡ word_bytes words
+  text_there = ap (λ n. bytes_at file 572 n) text_size ∙ take_at (word_bytes words) names (4 * length words) (length_bytes words)
 
   -- ---- the names of symbols, behind the words
 
@@ -94,8 +94,8 @@ module _ (name words : List ℕ) (few : length words ≤ 70000) (short : length 
   abbrev IsUnmoved : ℕ → Type 0
   IsUnmoved i = ((section_at file i).kind ≢ 4) × ((section_at file i).kind ≢ 9)
 
-  pub reads : IsObject name words file
-  reads = record {
+  pub object_reads : IsObject name words file
+  object_reads = record {
     ident = refl;
     type = refl;
     machine = refl;
@@ -110,7 +110,7 @@ module _ (name words : List ℕ) (few : length words ≤ 70000) (short : length 
     text_kind = refl;
     text_flags = refl;
     text_align = refl;
-    text_bytes = words_there;
+    text_bytes = text_there;
     table = 2;
     table_in = omega arith;
     table_kind = refl;

@@ -6,6 +6,19 @@ use Rattle.machine_model.specs.Frames.{x_field, x_written, sp_written}
 use Rattle.machine_model.specs.InstructionTable.{Listed, Scalar, Vector, listed}
 use Rattle.machine_model.specs.VectorEffects.{field_of}
 
+-- the registers by number. SP has 31 where it is the base of an access, or a side of a sum with a number.
+abbrev pub platform_register : ℕ
+platform_register = 18
+
+abbrev pub frame_pointer : ℕ
+frame_pointer = 29
+
+abbrev pub link_register : ℕ
+link_register = 30
+
+abbrev pub stack_pointer : ℕ
+stack_pointer = 31
+
 -- the general register that an instruction writes, if it writes one
 abbrev pub register_written : Listed → Option ℕ
 register_written (Scalar i) = x_written i.name i.numbers
@@ -16,7 +29,7 @@ writes_stack_pointer (Scalar i) = sp_written i.name i.numbers
 writes_stack_pointer (Vector i) = false
 
 abbrev pub is_reserved : ℕ → Bool
-is_reserved n = nat_eq n 18 || nat_eq n 29 || nat_eq n 30
+is_reserved n = nat_eq n platform_register || nat_eq n frame_pointer || nat_eq n link_register
 
 abbrev pub none_reserved : Option ℕ → Bool
 none_reserved None = true

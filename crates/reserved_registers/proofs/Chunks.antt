@@ -24,24 +24,25 @@ use Rattle.chunk_emit.specs.ChunkCode.{with_index, index_of, gather_name, gather
 use Rattle.first_fault.specs.RegionCode.{Mode, Early, Single, narrow_words, load_words, step_words, region_words, exits_words, single_words}
 use Rattle.first_fault.specs.BreakRegion.{region_of, rest_of}
 use Rattle.vector_emit.proofs.FromBelow.{chunk_words, iteration_words, plain_words}
-use Rattle.promises.specs.Reserved.{none_reserved, leaves_reserved}
+use Rattle.promises.specs.Reserved.{none_reserved}
 use Rattle.reserved_registers.specs.Alone.{AreAlone}
+use Rattle.reserved_registers.proofs.Entries.{goes_on, put_alone}
 use Rattle.reserved_registers.proofs.VectorWords.{AreQuiet, update_quiet, op_quiet}
 
 abbrev pub AreLeft : List Listed → Type 0
 AreLeft [] = Unit {0}
-AreLeft (i ∷ is) = (leaves_reserved i ≡ true) × AreLeft is
+AreLeft (i ∷ is) = (goes_on i ≡ true) × AreLeft is
 
 left_both : (is js : List Listed) → AreLeft is → AreLeft js → AreLeft (is ++ js)
 left_both [] js h k = k
 left_both (i ∷ is) js h k = (h.0, left_both is js h.1 k)
 
-pub puts_alone : (is : List Listed) (rest : List DraftEntry) → AreLeft is → AreAlone rest → AreAlone (puts is rest)
-puts_alone [] rest h k = k
-puts_alone (i ∷ is) rest h k = (h.0, puts_alone is rest h.1 k)
+pub puts_alone : (exits : ℕ) (is : List Listed) (rest : List DraftEntry) → AreLeft is → AreAlone exits rest → AreAlone exits (puts is rest)
+puts_alone exits [] rest h k = k
+puts_alone exits (i ∷ is) rest h k = put_alone exits i (puts is rest) h.0 (puts_alone exits is rest h.1 k)
 
 -- a word that writes no general register
-pub quiet_leaves : (v : VectorInstruction) → x_field v.name ≡ None → leaves_reserved (Vector v) ≡ true
+pub quiet_leaves : (v : VectorInstruction) → x_field v.name ≡ None → goes_on (Vector v) ≡ true
 quiet_leaves v e = ap (λ (o : Option Field). none_reserved (option_map (field_of v.name v.numbers) o) && true) e
 
 pub vectors_left : (vs : List VectorInstruction) → AreQuiet vs → AreLeft (vectors vs)

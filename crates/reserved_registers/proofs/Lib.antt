@@ -1,5 +1,6 @@
 mod Words
 mod Steps
+pub mod Entries
 pub mod Drafts
 pub mod FreeRegisters
 mod ScalarWords

@@ -12,28 +12,18 @@ use Rattle.machine_model.specs.VectorEffects.{field_of}
 use Rattle.machine_model.proofs.Frames.{went_leaves}
 use Rattle.machine_model.proofs.ScalarFrames.{scalar_leaves}
 use Rattle.promises.specs.Reserved.{register_written, writes_stack_pointer, is_reserved, none_reserved, leaves_reserved}
+use Rattle.promises.proofs.ReservedKept.{reserved_x_stays, sp_unless_written}
 use Rattle.reserved_registers.specs.Kept.{AreKept, StepsKeep}
-
-reserved_is_other : (n d : ℕ) → is_reserved n ≡ true → not (is_reserved d) ≡ true → n ≢ d
-reserved_is_other n d h k e = let same = ap is_reserved e in let free = ap not (sym same ∙ h) in absurd cc
-
-x_kept : (o : Option ℕ) (s t : State) (n : ℕ) → none_reserved o ≡ true → is_reserved n ≡ true → OtherX o s t → x_at t n ≡ x_at s n
-x_kept None s t n free h same = ap (λ x. slice_index x n) same
-x_kept (Some d) s t n free h same = same n (reserved_is_other n d h free)
-
-sp_kept : (b : Bool) (before after : ℕ) → not b ≡ true → SameUnless b before after → after ≡ before
-sp_kept true before after h same = absurd cc
-sp_kept false before after h same = same
 
 does_keep : (i : Listed) (s t : State) → leaves_reserved i ≡ true → does i s ≡ Went t → AreKept s t
 does_keep (Scalar i) s t h e =
     let l = scalar_leaves i.name i.numbers s t e in
     let two = and_parts (none_reserved (register_written (Scalar i))) (not (writes_stack_pointer (Scalar i))) h in
-    record { x = λ n r. x_kept (register_written (Scalar i)) s t n two.0 r l.x; sp = sp_kept (writes_stack_pointer (Scalar i)) s.sp t.sp two.1 l.sp }
+    record { x = λ n r. reserved_x_stays (register_written (Scalar i)) s t n two.0 r l.x; sp = sp_unless_written (writes_stack_pointer (Scalar i)) s.sp t.sp two.1 l.sp }
 does_keep (Vector i) s t h e =
     let l = went_leaves i.name (field_of i.name i.numbers) s t e in
     let two = and_parts (none_reserved (register_written (Vector i))) (not (writes_stack_pointer (Vector i))) h in
-    record { x = λ n r. x_kept (register_written (Vector i)) s t n two.0 r l.x; sp = l.sp }
+    record { x = λ n r. reserved_x_stays (register_written (Vector i)) s t n two.0 r l.x; sp = l.sp }
 
 read : (word : ℕ) (i : Listed) → listed word ≡ Some i → reads_word word ≡ Some i
 unfolding reads_word

@@ -1,7 +1,7 @@
 use Rattle.std.proofs.Common.{◌≡◌, ◌+◌, ◌++◌, ◌≤◌, ◌∷◌, [], drop, length, sym, ap, ◌∙◌, append_assoc, append-nil, arith}
 use Rattle.std.specs.Prelude.{slice_index_or}
 use Rattle.std.proofs.lemmas.List.{length-map}
-use Rattle.call_code.specs.Written.{written_among}
+use Rattle.promises.specs.Saved.{written_among}
 use Rattle.call_code.proofs.Among.{among_few}
 use Rattle.call_words.specs.Classes.{number_of, numbers_of, written_of}
 use Rattle.call_words.proofs.WordLists.{among_step, among_end}

@@ -1,5 +1,5 @@
 use Rattle.std.proofs.Common.{◌≡◌, ◌++◌, drop}
-use Rattle.call_code.specs.Written.{written_among}
+use Rattle.promises.specs.Saved.{written_among}
 use Rattle.call_words.specs.Classes.{numbers_of, written_of}
 use Rattle.call_words.proofs.saved.saved.Given as goal
 

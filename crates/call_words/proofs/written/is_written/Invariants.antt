@@ -1,5 +1,5 @@
 use Rattle.std.proofs.Common.{◌≡◌, drop}
-use Rattle.call_code.specs.Written.{is_written}
+use Rattle.promises.specs.Saved.{is_written}
 use Rattle.call_words.specs.Classes.{written_of}
 use Rattle.call_words.proofs.written.is_written.Given as goal
 

@@ -1,7 +1,7 @@
 use Rattle.std.proofs.Common.{length, sym, ap, ◌∙◌, subst, arith}
 use Rattle.loop_form.specs.View.{program}
 use Rattle.call_code.specs.Called.{function_words}
-use Rattle.kernel_call.specs.Function.{CloseFunction, FunctionEnds}
+use Rattle.promises.specs.Function.{CloseFunction, FunctionEnds}
 use Rattle.kernel_call.proofs.Lengths.{function_length}
 use Rattle.kernel_call.proofs.function.kernel_function.Goals as goal
 

@@ -1,4 +1,4 @@
-use Rattle.call_code.specs.Written.{saved_by}
+use Rattle.promises.specs.Saved.{saved_by}
 use Rattle.call_code.proofs.AroundWords.{are_saved, frame_small, frame_holds}
 use Rattle.kernel_call.proofs.CallExists.{call_exists}
 use Rattle.kernel_call.proofs.laws.calls_exist.Goals as goal

@@ -1,4 +1,4 @@
-use Rattle.call_code.specs.Written.{saved_by}
+use Rattle.promises.specs.Saved.{saved_by}
 use Rattle.call_code.proofs.AroundWords.{are_saved, frame_small}
 use Rattle.kernel_call.proofs.Lengths.{steps_few}
 use Rattle.kernel_call.proofs.laws.small_frames.Goals as goal

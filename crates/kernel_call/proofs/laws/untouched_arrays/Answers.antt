@@ -1,4 +1,4 @@
-use Rattle.call_code.specs.Written.{saved_by}
+use Rattle.promises.specs.Saved.{saved_by}
 use Rattle.call_code.proofs.AroundWords.{are_saved, frame_holds}
 use Rattle.kernel_call.proofs.Arrays.{untouched_apart}
 use Rattle.kernel_call.proofs.laws.untouched_arrays.Goals as goal

@@ -3,6 +3,7 @@ use Rattle.loop_form.specs.View.{program}
 use Rattle.label_fix.specs.Finished.{size}
 use Rattle.label_fix.proofs.PlacedRuns.{words_length}
 use Rattle.scalar_words.specs.KernelRegisters.{register_in}
+use Rattle.promises.specs.OneExit.{HasOneExit}
 use Rattle.promises.specs.Reserved.{LeavesReserved}
 use Rattle.kernel_compile.proofs.ScalarFaithful.{emitted, compiled, followed}
 use Rattle.kernel_compile.proofs.ReservedWords.{iterations_alone}
@@ -40,10 +41,13 @@ returns-clause-faithful c =
 
 pub returns-clause-reserved : goal.returns-clause-reserved
 returns-clause-reserved c =
-    let k = program c.args.kernel.now in
-    let R = register_in c.args.regs.now in
-    let alone = iterations_alone R k c.new-draft.result.labels c.emit_begin.new.draft.labels c.new-draft.result.entries c.emit_begin.new.draft.entries c.emit_scalar.new.draft.entries c.new-draft.ensures.entries c.in_ok-emit_begin.ensures.emits.code c.in_ok-emit_scalar.ensures.emits.code (c.scalar_code_leaves.ensures.begin c.new-draft.result.labels) (c.scalar_code_leaves.ensures.scalar c.emit_begin.new.draft.labels) in
-    subst (λ ws. All LeavesReserved ws) (sym c.in_ok-words.ensures.words) (c.words_leave.ensures c.emit_scalar.new.draft.labels c.emit_scalar.new.draft.entries c.in_ok-words.ensures.fit alone)
+    let alone = iterations_alone (register_in c.args.regs.now) (program c.args.kernel.now) c.new-draft.result.labels c.emit_begin.new.draft.labels c.new-draft.result.entries c.emit_begin.new.draft.entries c.emit_scalar.new.draft.entries c.new-draft.ensures.entries c.in_ok-emit_begin.ensures.emits.code c.in_ok-emit_scalar.ensures.emits.code (c.scalar_code_leaves.ensures.begin c.new-draft.result.labels) (c.scalar_code_leaves.ensures.scalar c.emit_begin.new.draft.labels) in
+    subst (λ ws. All LeavesReserved ws) (sym c.in_ok-words.ensures.words) (c.words_leave.ensures c.emit_scalar.new.draft.labels 1 c.emit_scalar.new.draft.entries c.in_ok-words.ensures.fit alone)
+
+pub returns-clause-one_exit : goal.returns-clause-one_exit
+returns-clause-one_exit c =
+    let alone = iterations_alone (register_in c.args.regs.now) (program c.args.kernel.now) c.new-draft.result.labels c.emit_begin.new.draft.labels c.new-draft.result.entries c.emit_begin.new.draft.entries c.emit_scalar.new.draft.entries c.new-draft.ensures.entries c.in_ok-emit_begin.ensures.emits.code c.in_ok-emit_scalar.ensures.emits.code (c.scalar_code_leaves.ensures.begin c.new-draft.result.labels) (c.scalar_code_leaves.ensures.scalar c.emit_begin.new.draft.labels) in
+    subst HasOneExit (sym c.in_ok-words.ensures.words) (c.words_exit.ensures c.emit_scalar.new.draft.labels c.emit_scalar.new.draft.entries c.in_ok-words.ensures.fit alone)
 
 pub returns-clause-drafted : goal.returns-clause-drafted
 returns-clause-drafted c =
@@ -57,6 +61,6 @@ returns-clause-drafted c =
       is = c.in_ok-words.ensures.words;
       fit = c.in_ok-words.ensures.fit;
       few = omega (arith, none, c.in_ok-emit_begin.ensures.words, c.in_ok-emit_scalar.ensures.words, c.few_items.ensures.size);
-      alone = iterations_alone R k c.new-draft.result.labels c.emit_begin.new.draft.labels c.new-draft.result.entries c.emit_begin.new.draft.entries c.emit_scalar.new.draft.entries c.new-draft.ensures.entries c.in_ok-emit_begin.ensures.emits.code c.in_ok-emit_scalar.ensures.emits.code (c.scalar_code_leaves.ensures.begin c.new-draft.result.labels) (c.scalar_code_leaves.ensures.scalar c.emit_begin.new.draft.labels);
+      alone = iterations_alone (register_in c.args.regs.now) (program c.args.kernel.now) c.new-draft.result.labels c.emit_begin.new.draft.labels c.new-draft.result.entries c.emit_begin.new.draft.entries c.emit_scalar.new.draft.entries c.new-draft.ensures.entries c.in_ok-emit_begin.ensures.emits.code c.in_ok-emit_scalar.ensures.emits.code (c.scalar_code_leaves.ensures.begin c.new-draft.result.labels) (c.scalar_code_leaves.ensures.scalar c.emit_begin.new.draft.labels);
       holds = followed R k c.begin_runs.ensures c.scalar_runs.ensures _ c.emit_scalar.new.draft.entries _ e.following e.begun_by e.placed;
     }

@@ -9,7 +9,9 @@ use Rattle.machine_model.specs.Written.{file_of}
 use Rattle.label_fix.proofs.PlacedRuns.{words_length}
 use Rattle.overlap_guard.proofs.Bound.{few-arrays}
 use Rattle.scalar_words.specs.KernelRegisters.{register_in}
+use Rattle.promises.specs.OneExit.{HasOneExit}
 use Rattle.promises.specs.Reserved.{LeavesReserved}
+use Rattle.reserved_registers.specs.Alone.{AreAlone}
 use Rattle.kernel_compile.proofs.ReservedWords.{lanes_alone}
 use Rattle.kernel_compile.proofs.VectorJoin.{IsJoined}
 use Rattle.kernel_compile.proofs.VectorFiles.{Promised, vector_file, vector_followed}
@@ -159,17 +161,21 @@ returns-clause-close c = (promised c).close
 pub returns-clause-ends : goal.returns-clause-ends
 returns-clause-ends c = (promised c).ends
 
-pub returns-clause-reserved : goal.returns-clause-reserved
-returns-clause-reserved c =
-    let k = program c.args.facts.now.kernel.now in
+-- the entries leave the reserved registers alone, and have one exit call
+alone : (c : goal.After-have_32_bits) → AreAlone 1 c.emit_vector.new.draft.entries
+alone c =
     let scalar = c.in_ok-scalar.field-0.at_iteration in
-    let alone = lanes_alone (drafts c) (c.scalar_code_leaves.ensures.begin c.label.new.self.labels) (c.scalar_code_leaves.ensures.scalar c.branch-draft.new.self.labels) (c.guard_leaves.ensures k scalar c.place.new.self.labels) (c.vector_code_leaves.ensures c.args.regs.now.z c.args.regs.now.p scalar c.guard.new.draft.labels) in
-    subst (λ ws. All LeavesReserved ws) (sym c.in_ok-words.ensures.words) (c.words_leave.ensures c.emit_vector.new.draft.labels c.emit_vector.new.draft.entries c.in_ok-words.ensures.fit alone)
+    lanes_alone (drafts c) (c.scalar_code_leaves.ensures.begin c.label.new.self.labels) (c.scalar_code_leaves.ensures.scalar c.branch-draft.new.self.labels) (c.guard_leaves.ensures (program c.args.facts.now.kernel.now) scalar c.place.new.self.labels) (c.vector_code_leaves.ensures c.args.regs.now.z c.args.regs.now.p scalar c.guard.new.draft.labels)
+
+pub returns-clause-reserved : goal.returns-clause-reserved
+returns-clause-reserved c = subst (λ ws. All LeavesReserved ws) (sym c.in_ok-words.ensures.words) (c.words_leave.ensures c.emit_vector.new.draft.labels 1 c.emit_vector.new.draft.entries c.in_ok-words.ensures.fit (alone c))
+
+pub returns-clause-one_exit : goal.returns-clause-one_exit
+returns-clause-one_exit c = subst HasOneExit (sym c.in_ok-words.ensures.words) (c.words_exit.ensures c.emit_vector.new.draft.labels c.emit_vector.new.draft.entries c.in_ok-words.ensures.fit (alone c))
 
 pub returns-clause-drafted : goal.returns-clause-drafted
 returns-clause-drafted c =
     let k = program c.args.facts.now.kernel.now in
-    let scalar = c.in_ok-scalar.field-0.at_iteration in
     let few = vector_code_words_le (drafts c) c.in_ok-emit_begin.ensures.words c.in_ok-scalar.ensures.words c.in_ok-guard.ensures.words c.in_ok-emit_vector.ensures.words in
     let follows = vector_followed k c.args.regs.now.z c.args.regs.now.p c.args.regs.now.x c.emit_vector.new.draft.labels _ _ _ c.emit_vector.new.draft.entries (registers_are_joined c) (is_whole (drafts c)) c.in_ok-words.ensures.fit in
     record {
@@ -178,7 +184,7 @@ returns-clause-drafted c =
       is = c.in_ok-words.ensures.words;
       fit = c.in_ok-words.ensures.fit;
       few = omega (arith, few, c.few_items.ensures.size);
-      alone = lanes_alone (drafts c) (c.scalar_code_leaves.ensures.begin c.label.new.self.labels) (c.scalar_code_leaves.ensures.scalar c.branch-draft.new.self.labels) (c.guard_leaves.ensures k scalar c.place.new.self.labels) (c.vector_code_leaves.ensures c.args.regs.now.z c.args.regs.now.p scalar c.guard.new.draft.labels);
+      alone = alone c;
       holds = (follows.close, follows.ends);
     }
 
@@ -187,39 +193,39 @@ returns-clause-drafted c =
 pub returns-in_err-vector : goal.returns-in_err-vector
 returns-in_err-vector c =
     let failed = c.from_residual.ensures.0 in
-    record { close = IfOk-from_err _ _ failed; ends = IfOk-from_err _ _ failed; short = IfOk-from_err _ _ failed; reserved = IfOk-from_err _ _ failed; drafted = IfOk-from_err _ _ failed }
+    record { close = IfOk-from_err _ _ failed; ends = IfOk-from_err _ _ failed; short = IfOk-from_err _ _ failed; reserved = IfOk-from_err _ _ failed; one_exit = IfOk-from_err _ _ failed; drafted = IfOk-from_err _ _ failed }
 
 pub returns-in_err-emit_begin : goal.returns-in_err-emit_begin
 returns-in_err-emit_begin c =
     let failed = c.from_residual-in_err-emit_begin.ensures.0 in
-    record { close = IfOk-from_err _ _ failed; ends = IfOk-from_err _ _ failed; short = IfOk-from_err _ _ failed; reserved = IfOk-from_err _ _ failed; drafted = IfOk-from_err _ _ failed }
+    record { close = IfOk-from_err _ _ failed; ends = IfOk-from_err _ _ failed; short = IfOk-from_err _ _ failed; reserved = IfOk-from_err _ _ failed; one_exit = IfOk-from_err _ _ failed; drafted = IfOk-from_err _ _ failed }
 
 pub returns-in_err-branch : goal.returns-in_err-branch
 returns-in_err-branch c =
     let failed = c.from_residual-in_err-branch.ensures.0 in
-    record { close = IfOk-from_err _ _ failed; ends = IfOk-from_err _ _ failed; short = IfOk-from_err _ _ failed; reserved = IfOk-from_err _ _ failed; drafted = IfOk-from_err _ _ failed }
+    record { close = IfOk-from_err _ _ failed; ends = IfOk-from_err _ _ failed; short = IfOk-from_err _ _ failed; reserved = IfOk-from_err _ _ failed; one_exit = IfOk-from_err _ _ failed; drafted = IfOk-from_err _ _ failed }
 
 pub returns-in_err-scalar : goal.returns-in_err-scalar
 returns-in_err-scalar c =
     let failed = c.from_residual-in_err-scalar.ensures.0 in
-    record { close = IfOk-from_err _ _ failed; ends = IfOk-from_err _ _ failed; short = IfOk-from_err _ _ failed; reserved = IfOk-from_err _ _ failed; drafted = IfOk-from_err _ _ failed }
+    record { close = IfOk-from_err _ _ failed; ends = IfOk-from_err _ _ failed; short = IfOk-from_err _ _ failed; reserved = IfOk-from_err _ _ failed; one_exit = IfOk-from_err _ _ failed; drafted = IfOk-from_err _ _ failed }
 
 pub returns-in_err-place : goal.returns-in_err-place
 returns-in_err-place c =
     let failed = c.from_residual-in_err-place.ensures.0 in
-    record { close = IfOk-from_err _ _ failed; ends = IfOk-from_err _ _ failed; short = IfOk-from_err _ _ failed; reserved = IfOk-from_err _ _ failed; drafted = IfOk-from_err _ _ failed }
+    record { close = IfOk-from_err _ _ failed; ends = IfOk-from_err _ _ failed; short = IfOk-from_err _ _ failed; reserved = IfOk-from_err _ _ failed; one_exit = IfOk-from_err _ _ failed; drafted = IfOk-from_err _ _ failed }
 
 pub returns-in_err-guard : goal.returns-in_err-guard
 returns-in_err-guard c =
     let failed = c.from_residual-in_err-guard.ensures.0 in
-    record { close = IfOk-from_err _ _ failed; ends = IfOk-from_err _ _ failed; short = IfOk-from_err _ _ failed; reserved = IfOk-from_err _ _ failed; drafted = IfOk-from_err _ _ failed }
+    record { close = IfOk-from_err _ _ failed; ends = IfOk-from_err _ _ failed; short = IfOk-from_err _ _ failed; reserved = IfOk-from_err _ _ failed; one_exit = IfOk-from_err _ _ failed; drafted = IfOk-from_err _ _ failed }
 
 pub returns-in_err-emit_vector : goal.returns-in_err-emit_vector
 returns-in_err-emit_vector c =
     let failed = c.from_residual-in_err-emit_vector.ensures.0 in
-    record { close = IfOk-from_err _ _ failed; ends = IfOk-from_err _ _ failed; short = IfOk-from_err _ _ failed; reserved = IfOk-from_err _ _ failed; drafted = IfOk-from_err _ _ failed }
+    record { close = IfOk-from_err _ _ failed; ends = IfOk-from_err _ _ failed; short = IfOk-from_err _ _ failed; reserved = IfOk-from_err _ _ failed; one_exit = IfOk-from_err _ _ failed; drafted = IfOk-from_err _ _ failed }
 
 pub returns-in_err-words : goal.returns-in_err-words
 returns-in_err-words c =
     let failed = c.from_residual-in_err-words.ensures.0 in
-    record { close = IfOk-from_err _ _ failed; ends = IfOk-from_err _ _ failed; short = IfOk-from_err _ _ failed; reserved = IfOk-from_err _ _ failed; drafted = IfOk-from_err _ _ failed }
+    record { close = IfOk-from_err _ _ failed; ends = IfOk-from_err _ _ failed; short = IfOk-from_err _ _ failed; reserved = IfOk-from_err _ _ failed; one_exit = IfOk-from_err _ _ failed; drafted = IfOk-from_err _ _ failed }

@@ -1,5 +1,5 @@
-use Rattle.object_file.proofs.ReadObjects.{reads}
+use Rattle.object_file.proofs.ReadObjects.{object_reads}
 use Rattle.object_file.proofs.laws.objects_are_read.Goals as goal
 
 pub returns : goal.returns
-returns c = reads
+returns c = object_reads

@@ -1,8 +1,8 @@
 -- What a function owes the kernel that it was made of: called as the Procedure Call Standard for the Arm 64-bit Architecture has it
 -- (AAPCS64, section 6), at any address and in any state, it does what the kernel says, and comes back to the caller.
-use Rattle.std.specs.Prelude.{◌≡◌, ◌⊎◌, ℕ, ◌+◌, ◌-◌, ◌*◌, ◌^◌, ◌<◌, ◌≤◌, true, List, [], ◌∷◌, length, take, Some, All}
+use Rattle.std.specs.Prelude.{◌≡◌, ℕ, ◌+◌, ◌-◌, ◌*◌, ◌^◌, ◌<◌, ◌≤◌, true, List, ◌∷◌, take, Some, All}
 use Rattle.guest_types.specs.Elements.{element}
-use Rattle.guest_types.specs.Memory.{Memory, DoNotMeet, byte_at, can_read, can_write, merged, put_number}
+use Rattle.guest_types.specs.Memory.{Memory, byte_at, can_write, put_number}
 use Rattle.machine_model.specs.declared.outcome.StopKind.{StopKind}
 use Rattle.machine_model.specs.Machine.{State, x_at, z_at}
 use Rattle.machine_model.specs.Run.{Stop, IsAccess, run, after_steps, suppressed}
@@ -13,10 +13,10 @@ use Rattle.kernel_meaning.specs.ScalarRun.{begun, scalar_run}
 use Rattle.label_fix.specs.Finished.{StandAt}
 use Rattle.dependence.specs.Bound.{at_once}
 use Rattle.close_bound.specs.CloseBound.{close_bound}
+use Rattle.meaning_frame.specs.Accesses.{run_with}
 use Rattle.promises.specs.Faithful.{IsNearFault, end_steps}
-use Rattle.meaning_frame.specs.Accesses.{Access, run_with}
-use Rattle.call_code.specs.Frame.{Saved, doublewords, frame_size, enter, leave}
-use Rattle.call_code.specs.Written.{saved_by}
+use Rattle.promises.specs.Reserved.{platform_register, frame_pointer, link_register}
+use Rattle.promises.specs.Saved.{Saved, doublewords, frame_size, call_steps, saved_by, kept_x, kept_z}
 
 -- ---- the call
 
@@ -48,36 +48,6 @@ abbrev pub IsUntouched : Saved → Program → State → Type 0
 IsUntouched v k s =
     (n : ℕ) → scalar_run k (arguments s) (with_frame v s n s.memory) ≡ run_with (with_frame v s n) (scalar_run k (arguments s) s.memory)
 
--- The frame lies in pages that the kernel's run does without: over the other pages alone it ends.
-pub record IsElsewhere (v : Saved) (k : Program) (s : State) : Type 0 where
-  pub frames : Memory
-  pub pages : Memory
-  pub apart : DoNotMeet frames pages
-  pub memory : s.memory ≡ merged frames pages
-  pub mapped : (x : ℕ) → InFrame v s x → can_read frames x ≡ true
-  pub after : Memory
-  pub result : ℕ
-  pub count : ℕ
-  pub ends : scalar_run k (arguments s) pages ≡ scalar.End after result count
-
--- each access lies in one of some arrays, given by their addresses and their bytes
-abbrev pub IsInside : Access → Access → Type 0
-IsInside array access = (array.address ≤ access.address) × (access.address + access.bytes ≤ array.address + array.bytes)
-
-abbrev pub InSome : List Access → Access → Type 0
-InSome [] access = ⊥
-InSome (array ∷ arrays) access = IsInside array access ⊎ InSome arrays access
-
-abbrev pub AreInside : (arrays accesses : List Access) → Type 0
-AreInside arrays [] = Unit {0}
-AreInside arrays (access ∷ rest) = InSome arrays access × AreInside arrays rest
-
--- The frame ends below each of the arrays, or begins at the end of one or above it. No array goes on past the last address.
-abbrev pub FrameApart : Saved → State → List Access → Type 0
-FrameApart v s [] = Unit {0}
-FrameApart v s (array ∷ arrays) =
-    (array.address + array.bytes ≤ 2 ^ 64) × ((s.sp ≤ array.address) ⊎ (array.address + array.bytes + frame_size v ≤ s.sp)) × FrameApart v s arrays
-
 -- ---- how it comes out
 
 -- At most so many steps lead back to the caller, with this memory, but for what is left in the frame, and this result in X0. SP, X18
@@ -87,13 +57,13 @@ pub record Returns (v : Saved) (s : State) (most : ℕ) (m : Memory) (answer : �
   pub within : count ≤ most
   pub end : State
   pub after : after_steps count s ≡ Some end
-  pub back : end.pc ≡ x_at s 30
+  pub back : end.pc ≡ x_at s link_register
   pub left : ℕ
   pub memory : end.memory ≡ with_frame v s left m
   pub result : x_at end 0 ≡ answer
   pub sp : end.sp ≡ s.sp
-  pub x : All (λ r. x_at end r ≡ x_at s r) (18 ∷ 29 ∷ 30 ∷ 19 ∷ 20 ∷ 21 ∷ 22 ∷ 23 ∷ 24 ∷ 25 ∷ 26 ∷ 27 ∷ 28 ∷ [])
-  pub z : All (λ r. element 8 (z_at end r) 0 ≡ element 8 (z_at s r) 0) (8 ∷ 9 ∷ 10 ∷ 11 ∷ 12 ∷ 13 ∷ 14 ∷ 15 ∷ [])
+  pub x : All (λ r. x_at end r ≡ x_at s r) (platform_register ∷ frame_pointer ∷ link_register ∷ kept_x)
+  pub z : All (λ r. element 8 (z_at end r) 0 ≡ element 8 (z_at s r) 0) kept_z
 
 -- A stop of kind Read or Write within so many steps. Each byte outside the frame is as the scalar loop left it at its fault, but for
 -- those near the fault.
@@ -112,10 +82,6 @@ Answers v k s most (scalar.End memory result m) = Returns v s most memory result
 Answers v k s most (scalar.Fault memory m) = Stops v k s most memory m
 
 -- ---- functions
-
--- steps that a call takes beside those of the kernel's code: one for each word around it, a fixed number of them for each register kept
-abbrev pub call_steps : Saved → ℕ
-call_steps v = length (enter v) + length (leave v)
 
 -- A function that keeps some registers in a frame: it comes back with what the scalar loop leaves where that ends, and stops where it
 -- faults, within a bound.

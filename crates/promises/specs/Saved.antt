@@ -1,10 +1,37 @@
--- The registers that some words write: of those that a caller finds as they were, a function keeps these and no others.
-use Rattle.std.specs.Prelude.{ℕ, Bool, false, ◌||◌, nat_eq, if◌then◌else◌, List, [], ◌∷◌, Option, Some, None, option_map}
+-- What a function keeps for its caller, in a frame on the stack below SP (Procedure Call Standard for the Arm 64-bit Architecture,
+-- AAPCS64, sections 6.1.1 and 6.1.2): of the registers that a caller finds as they were, those that its words write, and no others.
+use Rattle.std.specs.Prelude.{ℕ, zero, suc, ◌+◌, ◌*◌, ◌/◌, Bool, false, ◌||◌, nat_eq, if◌then◌else◌, List, [], ◌∷◌, length, Option, Some, None, option_map}
 use Rattle.machine_model.specs.Frames.{z_field}
 use Rattle.machine_model.specs.InstructionTable.{Listed, Scalar, Vector, listed}
 use Rattle.machine_model.specs.VectorEffects.{field_of}
 use Rattle.promises.specs.Reserved.{register_written}
-use Rattle.call_code.specs.Frame.{Saved}
+
+-- ---- the frame
+
+-- general registers, and vector registers of which the low doubleword is kept
+pub record Saved : Type 0 where
+  pub x : List ℕ
+  pub z : List ℕ
+
+-- the doublewords that the frame holds
+abbrev pub doublewords : Saved → ℕ
+doublewords v = length v.x + length v.z
+
+-- the bytes of the frame: SP stays a multiple of 16 (AAPCS64, section 6.4.5.1)
+abbrev pub frame_size : Saved → ℕ
+frame_size v = 16 * ((doublewords v + 1) / 2)
+
+-- SP goes down and up again where the frame has bytes
+abbrev pub sp_steps : (frame : ℕ) → ℕ
+sp_steps zero = 0
+sp_steps (suc n) = 2
+
+-- The steps of a call beside those of the code: a store and a load for each general register, and one more each for a vector register,
+-- whose low doubleword passes through a general one; those that move SP, and RET.
+abbrev pub call_steps : Saved → ℕ
+call_steps v = 2 * length v.x + 4 * length v.z + sp_steps (frame_size v) + 1
+
+-- ---- what is kept
 
 -- the registers that a caller finds as they were: general ones, and vector registers in their low 64 bits
 abbrev pub kept_x : List ℕ
