@@ -11,6 +11,7 @@ use Rattle.kernel_tree.specs.declared.ops.Ty.TheVariants as ty
 use Rattle.kernel_tree.specs.Wrap.{wrap, bits_of, byte_count}
 use Rattle.kernel_meaning.specs.Operators.{word}
 use Rattle.machine_model.specs.InstructionTable.{Listed}
+use Rattle.machine_model.specs.declared.outcome.StopKind.{StopKind}
 use Rattle.machine_model.specs.Machine.{State}
 use Rattle.label_fix.specs.DraftRun.{DraftEntry, Laid}
 use Rattle.vector_order.specs.Orders.{Lane, Lanes, Act, Out, go_on, column}
@@ -18,6 +19,7 @@ use Rattle.loop_form.specs.declared.loop_item.Operand.{Operand}
 use Rattle.loop_form.specs.declared.loop_item.Operand.TheVariants.{Outer, Made}
 use Rattle.vector_order.specs.Operands.{nth_value, operand_value, with_value}
 use Rattle.vector_order.proofs.LaneValues.{value_same, value_other}
+use Rattle.loop_form.specs.LoopItems.{Op}
 use Rattle.loop_form.specs.LoopItems as ops
 use Rattle.vector_order.specs.Items.{item_act}
 use Rattle.lane_emit.specs.ItemCode.{operand, mask_register}
@@ -27,6 +29,7 @@ use Rattle.chunk_emit.specs.Registers.{Layout}
 use Rattle.chunk_emit.specs.ChunkCode.{op_words, puts}
 use Rattle.chunk_emit.specs.Chunk.{Setting, chunk_of, Holds}
 use Rattle.chunk_emit.specs.Fits.{Assigned, FitsMask, FitsOperand, MakesValue, MakesNothing, NoneBetween, IsNear}
+use Rattle.chunk_emit.specs.StopPlaces.{ChunkComesTo}
 use Rattle.chunk_emit.specs.ItemsRun.{Does, does_fine, does_fail}
 use Rattle.chunk_emit.proofs.ItemLanes.{OwnColumn, own_fine}
 use Rattle.chunk_emit.proofs.ChunkStates.{holds_on, holds_later, operand_right}
@@ -144,7 +147,7 @@ module _ (l : Layout) (q : ℕ) where
       sums = λ x is. let old = h.sums x is in record { before = old.before; alike = old.alike; typed = old.typed; holds = old.holds };
     }
 
-does_again : {l : Layout} {q : ℕ} {f : Setting} {d : Laid} {c rest : List DraftEntry} {s : State} {p most : ℕ} {out : Out} → q < p → l.z_last_use q < p → Does (without l q) f d c s rest p most out → Does l f d c s rest p most out
+does_again : {l : Layout} {q : ℕ} {f : Setting} {d : Laid} {c rest : List DraftEntry} {s : State} {p most : ℕ} {near : StopKind → ℕ → Type 0} {out : Out} → q < p → l.z_last_use q < p → Does (without l q) f d c s rest p most near out → Does l f d c s rest p most near out
 does_again {l = l} {q = q} lt dead (does_fine end goes holds) = does_fine end goes (holds_again l q lt dead holds)
 does_again lt dead (does_fail kind access stops) = does_fail kind access stops
 
@@ -154,8 +157,11 @@ module _ (l : Layout) (fit : Assigned l) (f : Setting) (d : Laid) (rest : List D
   abbrev cast_act : Act
   cast_act = item_act f.names (record { item = q; mask = first; op = ops.Cast (Some own) cast x })
 
+  abbrev store_op : Op
+  store_op = ops.Store a (Outer place) (Some t) c (Made q)
+
   abbrev store_act : Act
-  store_act = item_act f.names (record { item = p; mask = second; op = ops.Store a (Outer place) (Some t) c (Made q) })
+  store_act = item_act f.names (record { item = p; mask = second; op = store_op })
 
   abbrev words : List Listed
   words = op_words f.w l p (mask_register l.registers second) (ops.Store a (Outer place) (Some t) c x)
@@ -164,7 +170,7 @@ module _ (l : Layout) (fit : Assigned l) (f : Setting) (d : Laid) (rest : List D
     abbrev new : ℕ → Lane → Lane
     new j k = with_value k q (wrap cast (operand_value f.names j k x))
 
-    store_part : (lanes u : Lanes) (s : State) → Holds l f q lanes s → u.memory ≡ lanes.memory → ((e : ℕ) → e < f.n → u.lane (f.i + e) ≡ with_value (lanes.lane (f.i + e)) q (wrap cast (operand_value f.names (f.i + e) (lanes.lane (f.i + e)) x))) → Does l f d (puts words rest) s rest (p + 1) (length words) (column store_act f.n f.i u)
+    store_part : (lanes u : Lanes) (s : State) → Holds l f q lanes s → u.memory ≡ lanes.memory → ((e : ℕ) → e < f.n → u.lane (f.i + e) ≡ with_value (lanes.lane (f.i + e)) q (wrap cast (operand_value f.names (f.i + e) (lanes.lane (f.i + e)) x))) → Does l f d (puts words rest) s rest (p + 1) (length words) (ChunkComesTo f store_op) (column store_act f.n f.i u)
     store_part lanes u s h mem here =
         let value_of : (e : ℕ) → ℤ = λ e. wrap cast (operand (chunk_of f lanes) x e) in
         let unused : MakesNothing (without l q) q = (own_use l q, makes.0) in
@@ -186,8 +192,8 @@ module _ (l : Layout) (fit : Assigned l) (f : Setting) (d : Laid) (rest : List D
         without_nothing : MakesNothing l p → MakesNothing (without l q) p
         without_nothing k = (no_use l q p k.0, k.1)
 
-    cast_store_parts : (lanes : Lanes) (s : State) {out : Out} → Holds l f q lanes s → OwnColumn new f.n f.i lanes None out → Does l f d (puts words rest) s rest (p + 1) (length words) (go_on out (column store_act f.n f.i))
+    cast_store_parts : (lanes : Lanes) (s : State) {out : Out} → Holds l f q lanes s → OwnColumn new f.n f.i lanes None out → Does l f d (puts words rest) s rest (p + 1) (length words) (ChunkComesTo f store_op) (go_on out (column store_act f.n f.i))
     cast_store_parts lanes s h (own_fine u mem here before past) = store_part lanes u s h mem here
 
-    pub pair_runs : (lanes : Lanes) (s : State) → Holds l f q lanes s → Does l f d (puts words rest) s rest (p + 1) (length words) (go_on (column cast_act f.n f.i lanes) (column store_act f.n f.i))
+    pub pair_runs : (lanes : Lanes) (s : State) → Holds l f q lanes s → Does l f d (puts words rest) s rest (p + 1) (length words) (ChunkComesTo f store_op) (go_on (column cast_act f.n f.i lanes) (column store_act f.n f.i))
     pair_runs lanes s h = cast_store_parts lanes s h (pure_column l fit f d rest h first mask (ops.Cast (Some own) cast x) new (λ j m k. refl))

@@ -18,6 +18,7 @@ use Rattle.kernel_tree.specs.declared.ops.Ty.TheVariants as ty
 use Rattle.kernel_tree.specs.Wrap.{wrap, bits_of, byte_count, log_bytes}
 use Rattle.kernel_meaning.specs.Operators.{word}
 use Rattle.kernel_meaning.specs.Eval.{address}
+use Rattle.kernel_meaning.proofs.Addresses.{address-below}
 use Rattle.kernel_meaning.proofs.Residues.{word-add}
 use Rattle.kernel_meaning.proofs.TypeRanges.{wrap-of, of-fits}
 use Rattle.machine_model.specs.declared.outcome.StopKind.TheVariants.{Read}
@@ -28,11 +29,11 @@ use Rattle.machine_model.specs.States.{IsState}
 use Rattle.machine_model.specs.VectorEffects.{do_vector, after_load}
 use Rattle.machine_model.proofs.StateSteps.{load_put}
 use Rattle.label_fix.specs.DraftRun.{DraftEntry, Laid}
-use Rattle.label_fix.specs.Stretches.{Stops}
-use Rattle.label_fix.proofs.StretchSteps.{put_goes, put_stops}
+use Rattle.label_fix.proofs.StretchSteps.{put_goes}
 use Rattle.vector_order.specs.Orders.{Lane, Lanes, Act, Out, column}
 use Rattle.loop_form.specs.declared.loop_item.Operand.{Operand}
 use Rattle.loop_form.specs.declared.loop_item.Operand.TheVariants.{Outer}
+use Rattle.loop_form.specs.LoopItems.{Op}
 use Rattle.loop_form.specs.LoopItems as ops
 use Rattle.loop_form.specs.Reaches.{reach_of_type}
 use Rattle.vector_order.specs.Operands.{nth_value, operand_value, with_value, on_mask, index_value}
@@ -50,9 +51,11 @@ use Rattle.chunk_emit.specs.Registers.{Layout, z_of, IsValueUsed}
 use Rattle.chunk_emit.specs.ChunkCode.{dtype_of, gather_word, gather_by, reach_type, cut_reach, cut_word, gather_code, op_words, vectors, puts}
 use Rattle.chunk_emit.specs.Chunk.{Setting, chunk_of, count_of, Holds}
 use Rattle.chunk_emit.specs.Fits.{Assigned, IsReach, FitsOperand, FitsMask, MakesValue}
+use Rattle.chunk_emit.specs.StopPlaces.{StopsAt, ChunkComesTo}
 use Rattle.chunk_emit.specs.ItemsRun.{Does, does_fine, does_fail}
 use Rattle.chunk_emit.proofs.DraftVectors.{do_goes}
-use Rattle.chunk_emit.proofs.ItemLanes.{first_short, first_holds, lane_out, Own, OwnColumn, own_fine, own_fail, own_column}
+use Rattle.chunk_emit.proofs.StopsAt.{stop_at, fault_byte}
+use Rattle.chunk_emit.proofs.ItemLanes.{first_short, first_holds, first_within, lane_out, Own, OwnColumn, own_fine, own_fail, own_column}
 use Rattle.chunk_emit.proofs.ChunkStates.{holds_on, ready, mask_exact, operand_right, lane_below_and, outside}
 use Rattle.chunk_emit.proofs.PureItems.{value_moves}
 use Rattle.chunk_emit.proofs.LoadForms.{IsForm, is_form, bytes_power}
@@ -141,12 +144,15 @@ times_one v = omega (arith, ints)
 offset_is : (t : Ty) (v : ℤ) → v *ℤ pos (2 ^ log_bytes t) ≡ pos (byte_count t) *ℤ v
 offset_is t v = ap (λ n. v *ℤ pos n) (byte_shift t) ∙ *ℤ_comm v (pos (byte_count t))
 
-module _ (l : Layout) (fit : Assigned l) (f : Setting) (d : Laid) (rest : List DraftEntry) (p : ℕ) (t : Lanes) (mask : Option ℕ) (fm : FitsMask l p mask) (a : List ℕ) (x : ℕ) (ty : Ty) (reach : Option ℕ) (U : Ty) (y : Operand) (low : x < 8) (based : slice_index f.x x ≡ word (nth_value f.names x)) (wide : f.w ≡ D) (makes : MakesValue l p ty) (used : IsValueUsed l p) where
+module _ (l : Layout) (fit : Assigned l) (f : Setting) (d : Laid) (rest : List DraftEntry) (p : ℕ) (t : Lanes) (mask : Option ℕ) (fm : FitsMask l p mask) (a : List ℕ) (x : ℕ) (ty : Ty) (reach : Option ℕ) (U : Ty) (y : Operand) (low : x < 8) (based : slice_index f.x x ≡ word (nth_value f.names x)) (wide : f.w ≡ D) (makes : MakesValue l p ty) (used : IsValueUsed l p) (reached : IsReach reach) where
   abbrev m : ℕ
   m = mask_register l.registers mask
 
+  abbrev op : Op
+  op = ops.Gather a (Outer x) (Some ty) reach (Some U) y
+
   abbrev act : Act
-  act = item_act f.names (record { item = p; mask = mask; op = ops.Gather a (Outer x) (Some ty) reach (Some U) y })
+  act = item_act f.names (record { item = p; mask = mask; op = op })
 
   abbrev form : LoadForm
   form = load_form (dtype_of ty D)
@@ -260,11 +266,16 @@ module _ (l : Layout) (fit : Assigned l) (f : Setting) (d : Laid) (rest : List D
     does : do_vector (gather_word ty (z_of l p) m x o) u ≡ load_ends (first_true test count 0)
     does = gather_does ty u (z_of l p) m x o
 
-    gather_stops_at_fault : (e : ℕ) (b : Option ℕ) → lane_fault form u.memory spot e ≡ b → is_some b ≡ true → load_ends (first_true test count 0) ≡ load_ends (Some e) → Stops d (puts (vectors (gather_word ty (z_of l p) m x o ∷ [])) rest) u Read u.memory 1
-    gather_stops_at_fault e None eq some ends = absurd cc
-    gather_stops_at_fault e (Some z) eq some ends = put_stops u.pc z (does ∙ ends ∙ ap (λ o. after_load (or_fault (read_fault o) (record { z = made; ffr = u.ffr })) (z_of l p) u) eq)
+    gather_near : (e z : ℕ) → e < f.n → lane_fault form u.memory spot e ≡ Some z → ChunkComesTo f op Read z
+    gather_near e z lt eq =
+        let value = operand_value f.names (f.i + e) (t.lane (f.i + e)) y in
+        (f.i + e, omega arith, omega (arith, lt), (refl, reached, value, fault_byte (can_read t.memory) (place (f.i + e) (t.lane (f.i + e))) (byte_count ty) z (address-below ty (nth_value f.names x) (index_value reach value)) (sym (fault_is e lt) ∙ eq)))
 
-    gather_does_column : (b : Option ℕ) {out : Out} → first_true test count 0 ≡ b → OwnColumn new f.n f.i t b out → Does l f d (puts (vectors (gather_word ty (z_of l p) m x o ∷ [])) rest) u rest (p + 1) 1 out
+    gather_stops_at_fault : (e : ℕ) (b : Option ℕ) → e < f.n → lane_fault form u.memory spot e ≡ b → is_some b ≡ true → load_ends (first_true test count 0) ≡ load_ends (Some e) → StopsAt d (puts (vectors (gather_word ty (z_of l p) m x o ∷ [])) rest) u Read u.memory 1 (ChunkComesTo f op Read)
+    gather_stops_at_fault e None lt eq some ends = absurd cc
+    gather_stops_at_fault e (Some z) lt eq some ends = stop_at u.pc z (does ∙ ends ∙ ap (λ o. after_load (or_fault (read_fault o) (record { z = made; ffr = u.ffr })) (z_of l p) u) eq) (gather_near e z lt eq)
+
+    gather_does_column : (b : Option ℕ) {out : Out} → first_true test count 0 ≡ b → OwnColumn new f.n f.i t b out → Does l f d (puts (vectors (gather_word ty (z_of l p) m x o ∷ [])) rest) u rest (p + 1) 1 (ChunkComesTo f op) out
     gather_does_column b eq (own_fine v mem here before past) =
         let end = next (with_z u (z_of l p) made) in
         let done : IsState end = load_put u end (z_of l p) None form.element (loaded_lane form u.memory on spot) u.ffr u_is refl in
@@ -274,14 +285,15 @@ module _ (l : Layout) (fit : Assigned l) (f : Setting) (d : Laid) (rest : List D
         (λ e lt. ap (λ z. at f.w z e) written ∙ value_is e lt) (λ e lt. read_of ty (on_mask mask (t.lane (f.i + e))) (number (f.i + e) (t.lane (f.i + e))))))
     gather_does_column b eq (own_fail e) =
         let on_both = first_holds test count 0 e eq in
-        does_fail Read (inl refl) (subst (λ mem. Stops d (puts (vectors (gather_word ty (z_of l p) m x o ∷ [])) rest) u Read mem 1) memory_is (gather_stops_at_fault e (lane_fault form u.memory spot e) refl (and_parts (on e) (is_some (lane_fault form u.memory spot e)) on_both).1 (ap load_ends eq)))
+        let inside = (first_within test f.n 0 e (sym short ∙ eq)).1 in
+        does_fail Read (inl refl) (subst (λ mem. StopsAt d (puts (vectors (gather_word ty (z_of l p) m x o ∷ [])) rest) u Read mem 1 (ChunkComesTo f op Read)) memory_is (gather_stops_at_fault e (lane_fault form u.memory spot e) (omega (arith, inside)) refl (and_parts (on e) (is_some (lane_fault form u.memory spot e)) on_both).1 (ap load_ends eq)))
 
-    pub gather_from : Does l f d (puts (vectors (gather_word ty (z_of l p) m x o ∷ [])) rest) u rest (p + 1) 1 (column act f.n f.i t)
+    pub gather_from : Does l f d (puts (vectors (gather_word ty (z_of l p) m x o ∷ [])) rest) u rest (p + 1) 1 (ChunkComesTo f op) (column act f.n f.i t)
     gather_from = gather_does_column (first_true test f.n 0) short cols
 
   -- the shift and the read, from a state in which a register has the elements
   by_shift : {s : State} → Holds l f p t s → (v : State) → IsState v → OnlyZ (z_of l p) s v → (o : ℕ) → ZRight D f.n (z_at v o) element → (k : ℕ) → log_bytes ty ≡ k
-      → Does l f d (puts (vectors (gather_by k ty (z_of l p) m x o)) rest) v rest (p + 1) (length (vectors (gather_by k ty (z_of l p) m x o))) (column act f.n f.i t)
+      → Does l f d (puts (vectors (gather_by k ty (z_of l p) m x o)) rest) v rest (p + 1) (length (vectors (gather_by k ty (z_of l p) m x o))) (ChunkComesTo f op) (column act f.n f.i t)
   by_shift {s = s} h v v_is only o right zero e =
       gather_from s h v v_is only o (λ j lt. right j lt ∙ ap (held D) (sym (times_one (element j)) ∙ ap (λ n. element j *ℤ pos (2 ^ n)) (sym e) ∙ offset_is ty (element j)))
   by_shift {s = s} h v v_is only o right (suc n) e =
@@ -290,9 +302,9 @@ module _ (l : Layout) (fit : Assigned l) (f : Setting) (d : Laid) (rest : List D
       does_after 2 refl (do_goes (shift_word lsl_imm (z_of l p) o (64 + suc n) ∷ []) v first.end first.runs)
       (gather_from s h first.end first.is (only_then only first.only) (z_of l p) (λ j lt. first.right j lt ∙ ap (held D) (ap (λ n. element j *ℤ pos (2 ^ n)) (sym e) ∙ offset_is ty (element j))))
 
-  pub gather_runs : IsReach reach → FitsOperand l f.w p U y → {s : State} → Holds l f p t s
-      → Does l f d (puts (op_words f.w l p m (ops.Gather a (Outer x) (Some ty) reach (Some U) y)) rest) s rest (p + 1) (length (op_words f.w l p m (ops.Gather a (Outer x) (Some ty) reach (Some U) y))) (column act f.n f.i t)
-  gather_runs reached k {s = s} h = by (cut_reach reach U) refl
+  pub gather_runs : FitsOperand l f.w p U y → {s : State} → Holds l f p t s
+      → Does l f d (puts (op_words f.w l p m (ops.Gather a (Outer x) (Some ty) reach (Some U) y)) rest) s rest (p + 1) (length (op_words f.w l p m (ops.Gather a (Outer x) (Some ty) reach (Some U) y))) (ChunkComesTo f op) (column act f.n f.i t)
+  gather_runs k {s = s} h = by (cut_reach reach U) refl
     where
       right : OperandRight (chunk_of f t) l.registers s U y
       right = operand_right h fit U y k
@@ -300,7 +312,7 @@ module _ (l : Layout) (fit : Assigned l) (f : Setting) (d : Laid) (rest : List D
       whole : ZRight D f.n (z_at s (l.registers.source y)) index
       whole = subst (λ w. ZRight w f.n (z_at s (l.registers.source y)) index) wide right.right
 
-      by : (o : Option ℕ) → cut_reach reach U ≡ o → Does l f d (puts (vectors (gather_code ty o (z_of l p) m x (l.registers.source y))) rest) s rest (p + 1) (length (vectors (gather_code ty o (z_of l p) m x (l.registers.source y)))) (column act f.n f.i t)
+      by : (o : Option ℕ) → cut_reach reach U ≡ o → Does l f d (puts (vectors (gather_code ty o (z_of l p) m x (l.registers.source y))) rest) s rest (p + 1) (length (vectors (gather_code ty o (z_of l p) m x (l.registers.source y)))) (ChunkComesTo f op) (column act f.n f.i t)
       by None e =
           by_shift h s h.is (only_same (z_of l p) s) (l.registers.source y) (λ j lt. whole j lt ∙ ap (held D) (sym (uncut reach U reached e (index j) (right.typed j lt)))) (log_bytes ty) refl
       by (Some n) e =

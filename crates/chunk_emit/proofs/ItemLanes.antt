@@ -31,6 +31,15 @@ first_holds test (suc n) e j h = by (test e) refl h (first_holds test n (e + 1) 
     by true is k more = let same : e ≡ j = cc in subst (λ i. test i ≡ true) same is
     by false is k more = more k
 
+-- that element is one of those that are looked at
+pub first_within : (test : ℕ → Bool) (n e j : ℕ) → first_true test n e ≡ Some j → (e ≤ j) × (j < e + n)
+first_within test zero e j h = absurd cc
+first_within test (suc n) e j h = by (test e) h (first_within test n (e + 1) j)
+  where
+    by : (b : Bool) → (if b then Some e else first_true test n (e + 1)) ≡ Some j → (first_true test n (e + 1) ≡ Some j → (e + 1 ≤ j) × (j < e + 1 + n)) → (e ≤ j) × (j < e + suc n)
+    by true k more = let same : e ≡ j = cc in (omega (arith, same), omega (arith, same))
+    by false k more = let r = more k in let l = r.0 in let u = r.1 in (omega (arith, l), omega (arith, u))
+
 -- ---- an act that changes its own lane alone
 
 abbrev pub lane_out : Bool → (i : ℕ) → Lane → Lanes → Out

@@ -6,6 +6,7 @@ pub mod ChunkStates
 pub mod PureItems
 pub mod Indexes
 pub mod LoadForms
+pub mod StopsAt
 pub mod Loads
 pub mod Gathers
 pub mod StoredBits

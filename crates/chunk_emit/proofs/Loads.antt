@@ -16,6 +16,8 @@ use Rattle.kernel_tree.specs.declared.ops.Ty.TheVariants as ty
 use Rattle.kernel_tree.specs.Wrap.{wrap, bits_of, byte_count}
 use Rattle.kernel_meaning.specs.Operators.{word}
 use Rattle.kernel_meaning.specs.Eval.{address, read_value}
+use Rattle.kernel_meaning.proofs.Addresses.{address-below}
+use Rattle.machine_model.specs.declared.outcome.StopKind.{StopKind}
 use Rattle.machine_model.specs.declared.outcome.StopKind.TheVariants.{Read}
 use Rattle.machine_model.specs.InstructionTable.{Vector}
 use Rattle.machine_model.specs.Machine.{State, Step, x_at, x_or_sp, z_at, with_z, p_at, next}
@@ -23,11 +25,12 @@ use Rattle.machine_model.specs.States.{IsState}
 use Rattle.machine_model.specs.VectorEffects.{do_vector, after_load}
 use Rattle.machine_model.proofs.StateSteps.{load_put}
 use Rattle.label_fix.specs.DraftRun.{DraftEntry, Laid}
-use Rattle.label_fix.specs.Stretches.{Goes, Stops}
-use Rattle.label_fix.proofs.StretchSteps.{put_goes, put_stops, chain, stop_after}
+use Rattle.label_fix.specs.Stretches.{Goes}
+use Rattle.label_fix.proofs.StretchSteps.{put_goes, chain}
 use Rattle.vector_order.specs.Orders.{Lane, Lanes, Keeps, Act, Out, done, column}
 use Rattle.loop_form.specs.declared.loop_item.Operand.TheVariants.{Outer}
 use Rattle.vector_order.specs.Operands.{nth_value, with_value, on_mask, load_effect}
+use Rattle.loop_form.specs.LoopItems.{Op}
 use Rattle.loop_form.specs.LoopItems as ops
 use Rattle.vector_order.specs.Items.{item_act}
 use Rattle.lane_emit.specs.Right.{IsOf}
@@ -38,8 +41,10 @@ use Rattle.chunk_emit.specs.Registers.{Layout, z_of, IsValueUsed}
 use Rattle.chunk_emit.specs.ChunkCode.{index_of, dtype_of, load_word, op_words, puts}
 use Rattle.chunk_emit.specs.Chunk.{Setting, count_of, Holds}
 use Rattle.chunk_emit.specs.Fits.{Assigned, FitsMask, MakesValue, IsNear}
+use Rattle.chunk_emit.specs.StopPlaces.{StopsAt, ChunkComesTo}
 use Rattle.chunk_emit.specs.ItemsRun.{Does, does_fine, does_fail}
-use Rattle.chunk_emit.proofs.ItemLanes.{first_short, first_holds, lane_out, Own, OwnColumn, own_fine, own_fail, own_column}
+use Rattle.chunk_emit.proofs.StopsAt.{stop_at, stop_at_after, fault_byte}
+use Rattle.chunk_emit.proofs.ItemLanes.{first_short, first_holds, first_within, lane_out, Own, OwnColumn, own_fine, own_fail, own_column}
 use Rattle.chunk_emit.proofs.ChunkStates.{holds_on, mask_exact, lane_below_and, outside}
 use Rattle.chunk_emit.proofs.PureItems.{value_moves}
 use Rattle.chunk_emit.proofs.Indexes.{indexed, lane_place}
@@ -70,17 +75,20 @@ lane_value t w true v form lt = ap (λ m. m % modulus w) (form.reads v lt) ∙ h
 lane_value t w false v form lt = zero-mod (modulus w) ∙ sym (zero-mod (2 ^ width_bits w))
 
 -- words before code that does what it should
-pub does_after : {l : Layout} {f : Setting} {d : Laid} {c e rest : List DraftEntry} {s u : State} {p m n : ℕ} {out : Out} (most : ℕ) → most ≡ m + n → Goes d c s e u m → Does l f d e u rest p n out → Does l f d c s rest p most out
+pub does_after : {l : Layout} {f : Setting} {d : Laid} {c e rest : List DraftEntry} {s u : State} {p m n : ℕ} {near : StopKind → ℕ → Type 0} {out : Out} (most : ℕ) → most ≡ m + n → Goes d c s e u m → Does l f d e u rest p n near out → Does l f d c s rest p most near out
 does_after most total goes (does_fine end on holds) = does_fine end (chain most (omega (arith, total)) goes on) holds
-does_after most total goes (does_fail kind access stops) = does_fail kind access (stop_after most (omega (arith, total)) goes stops)
+does_after most total goes (does_fail kind access stops) = does_fail kind access (stop_at_after most (omega (arith, total)) goes stops)
 
 -- the lane of a load, in the state after the word that adds the offset
 module _ (l : Layout) (fit : Assigned l) (f : Setting) (d : Laid) (rest : List DraftEntry) (p : ℕ) (t : Lanes) (mask : Option ℕ) (fm : FitsMask l p mask) (a : List ℕ) (x : ℕ) (ty : Ty) (c : ℤ) (low : x < 8) (based : slice_index f.x x ≡ word (nth_value f.names x)) (wide : bits_of ty ≤ width_bits f.w) (makes : MakesValue l p ty) (used : IsValueUsed l p) where
   abbrev m : ℕ
   m = mask_register l.registers mask
 
+  abbrev op : Op
+  op = ops.Load a (Outer x) (Some ty) c
+
   abbrev act : Act
-  act = item_act f.names (record { item = p; mask = mask; op = ops.Load a (Outer x) (Some ty) c })
+  act = item_act f.names (record { item = p; mask = mask; op = op })
 
   abbrev form : LoadForm
   form = load_form (dtype_of ty f.w)
@@ -173,11 +181,14 @@ module _ (l : Layout) (fit : Assigned l) (f : Setting) (d : Laid) (rest : List D
     does : do_vector (load_word f.w ty (z_of l p) m x (index_of c)) u ≡ load_ends (first_true test count 0)
     does = refl
 
-    load_stops_at_fault : (e : ℕ) (o : Option ℕ) → lane_fault form u.memory spot e ≡ o → is_some o ≡ true → load_ends (first_true test count 0) ≡ load_ends (Some e) → Stops d (puts (Vector (load_word f.w ty (z_of l p) m x (index_of c)) ∷ []) rest) u Read u.memory 1
-    load_stops_at_fault e None eq some ends = absurd cc
-    load_stops_at_fault e (Some z) eq some ends = put_stops u.pc z (ends ∙ ap (λ o. after_load (or_fault (read_fault o) (record { z = made; ffr = u.ffr })) (z_of l p) u) eq)
+    load_near : (e z : ℕ) → e < f.n → lane_fault form u.memory spot e ≡ Some z → ChunkComesTo f op Read z
+    load_near e z lt eq = (f.i + e, omega arith, omega (arith, lt), (refl, fault_byte (can_read t.memory) (place (f.i + e)) (byte_count ty) z (address-below ty (nth_value f.names x) (pos (f.i + e) +ℤ c)) (sym (fault_is e) ∙ eq)))
 
-    load_does_column : (o : Option ℕ) {out : Out} → first_true test count 0 ≡ o → OwnColumn new f.n f.i t o out → Does l f d (puts (Vector (load_word f.w ty (z_of l p) m x (index_of c)) ∷ []) rest) u rest (p + 1) 1 out
+    load_stops_at_fault : (e : ℕ) (o : Option ℕ) → e < f.n → lane_fault form u.memory spot e ≡ o → is_some o ≡ true → load_ends (first_true test count 0) ≡ load_ends (Some e) → StopsAt d (puts (Vector (load_word f.w ty (z_of l p) m x (index_of c)) ∷ []) rest) u Read u.memory 1 (ChunkComesTo f op Read)
+    load_stops_at_fault e None lt eq some ends = absurd cc
+    load_stops_at_fault e (Some z) lt eq some ends = stop_at u.pc z (ends ∙ ap (λ o. after_load (or_fault (read_fault o) (record { z = made; ffr = u.ffr })) (z_of l p) u) eq) (load_near e z lt eq)
+
+    load_does_column : (o : Option ℕ) {out : Out} → first_true test count 0 ≡ o → OwnColumn new f.n f.i t o out → Does l f d (puts (Vector (load_word f.w ty (z_of l p) m x (index_of c)) ∷ []) rest) u rest (p + 1) 1 (ChunkComesTo f op) out
     load_does_column o eq (own_fine v mem here before past) =
         let end = next (with_z u (z_of l p) made) in
         let done : IsState end = load_put u end (z_of l p) None form.element (loaded_lane form u.memory on spot) u.ffr h.is refl in
@@ -187,12 +198,13 @@ module _ (l : Layout) (fit : Assigned l) (f : Setting) (d : Laid) (rest : List D
         (λ e lt. ap (λ z. at f.w z e) written ∙ value_is e lt) (λ e lt. read_of ty (on_mask mask (t.lane (f.i + e))) (number (f.i + e)))))
     load_does_column o eq (own_fail e) =
         let on_both = first_holds test count 0 e eq in
-        does_fail Read (inl refl) (subst (λ mem. Stops d (puts (Vector (load_word f.w ty (z_of l p) m x (index_of c)) ∷ []) rest) u Read mem 1) h.memory (load_stops_at_fault e (lane_fault form u.memory spot e) refl (and_parts (on e) (is_some (lane_fault form u.memory spot e)) on_both).1 (ap load_ends eq)))
+        let inside = (first_within test f.n 0 e (sym short ∙ eq)).1 in
+        does_fail Read (inl refl) (subst (λ mem. StopsAt d (puts (Vector (load_word f.w ty (z_of l p) m x (index_of c)) ∷ []) rest) u Read mem 1 (ChunkComesTo f op Read)) h.memory (load_stops_at_fault e (lane_fault form u.memory spot e) (omega (arith, inside)) refl (and_parts (on e) (is_some (lane_fault form u.memory spot e)) on_both).1 (ap load_ends eq)))
 
-    pub read_does_from : Does l f d (puts (Vector (load_word f.w ty (z_of l p) m x (index_of c)) ∷ []) rest) u rest (p + 1) 1 (column act f.n f.i t)
+    pub read_does_from : Does l f d (puts (Vector (load_word f.w ty (z_of l p) m x (index_of c)) ∷ []) rest) u rest (p + 1) 1 (ChunkComesTo f op) (column act f.n f.i t)
     read_does_from = load_does_column (first_true test f.n 0) short cols
 
-  pub load_runs : {s : State} → Holds l f p t s → IsNear c → Does l f d (puts (op_words f.w l p m (ops.Load a (Outer x) (Some ty) c)) rest) s rest (p + 1) (length (op_words f.w l p m (ops.Load a (Outer x) (Some ty) c))) (column act f.n f.i t)
+  pub load_runs : {s : State} → Holds l f p t s → IsNear c → Does l f d (puts (op_words f.w l p m (ops.Load a (Outer x) (Some ty) c)) rest) s rest (p + 1) (length (op_words f.w l p m (ops.Load a (Outer x) (Some ty) c))) (ChunkComesTo f op) (column act f.n f.i t)
   load_runs h near =
       let ix = indexed h d rest c (Vector (load_word f.w ty (z_of l p) m x (index_of c)) ∷ []) near in
       does_after (length (op_words f.w l p m (ops.Load a (Outer x) (Some ty) c))) ix.counted ix.goes (read_does_from ix.state ix.holds ix.place)

@@ -9,6 +9,7 @@ use Rattle.kernel_tree.specs.declared.ops.Ty.{Ty}
 use Rattle.kernel_tree.specs.declared.ops.UpdateOp.{UpdateOp}
 use Rattle.guest_types.specs.declared.length.Width.{Width}
 use Rattle.kernel_tree.specs.Wrap.{residue}
+use Rattle.machine_model.specs.declared.outcome.StopKind.{StopKind}
 use Rattle.machine_model.specs.Machine.{State, z_at, p_at}
 use Rattle.machine_model.specs.States.{IsState}
 use Rattle.label_fix.specs.DraftRun.{DraftEntry, Laid}
@@ -31,6 +32,7 @@ use Rattle.chunk_emit.specs.Registers.{Layout, z_of, p_of, IsValueUsed, IsTruthU
 use Rattle.chunk_emit.specs.ChunkCode.{vectors, op_words, puts}
 use Rattle.chunk_emit.specs.Chunk.{Setting, chunk_of, sum_at, TruthExact, SumRight, Holds}
 use Rattle.chunk_emit.specs.Fits.{Assigned, FitsMask, MakesValue, MakesTruth, MakesNothing}
+use Rattle.chunk_emit.specs.StopPlaces.{ChunkComesTo}
 use Rattle.chunk_emit.specs.ItemsRun.{Does, does_fine}
 use Rattle.chunk_emit.proofs.DraftVectors.{do_goes}
 use Rattle.chunk_emit.proofs.ItemLanes.{first_none, OwnColumn, own_fine, own_column}
@@ -159,8 +161,8 @@ module _ (l : Layout) (fit : Assigned l) (f : Setting) (d : Laid) (rest : List D
       subst (λ o. OwnColumn new f.n f.i t o (column (act_of op) f.n f.i t)) (first_none (λ e. false) f.n 0 (λ j le lt. refl))
       (own_column (act_of op) (λ j a. false) new (λ e. false) f.i f.n 0 f.i t (omega arith) (record { does = λ j u e. ap (λ o. done o j u) (does j u.memory (u.lane j)) }) (λ e le lt. refl))
 
-  pure_item_does_column : (new : ℕ → Lane → Lane) {code : List DraftEntry} {most : ℕ} (end : State) {out : Out} → OwnColumn new f.n f.i t None out → Goes d code s rest end most
-      → ((u : Lanes) → u.memory ≡ t.memory → ((e : ℕ) → e < f.n → u.lane (f.i + e) ≡ new (f.i + e) (t.lane (f.i + e))) → Moves l f p t s u end) → Does l f d code s rest (p + 1) most out
+  pure_item_does_column : (new : ℕ → Lane → Lane) {code : List DraftEntry} {most : ℕ} {near : StopKind → ℕ → Type 0} (end : State) {out : Out} → OwnColumn new f.n f.i t None out → Goes d code s rest end most
+      → ((u : Lanes) → u.memory ≡ t.memory → ((e : ℕ) → e < f.n → u.lane (f.i + e) ≡ new (f.i + e) (t.lane (f.i + e))) → Moves l f p t s u end) → Does l f d code s rest (p + 1) most near out
   pure_item_does_column new end (own_fine u mem here before past) goes moves = does_fine end goes (holds_on h (moves u mem here))
 
   runs : (op : Op) → OperandsRight c l.registers s op → ItemRuns c l.registers s p m mask op
@@ -169,9 +171,9 @@ module _ (l : Layout) (fit : Assigned l) (f : Setting) (d : Laid) (rest : List D
   pub value_runs : (op : Op) (val : ℕ → Lane → ℤ) → (ty : Ty) → makes_truth op ≡ false → made_type op ≡ Some ty → MakesValue l p ty → OperandsRight c l.registers s op
       → ((j : ℕ) (mem : Memory) (a : Lane) → op_effect op f.names p j (on_mask mask a) mem a ≡ Keeps (with_value a p (val j a)))
       → op_words f.w l p m op ≡ (if nat_lt p (l.z_last_use p) then vectors (op_code f.w l.registers p m op) else [])
-      → Does l f d (puts (op_words f.w l p m op) rest) s rest (p + 1) (length (op_words f.w l p m op)) (column (act_of op) f.n f.i t)
+      → Does l f d (puts (op_words f.w l p m op) rest) s rest (p + 1) (length (op_words f.w l p m op)) (ChunkComesTo f op) (column (act_of op) f.n f.i t)
   value_runs op val ty kind made_is makes operands does words =
-      subst (λ ws. Does l f d (puts ws rest) s rest (p + 1) (length ws) (column (act_of op) f.n f.i t)) (sym words) (by (nat_lt p (l.z_last_use p)) refl)
+      subst (λ ws. Does l f d (puts ws rest) s rest (p + 1) (length ws) (ChunkComesTo f op) (column (act_of op) f.n f.i t)) (sym words) (by (nat_lt p (l.z_last_use p)) refl)
     where
       new : ℕ → Lane → Lane
       new j a = with_value a p (val j a)
@@ -182,7 +184,7 @@ module _ (l : Layout) (fit : Assigned l) (f : Setting) (d : Laid) (rest : List D
       value_is : (e : ℕ) → new_value c op p mask e ≡ val (f.i + e) (t.lane (f.i + e))
       value_is e = ap (value_after p) (does (f.i + e) t.memory (t.lane (f.i + e))) ∙ value_same (t.lane (f.i + e)) p (val (f.i + e) (t.lane (f.i + e)))
 
-      by : (b : Bool) → nat_lt p (l.z_last_use p) ≡ b → Does l f d (puts (if b then vectors (op_code f.w l.registers p m op) else []) rest) s rest (p + 1) (length (if b then vectors (op_code f.w l.registers p m op) else [])) (column (act_of op) f.n f.i t)
+      by : (b : Bool) → nat_lt p (l.z_last_use p) ≡ b → Does l f d (puts (if b then vectors (op_code f.w l.registers p m op) else []) rest) s rest (p + 1) (length (if b then vectors (op_code f.w l.registers p m op) else [])) (ChunkComesTo f op) (column (act_of op) f.n f.i t)
       by true used =
           let run = runs op operands in
           let made = subst (λ b. Makes b c l.registers s p m mask op) kind run.makes in
@@ -198,9 +200,9 @@ module _ (l : Layout) (fit : Assigned l) (f : Setting) (d : Laid) (rest : List D
   pub truth_runs : (op : Op) (val : ℕ → Lane → Bool) → makes_truth op ≡ true → MakesTruth l p → OperandsRight c l.registers s op
       → ((j : ℕ) (mem : Memory) (a : Lane) → op_effect op f.names p j (on_mask mask a) mem a ≡ Keeps (with_truth a p (val j a)))
       → op_words f.w l p m op ≡ (if nat_lt p (l.p_last_use p) then vectors (op_code f.w l.registers p m op) else [])
-      → Does l f d (puts (op_words f.w l p m op) rest) s rest (p + 1) (length (op_words f.w l p m op)) (column (act_of op) f.n f.i t)
+      → Does l f d (puts (op_words f.w l p m op) rest) s rest (p + 1) (length (op_words f.w l p m op)) (ChunkComesTo f op) (column (act_of op) f.n f.i t)
   truth_runs op val kind makes operands does words =
-      subst (λ ws. Does l f d (puts ws rest) s rest (p + 1) (length ws) (column (act_of op) f.n f.i t)) (sym words) (by (nat_lt p (l.p_last_use p)) refl)
+      subst (λ ws. Does l f d (puts ws rest) s rest (p + 1) (length ws) (ChunkComesTo f op) (column (act_of op) f.n f.i t)) (sym words) (by (nat_lt p (l.p_last_use p)) refl)
     where
       cols : OwnColumn (λ j a. with_truth a p (val j a)) f.n f.i t None (column (act_of op) f.n f.i t)
       cols = pure_column op (λ j a. with_truth a p (val j a)) does
@@ -208,7 +210,7 @@ module _ (l : Layout) (fit : Assigned l) (f : Setting) (d : Laid) (rest : List D
       truth_is : (e : ℕ) → new_truth c op p mask e ≡ val (f.i + e) (t.lane (f.i + e))
       truth_is e = ap (truth_after p) (does (f.i + e) t.memory (t.lane (f.i + e))) ∙ truth_same (t.lane (f.i + e)) p (val (f.i + e) (t.lane (f.i + e)))
 
-      by : (b : Bool) → nat_lt p (l.p_last_use p) ≡ b → Does l f d (puts (if b then vectors (op_code f.w l.registers p m op) else []) rest) s rest (p + 1) (length (if b then vectors (op_code f.w l.registers p m op) else [])) (column (act_of op) f.n f.i t)
+      by : (b : Bool) → nat_lt p (l.p_last_use p) ≡ b → Does l f d (puts (if b then vectors (op_code f.w l.registers p m op) else []) rest) s rest (p + 1) (length (if b then vectors (op_code f.w l.registers p m op) else [])) (ChunkComesTo f op) (column (act_of op) f.n f.i t)
       by true used =
           let run = runs op operands in
           let made = subst (λ b. Makes b c l.registers s p m mask op) kind run.makes in

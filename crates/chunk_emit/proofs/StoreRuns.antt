@@ -4,7 +4,8 @@ use Rattle.std.specs.Prelude.{slice_index, slice_index_or, if◌then◌else◌}
 use Rattle.std.proofs.lemmas.Bool.{ne_eqb}
 use Rattle.guest_types.specs.declared.length.Width.{Width}
 use Rattle.guest_types.specs.Length.{width_bytes, lanes}
-use Rattle.guest_types.specs.Memory.{Memory, IsMemory, stored}
+use Rattle.guest_types.specs.declared.memory.AccessFault.{AccessFault}
+use Rattle.guest_types.specs.Memory.{Memory, IsMemory, stored, can_write, first_fault}
 use Rattle.guest_types.specs.Elements.{at, active}
 use Rattle.guest_types.specs.LaneMemory.{width_of_size, lane_address, StoredLanes, AllStored, StoreFault, store_lanes}
 use Rattle.kernel_tree.specs.declared.ops.Ty.{Ty}
@@ -12,6 +13,7 @@ use Rattle.kernel_tree.specs.declared.ops.Ty.TheVariants as ty
 use Rattle.kernel_tree.specs.Wrap.{byte_count, log_bytes}
 use Rattle.kernel_meaning.specs.Operators.{word}
 use Rattle.kernel_meaning.specs.Eval.{address}
+use Rattle.kernel_meaning.proofs.Addresses.{address-below}
 use Rattle.machine_model.specs.declared.outcome.StopKind.TheVariants.{Write}
 use Rattle.machine_model.specs.InstructionTable.{Vector}
 use Rattle.machine_model.specs.Machine.{State, x_at, x_or_sp, z_at, p_at, next}
@@ -19,7 +21,7 @@ use Rattle.machine_model.specs.States.{IsState}
 use Rattle.machine_model.specs.VectorEffects.{do_vector, after_store}
 use Rattle.machine_model.proofs.StateSteps.{stored_memory, store_put}
 use Rattle.label_fix.specs.DraftRun.{DraftEntry, Laid}
-use Rattle.label_fix.proofs.StretchSteps.{put_goes, put_stops}
+use Rattle.label_fix.proofs.StretchSteps.{put_goes}
 use Rattle.vector_order.specs.Orders.{Lane, Lanes, Keeps, Writes, Act, Out, column}
 use Rattle.loop_form.specs.declared.loop_item.Operand.{Operand}
 use Rattle.loop_form.specs.declared.loop_item.Operand.TheVariants.{Outer}
@@ -37,7 +39,9 @@ use Rattle.chunk_emit.specs.Registers.{Layout}
 use Rattle.chunk_emit.specs.ChunkCode.{with_index, index_of, store_word, op_words, puts}
 use Rattle.chunk_emit.specs.Chunk.{Setting, chunk_of, count_of, Holds}
 use Rattle.chunk_emit.specs.Fits.{Assigned, FitsMask, FitsOperand, MakesNothing, IsNear}
+use Rattle.chunk_emit.specs.StopPlaces.{ChunkComesTo}
 use Rattle.chunk_emit.specs.ItemsRun.{Does, does_fine, does_fail}
+use Rattle.chunk_emit.proofs.StopsAt.{stop_at, fault_byte, store_fault}
 use Rattle.chunk_emit.proofs.ItemLanes.{store_short, StoreColumn, all_stored, store_stopped, store_column}
 use Rattle.chunk_emit.proofs.ChunkStates.{Moves, holds_on, mask_exact, lane_below_and, outside, operand_right}
 use Rattle.chunk_emit.proofs.PureItems.{sums_kept}
@@ -150,19 +154,25 @@ module _ (l : Layout) (fit : Assigned l) (f : Setting) (d : Laid) (rest : List D
     store_word_does : do_vector the_word u ≡ after_store (store_lanes on spot sent bytes count 0 u.memory) u
     store_word_does = refl
 
-    store_does_column : (o : StoredLanes) {out : Out} → store_lanes on spot sent bytes count 0 u.memory ≡ o → StoreColumn t.lane o out → Does l f d (puts (Vector the_word ∷ []) rest) u rest (p + 1) 1 out
+    store_near : (fault : AccessFault) (left : Memory) → store_lanes on spot sent bytes count 0 u.memory ≡ StoreFault fault left → ChunkComesTo f op Write fault.address
+    store_near fault left eq =
+        let r = store_fault on spot sent bytes f.n 0 t.memory fault left (sym short ∙ eq) in
+        let inside = r.2 in
+        (f.i + r.0, omega arith, omega (arith, inside), (refl, fault_byte (can_write r.3) (place (f.i + r.0)) (byte_count ty) fault.address (address-below ty (nth_value f.names x) (pos (f.i + r.0) +ℤ c)) (ap₂ (first_fault (can_write r.3)) (sym (spot_is r.0)) (sym (memory-bytes ty)) ∙ r.4)))
+
+    store_does_column : (o : StoredLanes) {out : Out} → store_lanes on spot sent bytes count 0 u.memory ≡ o → StoreColumn t.lane o out → Does l f d (puts (Vector the_word ∷ []) rest) u rest (p + 1) 1 (ChunkComesTo f op) out
     store_does_column (AllStored mem) eq (all_stored v is same_lanes) =
         let end = next (record u { memory = mem }) in
         let good : IsState end = store_put u end (AllStored mem) (λ k e. let one : mem ≡ k = cc in subst IsMemory one (stored_memory on spot sent bytes count 0 u.memory mem h.is.mapped eq)) h.is refl in
         does_fine end (put_goes (ap (λ o. after_store o u) eq)) (holds_on h (store_moves h none mem v is same_lanes good))
-    store_does_column (StoreFault fault mem) eq store_stopped = does_fail Write (inr refl) (put_stops u.pc fault.address (ap (λ o. after_store o u) eq))
+    store_does_column (StoreFault fault mem) eq store_stopped = does_fail Write (inr refl) (stop_at u.pc fault.address (ap (λ o. after_store o u) eq) (store_near fault mem eq))
 
-    pub write_does_from : Does l f d (puts (Vector the_word ∷ []) rest) u rest (p + 1) 1 (column act f.n f.i t)
+    pub write_does_from : Does l f d (puts (Vector the_word ∷ []) rest) u rest (p + 1) 1 (ChunkComesTo f op) (column act f.n f.i t)
     write_does_from = store_does_column (store_lanes on spot sent bytes f.n 0 t.memory) short cols
 
   -- from the register of a value that gives, in its low bytes, what the store is to write
   pub store_from : {s : State} → Holds l f p t s → IsNear c → Stored → ZRight f.w f.n (z_at s src) gives
-      → Does l f d (puts (with_index c (Vector the_word ∷ [])) rest) s rest (p + 1) (length (with_index c (Vector the_word ∷ []))) (column act f.n f.i t)
+      → Does l f d (puts (with_index c (Vector the_word ∷ [])) rest) s rest (p + 1) (length (with_index c (Vector the_word ∷ []))) (ChunkComesTo f op) (column act f.n f.i t)
   store_from h near given right =
       let ix = indexed h d rest c (Vector the_word ∷ []) near in
       does_after (length (with_index c (Vector the_word ∷ []))) ix.counted ix.goes
@@ -170,7 +180,7 @@ module _ (l : Layout) (fit : Assigned l) (f : Setting) (d : Laid) (rest : List D
 
 -- a store of its operand's own register
 pub store_runs : (l : Layout) (fit : Assigned l) (f : Setting) (d : Laid) (rest : List DraftEntry) (p : ℕ) (t : Lanes) (mask : Option ℕ) (fm : FitsMask l p mask) (a : List ℕ) (x : ℕ) (ty : Ty) (c : ℤ) (y : Operand) → x < 8 → slice_index f.x x ≡ word (nth_value f.names x) → FitsOperand l f.w p ty y → MakesNothing l p → {s : State} → Holds l f p t s → IsNear c
-    → Does l f d (puts (op_words f.w l p (mask_register l.registers mask) (ops.Store a (Outer x) (Some ty) c y)) rest) s rest (p + 1) (length (op_words f.w l p (mask_register l.registers mask) (ops.Store a (Outer x) (Some ty) c y))) (column (item_act f.names (record { item = p; mask = mask; op = ops.Store a (Outer x) (Some ty) c y })) f.n f.i t)
+    → Does l f d (puts (op_words f.w l p (mask_register l.registers mask) (ops.Store a (Outer x) (Some ty) c y)) rest) s rest (p + 1) (length (op_words f.w l p (mask_register l.registers mask) (ops.Store a (Outer x) (Some ty) c y))) (ChunkComesTo f (ops.Store a (Outer x) (Some ty) c y)) (column (item_act f.names (record { item = p; mask = mask; op = ops.Store a (Outer x) (Some ty) c y })) f.n f.i t)
 store_runs l fit f d rest p t mask fm a x ty c y low based fits none h near =
     store_from l fit f d rest p t mask fm a x ty c y low based none (l.registers.source y) (operand (chunk_of f t) y) h near
     (λ e lt mem z. stored-held ty f.w mem z (operand (chunk_of f t) y e) fits.1) (operand_right h fit ty y fits).right

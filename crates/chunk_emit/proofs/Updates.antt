@@ -28,6 +28,7 @@ use Rattle.chunk_emit.specs.Registers.{Layout, z_of, p_of}
 use Rattle.chunk_emit.specs.ChunkCode.{op_words, puts}
 use Rattle.chunk_emit.specs.Chunk.{Setting, chunk_of, count_of, sum_at, SumRight, Holds}
 use Rattle.chunk_emit.specs.Fits.{Assigned, FitsMask, FitsOperand, MakesNothing}
+use Rattle.chunk_emit.specs.StopPlaces.{ChunkComesTo}
 use Rattle.chunk_emit.specs.ItemsRun.{Does, does_fine}
 use Rattle.chunk_emit.proofs.DraftVectors.{do_goes}
 use Rattle.chunk_emit.proofs.ItemLanes.{OwnColumn, own_fine}
@@ -244,8 +245,8 @@ module _ (l : Layout) (fit : Assigned l) (f : Setting) (d : Laid) (rest : List D
           sums = all_sums;
         }
 
-  update_does_column : {out : Out} → OwnColumn new f.n f.i t None out → Does l f d (puts (op_words f.w l p m the_op) rest) s rest (p + 1) (length (op_words f.w l p m the_op)) out
+  update_does_column : {out : Out} → OwnColumn new f.n f.i t None out → Does l f d (puts (op_words f.w l p m the_op) rest) s rest (p + 1) (length (op_words f.w l p m the_op)) (ChunkComesTo f the_op) out
   update_does_column (own_fine u mem here before past) = does_fine run.end (do_goes (update_code f.w op ty (l.sum x) m src) s run.end run.runs) (holds_on h (update_moves u mem here))
 
-  pub update_runs : Does l f d (puts (op_words f.w l p m the_op) rest) s rest (p + 1) (length (op_words f.w l p m the_op)) (column act f.n f.i t)
+  pub update_runs : Does l f d (puts (op_words f.w l p m the_op) rest) s rest (p + 1) (length (op_words f.w l p m the_op)) (ChunkComesTo f the_op) (column act f.n f.i t)
   update_runs = update_does_column cols

@@ -2,6 +2,7 @@ pub mod Registers
 pub mod ChunkCode
 pub mod Chunk
 pub mod Fits
+pub mod StopPlaces
 pub mod ItemsRun
 pub mod KernelLayout
 pub mod LoopFits

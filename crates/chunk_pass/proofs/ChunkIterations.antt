@@ -1,9 +1,7 @@
 -- How the iterations of a chunk end, by their items in the lanes.
-use Rattle.std.proofs.Common.{◌≡◌, ◌⊎◌, ℕ, zero, suc, ◌+◌, ◌<◌, false, List, [], ◌∷◌, ◌++◌, Some, None, Result, Ok, Err, inl, inr, refl, sym, ap, ◌∙◌, subst, arith}
+use Rattle.std.proofs.Common.{◌≡◌, ◌⊎◌, ℕ, zero, suc, ◌+◌, ◌<◌, false, List, [], ◌∷◌, ◌++◌, Some, None, inl, inr, refl, sym, ap, ◌∙◌, subst, arith}
 use Rattle.std.specs.List.{list_any}
-use Rattle.std.proofs.lemmas.Bool.{or_parts}
-use Rattle.guest_types.specs.declared.memory.AccessFault.{AccessFault}
-use Rattle.guest_types.specs.Memory.{Memory, stored}
+use Rattle.guest_types.specs.Memory.{Memory}
 use Rattle.kernel_tree.specs.Plain.{PlainLoop}
 use Rattle.kernel_tree.specs.Typing.{Scope}
 use Rattle.kernel_meaning.specs.Ends as ends
@@ -11,17 +9,17 @@ use Rattle.kernel_meaning.specs.Ends.{BlockEnd, Next, Broke, Faulted, Going, Lef
 use Rattle.kernel_meaning.specs.Eval.{Names}
 use Rattle.kernel_meaning.specs.Iterate.{iterate}
 use Rattle.kernel_meaning.specs.ScalarRun.{iterations}
-use Rattle.loop_form.specs.LoopItems.{Op, Item}
-use Rattle.loop_form.specs.LoopItems as ops
+use Rattle.loop_form.specs.LoopItems.{Item}
 use Rattle.vector_order.specs.Orders.{Lane, Effect, Halts, Keeps, Writes, Act}
 use Rattle.vector_order.specs.Regions.{AllQuiet}
 use Rattle.vector_order.specs.Items.{item_act, acts_of}
-use Rattle.vector_order.specs.Fates.{ByBreak, ByFault, cause_of, Fate, Through, Ended, wrote_on, effect_on, fate, SameEnd}
+use Rattle.vector_order.specs.Fates.{ByBreak, ByFault, cause_of, Fate, Through, Ended, effect_on, fate, SameEnd}
 use Rattle.first_fault.specs.Region as region
 use Rattle.first_fault.specs.Region.{Way, On, Fell, halted, way_of, way_on, lane_left, region_way}
-use Rattle.first_fault.specs.BreakRegion.{breaks_loop, is_loop_break}
+use Rattle.first_fault.specs.BreakRegion.{is_loop_break}
 use Rattle.first_fault.specs.IterationWays.{IsIteration}
 use Rattle.first_fault.proofs.RegionItems.{halted_goes}
+use Rattle.first_fault.proofs.WayIterations.{Unbroken, fate_unbroken}
 use Rattle.chunk_pass.specs.Halts.{Breaks, Faults}
 
 pub acts-append : (names : Names) (xs ys : List Item) → acts_of names (xs ++ ys) ≡ acts_of names xs ++ acts_of names ys
@@ -68,45 +66,6 @@ breaks_at scope l (suc n) i m after cur names j e = by (iterate scope l i m cur)
           breaks = subst Breaks (sym (ap (λ at. iterate scope l at m cur) place ∙ is)) tt;
         }
     by (Faulted a) is f more = absurd cc
-
--- ---- items without a break
-
-abbrev Unbroken : Fate → Type 0
-Unbroken (Through m l) = Unit {0}
-Unbroken (Ended ByFault m) = Unit {0}
-Unbroken (Ended ByBreak m) = ⊥
-
-no_break : (op : Op) (m : Memory) → breaks_loop op ≡ false → Unbroken (Ended (cause_of op) m)
-no_break (ops.Load a base t c) m e = tt
-no_break (ops.Gather a base t r u x) m e = tt
-no_break (ops.Unary op t x) m e = tt
-no_break (ops.Binary op t x y) m e = tt
-no_break (ops.Shift left n t x) m e = tt
-no_break (ops.Cast s t x) m e = tt
-no_break (ops.Let t x) m e = tt
-no_break (ops.Select t c x y) m e = tt
-no_break (ops.Store a base t c v) m e = tt
-no_break (ops.Update x op t v) m e = tt
-no_break (ops.Compare op t x y) m e = tt
-no_break (ops.Not c) m e = tt
-no_break (ops.And c) m e = tt
-no_break (ops.Or c d) m e = tt
-no_break (ops.Break c) m e = absurd cc
-
-fate_unbroken : (names : Names) (items : List Item) (j : ℕ) (m : Memory) (l : Lane) → list_any is_loop_break items ≡ false → Unbroken (fate names items j m l)
-fate_unbroken names [] j m l e = tt
-fate_unbroken names (it ∷ items) j m l e =
-    let parts = or_parts (is_loop_break it) (list_any is_loop_break items) e in
-    by (item_act names it j m l) parts.0 (λ n k. fate_unbroken names items j n k parts.1)
-  where
-    by : (f : Effect) → is_loop_break it ≡ false → ((n : Memory) (k : Lane) → Unbroken (fate names items j n k)) → Unbroken (effect_on (cause_of it.op) f m l (fate names items j))
-    by Halts q more = no_break it.op m q
-    by (Keeps k) q more = more m k
-    by (Writes a b v) q more = wrote (stored m a b v)
-      where
-        wrote : (r : Result Memory AccessFault) → Unbroken (wrote_on r m l (fate names items j))
-        wrote (Ok after) = more after l
-        wrote (Err fault) = tt
 
 -- ---- after the break region
 

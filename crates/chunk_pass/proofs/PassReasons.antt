@@ -18,23 +18,23 @@ use Rattle.chunk_pass.specs.Passes.{LeftOut, breaks, faults, suppressed}
 use Rattle.chunk_pass.proofs.LaneHolds.{blank, blank_lanes, is_chunk}
 use Rattle.chunk_pass.proofs.PassRegions.{way_in, Reasons, region_iteration}
 
-halts_left : (iteration_end : BlockEnd Names) (cut : ℕ) → Breaks iteration_end ⊎ Faults iteration_end → LeftOut iteration_end cut
-halts_left iteration_end cut (inl h) = breaks h
-halts_left iteration_end cut (inr h) = faults h
+halts_left : (iteration_end : BlockEnd Names) (cut : ℕ) (here : Type 0) → Breaks iteration_end ⊎ Faults iteration_end → LeftOut iteration_end cut here
+halts_left iteration_end cut here (inl h) = breaks h
+halts_left iteration_end cut here (inr h) = faults h
 
 -- of a chunk
 pub chunk_reasons : NextHalts → (g : Ground) (i n : ℕ) (cur : Names) (m : Memory) (sum : List ℕ → ℕ → ℤ) → IsGround g → Between g i cur sum → n ≤ most_lanes g → i + n ≤ limit g → Reasons g i n cur m LeftOut Early
-chunk_reasons halts g i n cur m sum ground between few within k lt d c e s t most leads left out names is goes all more = by left
+chunk_reasons halts g i n cur m sum ground between few within k lt d c e s t most leads left out names is goes all here more give = by left
   where
-    halted : lane_left (way_in g m (i + k) blank) ≡ None → LeftOut (iterate (var_scope g.kernel) g.for_loop (i + k) out.memory names) all
+    halted : lane_left (way_in g m (i + k) blank) ≡ None → LeftOut (iterate (var_scope g.kernel) g.for_loop (i + k) out.memory names) all here
     halted none =
-        halts_left (iterate (var_scope g.kernel) g.for_loop (i + k) out.memory names) all
+        halts_left (iterate (var_scope g.kernel) g.for_loop (i + k) out.memory names) all here
         (halts g i k cur names sum (blank_lanes m) out ground between (is_chunk g i k m (omega (arith, lt, few)) (omega (arith, lt, within))) (omega (arith, lt, few)) (omega (arith, lt, within)) is goes none)
 
-    by : Why Early (width g) (way_in g m (i + k) blank) leads k → LeftOut (iterate (var_scope g.kernel) g.for_loop (i + k) out.memory names) all
+    by : Why Early (width g) (way_in g m (i + k) blank) leads k → LeftOut (iterate (var_scope g.kernel) g.for_loop (i + k) out.memory names) all here
     by (by_break e) = halted (ap lane_left e)
     by (by_fault early e) = halted (ap lane_left e)
-    by (by_stop early some on) = suppressed (omega (arith, some, more))
+    by (by_stop early some on) = suppressed (omega (arith, some, more)) (give on)
 
 -- ---- of one iteration
 
@@ -53,9 +53,9 @@ nothing_done : (g : Ground) (i : ℕ) (m : Memory) (cur : Names) → iterations 
 unfolding iterations
 nothing_done g i m cur = refl
 
-pub iteration_reasons : (g : Ground) (i : ℕ) (cur : Names) (m : Memory) {sum : List ℕ → ℕ → ℤ} → IsGround g → Between g i cur sum → Reasons g i 1 cur m (λ iteration_end cut. Breaks iteration_end) Single
-iteration_reasons g i cur m ground between (suc k) lt d c e s t most leads left out names is goes all more = absurd (omega (arith, lt))
-iteration_reasons g i cur m ground between zero lt d c e s t most leads left out names is goes all more = by left
+pub iteration_reasons : (g : Ground) (i : ℕ) (cur : Names) (m : Memory) {sum : List ℕ → ℕ → ℤ} → IsGround g → Between g i cur sum → Reasons g i 1 cur m (λ iteration_end cut here. Breaks iteration_end) Single
+iteration_reasons g i cur m ground between (suc k) lt d c e s t most leads left out names is goes all here more give = absurd (omega (arith, lt))
+iteration_reasons g i cur m ground between zero lt d c e s t most leads left out names is goes all named more give = by left
   where
     here : i + 0 ≡ i
     here = omega arith

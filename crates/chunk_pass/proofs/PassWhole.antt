@@ -94,8 +94,8 @@ module _ (fine : FineIsDone) (fails : FailIsFault) (halts : NextHalts) (fits : K
       let holds = lanes_hold g 1 ground begun.head begun.held_index few within begun.top in
       let most = length (iteration_words (width g) (layout g) items) in
       let count = three_count g (first_lane_words (width g)) region (rest_of items) in
-      subst (λ c. Passes (λ iteration_end cut. Breaks iteration_end) g 1 i cur m d c s rest most) (sym (three_pieces g rest (first_lane_words (width g)) region (rest_of items)))
-      (region_pass fine fails fits g ground begun.head (assigned_in g ground) d rest 1 few within (λ iteration_end cut. Breaks iteration_end) Single (iteration_reasons g i cur m ground h.between) most begun.leads (omega (arith, count)) holds
+      subst (λ c. Passes (λ iteration_end cut here. Breaks iteration_end) g 1 i cur m d c s rest most) (sym (three_pieces g rest (first_lane_words (width g)) region (rest_of items)))
+      (region_pass fine fails fits g ground begun.head (assigned_in g ground) d rest 1 few within (λ iteration_end cut here. Breaks iteration_end) Single (iteration_reasons g i cur m ground h.between) most begun.leads (omega (arith, count)) holds
       (single_runs (layout g) (setting g i 1 sum begun.end.x begun.end.stops) d tail (region_of items) (loop_start g.kernel + 1) (blank_lanes m) begun.end (assigned_in g ground) fit.region holds (omega arith)))
 
   pub plain_passes : PlainPasses
@@ -115,7 +115,7 @@ module _ (fine : FineIsDone) (fails : FailIsFault) (halts : NextHalts) (fits : K
       let start : following_items (loop_start g.kernel + 1) (region_of items) ≡ loop_start g.kernel + 1 = ap (following_items (loop_start g.kernel + 1)) none in
       let rest_fits : FitsItems (layout g) (setting g i n sum begun.end.x begun.end.stops) (loop_start g.kernel + 1) items =
       subst (λ q. FitsItems (layout g) (setting g i n sum begun.end.x begun.end.stops) q items) start (subst (FitsItems (layout g) (setting g i n sum begun.end.x begun.end.stops) (following_items (loop_start g.kernel + 1) (region_of items))) all fit.rest) in
-      subst (λ c. Passes (λ iteration_end cut. ⊥) g n i cur m d c s rest most) (sym (two_pieces g rest (index_words (layout g)) items))
-      (rest_pass fine fails g ground begun.head (assigned_in g ground) d rest (blank_lanes m) refl (is_chunk g i n m few within) items (λ iteration_end cut. ⊥) n most (omega arith) begun.leads (omega (arith, count)) (λ lt out names is goes cut more. absurd (omega (arith, lt)))
+      subst (λ c. Passes (λ iteration_end cut here. ⊥) g n i cur m d c s rest most) (sym (two_pieces g rest (index_words (layout g)) items))
+      (rest_pass fine fails g ground begun.head (assigned_in g ground) d rest (blank_lanes m) refl (is_chunk g i n m few within) items (λ kind j at one. one) (λ iteration_end cut here. ⊥) n most (omega arith) begun.leads (omega (arith, count)) (λ lt out names is goes cut here more give. absurd (omega (arith, lt)))
       refl (λ e lt. (blank, ap (λ r. region_way g.names r (i + e) m blank) none))
       (items_run (layout g) (setting g i n sum begun.end.x begun.end.stops) d (Put (advance_word (width g)) ∷ rest) items (loop_start g.kernel + 1) (blank_lanes m) begun.end (assigned_in g ground) rest_fits holds))

@@ -29,8 +29,9 @@ pub fn next_halts()
 {}
 
 /// A pass over a chunk of a loop with a break: the state before the next pass, as many iterations of the scalar loop later as
-/// lanes came through, or a stop where the scalar loop faults in one of the chunk's iterations. Where a lane is left out, the
-/// scalar loop's next iteration breaks or faults, or a free element was suppressed.
+/// lanes came through, or a stop where the scalar loop faults in one of the chunk's iterations, at a byte of an element that one
+/// of them comes to. Where a lane is left out, the scalar loop's next iteration breaks or faults, or a free element of its own
+/// lane was suppressed.
 pub fn chunk_passes()
     ensures { ChunkPasses }
 {}

@@ -11,6 +11,7 @@ use Rattle.guest_types.specs.Lanes.{broken, brk_at}
 use Rattle.guest_types.proofs.AtWidths.{width_bytes-lanes, bit-predicate}
 use Rattle.guest_types.proofs.Widths.{some-bytes}
 use Rattle.guest_types.proofs.Folds.{not_broken}
+use Rattle.machine_model.specs.declared.outcome.StopKind.TheVariants.{Read}
 use Rattle.machine_model.specs.Machine.{State, p_at, with_p, next}
 use Rattle.machine_model.proofs.StateSteps.{truths_put}
 use Rattle.label_fix.specs.DraftRun.{DraftEntry, Laid}
@@ -21,6 +22,7 @@ use Rattle.chunk_emit.specs.Registers.{Layout, p_of}
 use Rattle.chunk_emit.specs.ChunkCode.{puts}
 use Rattle.chunk_emit.specs.Chunk.{Setting, count_of, Holds}
 use Rattle.chunk_emit.specs.Fits.{Assigned, FitsTruth, MakesNothing}
+use Rattle.chunk_emit.specs.StopPlaces.{ComesTo}
 use Rattle.first_fault.specs.Region.{Way, Broke, way_of, item_way}
 use Rattle.first_fault.specs.RegionCode.{Mode, break_word}
 use Rattle.first_fault.specs.Prefix.{IsTop, Inside}
@@ -81,7 +83,7 @@ module _ {l : Layout} (fit : Assigned l) {f : Setting} {a : State} {p0 : ℕ} {t
         ap not (is_broken (p_at s 0) (p_at s r) (w * e + 1) (w * m) (omega (arith, up)) here) ∙ sym (le-ltb e m ge))
         (cases_lt e m)
 
-    break_cuts_mask : (m : ℕ) → m ≤ n → ((e : ℕ) → e < m → (ls (f.i + e)).truth c ≡ false) → (m < n → (ls (f.i + m)).truth c ≡ true) → RegionOutcome mode l f d a n (p + 1) 1 ls (puts (break_word l c ∷ []) rest) s rest way
+    break_cuts_mask : (m : ℕ) → m ≤ n → ((e : ℕ) → e < m → (ls (f.i + e)).truth c ≡ false) → (m < n → (ls (f.i + m)).truth c ≡ true) → RegionOutcome mode l f d a n (p + 1) 1 ls (puts (break_word l c ∷ []) rest) s rest way (ComesTo f.names (ops.Break c) Read f.i)
     break_cuts_mask m le pass out =
         let bits = brk_at false (p_at s 0) (p_at s r) in
         let new = predicate 1 bits (lanes s.vl B) in
@@ -105,9 +107,9 @@ module _ {l : Layout} (fit : Assigned l) {f : Setting} {a : State} {p0 : ℕ} {t
           truth = λ lt. absurd (omega (arith, lt, none.1));
         }))
 
-    pub break_steps : RegionOutcome mode l f d a n (p + 1) 1 ls (puts (break_word l c ∷ []) rest) s rest way
+    pub break_steps : RegionOutcome mode l f d a n (p + 1) 1 ls (puts (break_word l c ∷ []) rest) s rest way (ComesTo f.names (ops.Break c) Read f.i)
     break_steps = by_first (first_is (λ e. (ls (f.i + e)).truth c) n 0)
       where
-        by_first : {o : Option ℕ} → First (λ e. (ls (f.i + e)).truth c) n 0 o → RegionOutcome mode l f d a n (p + 1) 1 ls (puts (break_word l c ∷ []) rest) s rest way
+        by_first : {o : Option ℕ} → First (λ e. (ls (f.i + e)).truth c) n 0 o → RegionOutcome mode l f d a n (p + 1) 1 ls (puts (break_word l c ∷ []) rest) s rest way (ComesTo f.names (ops.Break c) Read f.i)
         by_first (missing none) = break_cuts_mask n (omega arith) (λ e em. none e (omega arith) (omega (arith, em))) (λ lt. absurd (omega (arith, lt)))
         by_first (found v lo hi yes' none) = break_cuts_mask v (omega (arith, hi)) (λ e ev. none e (omega arith) ev) (λ lt. yes')

@@ -22,8 +22,8 @@ use Rattle.machine_model.specs.VectorEffects.{field_of, do_vector, with_early, a
 use Rattle.machine_model.proofs.StateSteps.{truths_put, went_keeps}
 use Rattle.machine_model.specs.declared.outcome.StopKind.TheVariants.{Read}
 use Rattle.label_fix.specs.DraftRun.{DraftEntry, Laid}
-use Rattle.label_fix.specs.Stretches.{Stops}
-use Rattle.label_fix.proofs.StretchSteps.{put_stops, stop_more}
+use Rattle.loop_form.specs.declared.loop_item.Operand.TheVariants.{Outer}
+use Rattle.loop_form.specs.LoopItems as ops
 use Rattle.vector_order.specs.Orders.{Lane, Lanes}
 use Rattle.vector_order.specs.Operands.{nth_value}
 use Rattle.vector_order.proofs.Streams.{true_false}
@@ -34,6 +34,8 @@ use Rattle.chunk_emit.specs.Registers.{Layout, z_of, IsValueUsed}
 use Rattle.chunk_emit.specs.ChunkCode.{puts}
 use Rattle.chunk_emit.specs.Chunk.{Setting, count_of, Holds}
 use Rattle.chunk_emit.specs.Fits.{Assigned, MakesValue}
+use Rattle.chunk_emit.specs.StopPlaces.{ComesTo, StopsAt}
+use Rattle.chunk_emit.proofs.StopsAt.{stop_at as word_stops, stop_at_more}
 use Rattle.chunk_emit.proofs.ItemLanes.{first_none}
 use Rattle.first_fault.specs.Region.{Way}
 use Rattle.first_fault.specs.RegionCode.{Early, first_fault_word, non_fault_word, read_faults}
@@ -148,7 +150,7 @@ module _ {l : Layout} (fit : Assigned l) {f : Setting} {a : State} {p0 : ℕ} {t
     leads_cut_once i o w yes' = let one : w.leads.cut ≡ 1 = w.is ∙ ap (λ b. cond b 1 0) yes' in omega (arith, one)
 
     abbrev Result : VectorInstruction → Type 0
-    Result i = RegionOutcome Early l f d a n (p + 1) 2 ls (puts (Vector i ∷ read_faults ∷ []) rest) u rest way
+    Result i = RegionOutcome Early l f d a n (p + 1) 2 ls (puts (Vector i ∷ read_faults ∷ []) rest) u rest way (ComesTo f.names (ops.Load array (Outer x) (Some ty) c) Read f.i)
 
     outcome_none : (i : VectorInstruction) → do_vector i u ≡ Went (loaded_state None) → cuts_in (Vector i) u ≡ false → IsState (loaded_state None) → ((e : ℕ) → e < n → (on e && faults e) ≡ false) → Result i
     outcome_none i does is state none =
@@ -183,7 +185,7 @@ module _ {l : Layout} (fit : Assigned l) {f : Setting} {a : State} {p0 : ℕ} {t
   lane_on = active shape.element (p_at u m)
 
   abbrev Ends : VectorInstruction → Type 0
-  Ends i = RegionOutcome Early l f d a n (p + 1) 2 ls (puts (Vector i ∷ read_faults ∷ []) rest) u rest (reads.way fit h0 p ls mask array x ty c wide)
+  Ends i = RegionOutcome Early l f d a n (p + 1) 2 ls (puts (Vector i ∷ read_faults ∷ []) rest) u rest (reads.way fit h0 p ls mask array x ty c wide) (ComesTo f.names (ops.Load array (Outer x) (Some ty) c) Read f.i)
 
   module _ (place_is : (e : ℕ) → lane_address (x_or_sp u 26) 0 (width_bytes shape.memory) e ≡ reads.place fit h0 p ls mask array x ty c wide (f.i + e)) where
     abbrev places : ℕ → ℕ
@@ -269,7 +271,7 @@ module _ {l : Layout} (fit : Assigned l) {f : Setting} {a : State} {p0 : ℕ} {t
   is_reached o1 o e = let small : 0 < 16 = omega arith in went_keeps ldff1 (field_of ldff1 first_code.numbers) u (reached o1 o) small h.is e
 
   abbrev TopEnds : Type 0
-  TopEnds = RegionOutcome Early l f d a n (p + 1) 2 ls (puts (Vector first_code ∷ read_faults ∷ []) rest) u rest (reads.way fit h0 p ls None array x ty c wide)
+  TopEnds = RegionOutcome Early l f d a n (p + 1) 2 ls (puts (Vector first_code ∷ read_faults ∷ []) rest) u rest (reads.way fit h0 p ls None array x ty c wide) (ComesTo f.names (ops.Load array (Outer x) (Some ty) c) Read f.i)
 
   -- no lane has come so far
   none_on : n ≡ 0 → TopEnds
@@ -289,11 +291,12 @@ module _ {l : Layout} (fit : Assigned l) {f : Setting} {a : State} {p0 : ℕ} {t
     first_on = first_here top_on many (reads.in_count fit h0 p ls None array x ty c wide h exact spots spots_are 0 some) on_first
 
     -- the first lane faults
-    refuses : (o : Option ℕ) → lane_fault first_form u.memory spots 0 ≡ o → is_some o ≡ true → Stops d (puts (Vector first_code ∷ read_faults ∷ []) rest) u Read u.memory 2
+    refuses : (o : Option ℕ) → lane_fault first_form u.memory spots 0 ≡ o → is_some o ≡ true → StopsAt d (puts (Vector first_code ∷ read_faults ∷ []) rest) u Read u.memory 2 (ComesTo f.names (ops.Load array (Outer x) (Some ty) c) Read f.i)
     refuses None eq yes' = absurd cc
     refuses (Some z) eq yes' =
-        stop_more 2 (omega arith)
-        (put_stops u.pc z (first_does ∙ ap (λ o1. after_early (comes_to o1) (z_of l p) u) first_on ∙ ap (λ o. after_early (unless_fault (read_fault o) (early_load first_form u.memory u.stops top_on (left (Some 0)) spots many u.ffr)) (z_of l p) u) eq))
+        let same : f.i + 0 ≡ f.i = omega arith in
+        stop_at_more 2 (omega arith)
+        (word_stops u.pc z (first_does ∙ ap (λ o1. after_early (comes_to o1) (z_of l p) u) first_on ∙ ap (λ o. after_early (unless_fault (read_fault o) (early_load first_form u.memory u.stops top_on (left (Some 0)) spots many u.ffr)) (z_of l p) u) eq) (reads.fault_near fit h0 p ls None array x ty c wide h exact spots spots_are 0 z same eq))
 
     no_fault_at : wrong 0 ≡ false → (e : ℕ) → (0 < e → gone (Some 0) e ≡ false) → (top_on e && wrong e) ≡ false
     no_fault_at eb e h' = ⊎_elim
@@ -331,7 +334,7 @@ module _ {l : Layout} (fit : Assigned l) {f : Setting} {a : State} {p0 : ℕ} {t
     by_fault_at true eb =
         let same : f.i + 0 ≡ f.i = omega arith in
         stops some (ap (λ j. reads.way fit h0 p ls None array x ty c wide j (ls j)) (sym same) ∙ reads.falls fit h0 p ls None array x ty c wide h exact spots spots_are 0 some (ap₂ (λ a b. a && b) on_first eb))
-        (subst (λ mem. Stops d (puts (Vector first_code ∷ read_faults ∷ []) rest) u Read mem 2) h.same.memory (refuses (lane_fault first_form u.memory spots 0) refl eb))
+        (subst (λ mem. StopsAt d (puts (Vector first_code ∷ read_faults ∷ []) rest) u Read mem 2 (ComesTo f.names (ops.Load array (Outer x) (Some ty) c) Read f.i)) h.same.memory (refuses (lane_fault first_form u.memory spots 0) refl eb))
     by_fault_at false eb = by_first (first_true (gone (Some 0)) many 0) (is_none (lane_fault first_form u.memory spots 0) eb) refl (first_is (gone (Some 0)) many 0)
 
   pub top_reads : TopEnds

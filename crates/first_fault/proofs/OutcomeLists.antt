@@ -1,5 +1,5 @@
 -- The steps of the region one after another.
-use Rattle.std.proofs.Common.{◌≡◌, ℕ, ◌+◌, ◌*◌, ◌%◌, ◌^◌, ◌<◌, ◌≤◌, ℤ, pos, ◌+ℤ◌, false, not, ◌&&◌, ◌||◌, List, [], ◌∷◌, ◌++◌, length, Option, Some, None, refl, sym, ap, ap₂, ◌∙◌, subst, arith, ⊎_elim, get_or-set_same}
+use Rattle.std.proofs.Common.{◌≡◌, ℕ, ◌+◌, ◌*◌, ◌%◌, ◌^◌, ◌<◌, ◌≤◌, ℤ, pos, ◌+ℤ◌, false, not, ◌&&◌, ◌||◌, List, [], ◌∷◌, ◌++◌, length, Option, Some, None, inl, inr, refl, sym, ap, ap₂, ◌∙◌, subst, arith, ⊎_elim, get_or-set_same}
 use Rattle.std.specs.Prelude.{slice_index, slice_index_or}
 use Rattle.std.proofs.lemmas.Bool.{cases_lt}
 use Rattle.std.proofs.lemmas.List.{length-append}
@@ -10,10 +10,10 @@ use Rattle.guest_types.specs.LaneMemory.{lane_address}
 use Rattle.kernel_tree.specs.declared.ops.Ty.{Ty}
 use Rattle.kernel_tree.specs.Wrap.{wrap, bits_of, log_bytes}
 use Rattle.kernel_meaning.specs.Operators.{word, unary_value, binary_value, shift_value, compare_on}
-use Rattle.kernel_meaning.specs.Eval.{choose_value}
+use Rattle.kernel_meaning.specs.Eval.{Names, choose_value}
+use Rattle.machine_model.specs.declared.outcome.StopKind.TheVariants.{Read}
 use Rattle.machine_model.specs.Machine.{State, x_at, p_at}
 use Rattle.label_fix.specs.DraftRun.{DraftEntry, Laid}
-use Rattle.label_fix.proofs.StretchSteps.{stop_more}
 use Rattle.vector_order.specs.Orders.{Lane, Lanes}
 use Rattle.loop_form.specs.declared.loop_item.Operand.TheVariants.{Constant, Outer, LoopIndex, Made}
 use Rattle.loop_form.specs.LoopItems.{Op, Item, item}
@@ -25,6 +25,8 @@ use Rattle.chunk_emit.specs.Registers.{Layout, IsValueUsed}
 use Rattle.chunk_emit.specs.ChunkCode.{with_index, index_of, puts}
 use Rattle.chunk_emit.specs.Chunk.{Setting, count_of, Holds}
 use Rattle.chunk_emit.specs.Fits.{Assigned, FitsMask, IsNear, MakesValue, following_items}
+use Rattle.chunk_emit.specs.StopPlaces.{ComesTo, OneComesTo}
+use Rattle.chunk_emit.proofs.StopsAt.{stop_at_more, stop_at_following, stop_at_near}
 use Rattle.chunk_emit.proofs.Indexes.{scratched, lane_place}
 use Rattle.chunk_emit.proofs.LoadForms.{is_form}
 use Rattle.first_fault.specs.Region.{Way, On, Broke, Fell, way_on, item_way, region_way}
@@ -34,7 +36,7 @@ use Rattle.label_fix.specs.Stretches.{Leads}
 use Rattle.first_fault.specs.Prefix.{Inside}
 use Rattle.first_fault.specs.SuppressedLanes.{SuppressedOn}
 use Rattle.first_fault.specs.RegionRuns.{Why, by_break, by_fault, by_stop, RegionOutcome, stops, comes}
-use Rattle.first_fault.proofs.Stretches.{rest_at, word_leads, follow, follow-cut, suppressed_first, suppressed_second, stop_following}
+use Rattle.first_fault.proofs.Stretches.{rest_at, word_leads, follow, follow-cut, suppressed_first, suppressed_second}
 use Rattle.first_fault.proofs.PrefixSteps.{prefix, inside_later, operand_right}
 use Rattle.first_fault.proofs.PureSteps.{narrowed, value_steps, truth_steps}
 use Rattle.first_fault.proofs.BreakSteps.{break_steps}
@@ -51,22 +53,27 @@ weaken f g le on (by_fault early e) = by_fault early (g e)
 weaken f g le on (by_stop early lt here) = by_stop early (omega (arith, lt, le)) (on here)
 
 -- words after which the lanes are as before
-pub outcome_following : {mode : Mode} {l : Layout} {f : Setting} {d : Laid} {a : State} {n q m k : ℕ} {ls : ℕ → Lane} {code mid rest : List DraftEntry} {s u : State} {way : ℕ → Lane → Way} (most : ℕ) → most ≡ m + k → Leads d code s mid u m → RegionOutcome mode l f d a n q k ls mid u rest way → RegionOutcome mode l f d a n q most ls code s rest way
-outcome_following most total leads (stops some fell st) = stops some fell (stop_following most (omega (arith, total)) leads st)
+pub outcome_following : {mode : Mode} {l : Layout} {f : Setting} {d : Laid} {a : State} {n q m k : ℕ} {ls : ℕ → Lane} {code mid rest : List DraftEntry} {s u : State} {way : ℕ → Lane → Way} {near : ℕ → Type 0} (most : ℕ) → most ≡ m + k → Leads d code s mid u m → RegionOutcome mode l f d a n q k ls mid u rest way near → RegionOutcome mode l f d a n q most ls code s rest way near
+outcome_following most total leads (stops some fell st) = stops some fell (stop_at_following most (omega (arith, total)) leads st)
 outcome_following {m = m} {k = k} most total leads (comes c new end le pass on why inside) =
     let both : m + k ≤ most = omega (arith, total) in
     let cut = follow-cut most both leads on in
     comes c new end le pass (follow most both leads on) (λ lt. weaken (λ e. e) (λ e. e) (omega (arith, cut)) (suppressed_second most both leads on) (why lt)) inside
 
-outcome_then : {mode : Mode} {l : Layout} {f : Setting} {d : Laid} {a : State} {n p q m k : ℕ} {ls : ℕ → Lane} {s : State} {code mid rest : List DraftEntry} (most : ℕ) (g h : ℕ → Lane → Way) → most ≡ m + k → RegionOutcome mode l f d a n p m ls code s mid g
-    → ((c : ℕ) (new : ℕ → Lane) (u : State) → c ≤ n → Inside mode l f a c p new u → RegionOutcome mode l f d a c q k new mid u rest h) → RegionOutcome mode l f d a n q most ls code s rest (λ j b. way_on (g j b) (h j))
-outcome_then {f = f} {ls = ls} most g h total (stops some fell st) more = stops some (ap (λ w. way_on w (h f.i)) fell) (stop_more most (omega (arith, total)) st)
-outcome_then {mode = mode} {l = l} {f = f} {d = d} {a = a} {n = n} {q = q} {m = m} {k = k} {ls = ls} {s = s} {code = code} {mid = mid} {rest = rest} most g h total (comes c new u le pass leads why inside) more = by_second (more c new u le inside)
+-- a stop at an address of which something else holds
+outcome_near : {mode : Mode} {l : Layout} {f : Setting} {d : Laid} {a : State} {n q most : ℕ} {ls : ℕ → Lane} {code rest : List DraftEntry} {s : State} {way : ℕ → Lane → Way} {near other : ℕ → Type 0} → ((at : ℕ) → near at → other at) → RegionOutcome mode l f d a n q most ls code s rest way near → RegionOutcome mode l f d a n q most ls code s rest way other
+outcome_near more (stops some fell st) = stops some fell (stop_at_near more st)
+outcome_near more (comes c new end le pass leads why inside) = comes c new end le pass leads why inside
+
+outcome_then : {mode : Mode} {l : Layout} {f : Setting} {d : Laid} {a : State} {n p q m k : ℕ} {ls : ℕ → Lane} {s : State} {code mid rest : List DraftEntry} {near : ℕ → Type 0} (most : ℕ) (g h : ℕ → Lane → Way) → most ≡ m + k → RegionOutcome mode l f d a n p m ls code s mid g near
+    → ((c : ℕ) (new : ℕ → Lane) (u : State) → c ≤ n → Inside mode l f a c p new u → RegionOutcome mode l f d a c q k new mid u rest h near) → RegionOutcome mode l f d a n q most ls code s rest (λ j b. way_on (g j b) (h j)) near
+outcome_then {f = f} {ls = ls} most g h total (stops some fell st) more = stops some (ap (λ w. way_on w (h f.i)) fell) (stop_at_more most (omega (arith, total)) st)
+outcome_then {mode = mode} {l = l} {f = f} {d = d} {a = a} {n = n} {q = q} {m = m} {k = k} {ls = ls} {s = s} {code = code} {mid = mid} {rest = rest} {near = near} most g h total (comes c new u le pass leads why inside) more = by_second (more c new u le inside)
   where
-    by_second : RegionOutcome mode l f d a c q k new mid u rest h → RegionOutcome mode l f d a n q most ls code s rest (λ j b. way_on (g j b) (h j))
+    by_second : RegionOutcome mode l f d a c q k new mid u rest h near → RegionOutcome mode l f d a n q most ls code s rest (λ j b. way_on (g j b) (h j)) near
     by_second (stops some fell st) =
         let e : f.i + 0 ≡ f.i = omega arith in
-        stops (omega (arith, some, le)) (ap (λ w. way_on w (h f.i)) (subst (λ j. g j (ls j) ≡ On (new j)) e (pass 0 some)) ∙ fell) (stop_following most (omega (arith, total)) leads st)
+        stops (omega (arith, some, le)) (ap (λ w. way_on w (h f.i)) (subst (λ j. g j (ls j) ≡ On (new j)) e (pass 0 some)) ∙ fell) (stop_at_following most (omega (arith, total)) leads st)
     by_second (comes c2 new2 u2 le2 pass2 leads2 why2 inside2) =
         let both : m + k ≤ most = omega (arith, total) in
         let cut = follow-cut most both leads leads2 in
@@ -82,13 +89,13 @@ outcome_then {mode = mode} {l = l} {f = f} {d = d} {a = a} {n = n} {q = q} {m = 
 
 module _ {l : Layout} (fit : Assigned l) {f : Setting} {a : State} {p0 : ℕ} {t0 : Lanes} (h0 : Holds l f p0 t0 a) (d : Laid) (rest : List DraftEntry) where
   abbrev StepOutcome : (mode : Mode) (n p : ℕ) (ls : ℕ → Lane) (s : State) (mask : Option ℕ) → Op → Type 0
-  StepOutcome mode n p ls s mask op = RegionOutcome mode l f d a n (p + 1) (length (step_words mode f.w l p mask op)) ls (puts (step_words mode f.w l p mask op) rest) s rest (λ j b. item_way f.names (item p mask op) j a.memory b)
+  StepOutcome mode n p ls s mask op = RegionOutcome mode l f d a n (p + 1) (length (step_words mode f.w l p mask op)) ls (puts (step_words mode f.w l p mask op) rest) s rest (λ j b. item_way f.names (item p mask op) j a.memory b) (ComesTo f.names op Read f.i)
 
   module _ (n p : ℕ) (ls : ℕ → Lane) (mask : Option ℕ) (array : List ℕ) (x : ℕ) (ty : Ty) (c : ℤ) (low : x < 8) (based : slice_index f.x x ≡ word (nth_value f.names x)) (near : IsNear c) (wide : bits_of ty ≤ width_bits f.w) (used : IsValueUsed l p) (makes : MakesValue l p ty) where
     -- the load, after the words that make its index
     abbrev LoadOutcome : Mode → State → Type 0
     LoadOutcome mode u =
-        RegionOutcome mode l f d a n (p + 1) (length (load_words mode f.w l p mask ty x (index_of c))) ls (puts (load_words mode f.w l p mask ty x (index_of c)) rest) u rest (λ j b. item_way f.names (item p mask (ops.Load array (Outer x) (Some ty) c)) j a.memory b)
+        RegionOutcome mode l f d a n (p + 1) (length (load_words mode f.w l p mask ty x (index_of c))) ls (puts (load_words mode f.w l p mask ty x (index_of c)) rest) u rest (λ j b. item_way f.names (item p mask (ops.Load array (Outer x) (Some ty) c)) j a.memory b) (ComesTo f.names (ops.Load array (Outer x) (Some ty) c) Read f.i)
 
     following_index : (mode : Mode) {s : State} → FitsMask l p mask → Inside mode l f a n p ls s
         → ((u : State) → Inside mode l f a n p ls u → PRight f.w (count_of f) (p_at u (mask_register l.registers mask)) (within n (mask_of (prefix f a n ls) mask)) → x_at u (index_of c) ≡ word (pos f.i +ℤ c) → LoadOutcome mode u)
@@ -163,13 +170,19 @@ module _ {l : Layout} (fit : Assigned l) {f : Setting} {a : State} {p0 : ℕ} {t
 
 -- ---- the region
 
+first_comes : (names : Names) (it : Item) (items : List Item) (j at : ℕ) → ComesTo names it.op Read j at → OneComesTo names (it ∷ items) Read j at
+first_comes names it items j at h = inl h
+
+later_comes : (names : Names) (it : Item) (items : List Item) (j at : ℕ) → OneComesTo names items Read j at → OneComesTo names (it ∷ items) Read j at
+later_comes names it items j at h = inr h
+
 module _ {l : Layout} (fit : Assigned l) {f : Setting} {a : State} {p0 : ℕ} {t0 : Lanes} (h0 : Holds l f p0 t0 a) (d : Laid) (rest : List DraftEntry) (mode : Mode) where
   pub region_runs : (items : List Item) {n p : ℕ} {ls : ℕ → Lane} {s : State} → FitsRegion l f p items → Inside mode l f a n p ls s
-      → RegionOutcome mode l f d a n (following_items p items) (length (region_words mode f.w l items)) ls (puts (region_words mode f.w l items) rest) s rest (λ j. region_way f.names items j a.memory)
+      → RegionOutcome mode l f d a n (following_items p items) (length (region_words mode f.w l items)) ls (puts (region_words mode f.w l items) rest) s rest (λ j. region_way f.names items j a.memory) (OneComesTo f.names items Read f.i)
   region_runs [] {n = n} {ls = ls} {s = s} k h = comes n ls s (omega arith) (λ e lt. refl) (rest_at 0) (λ lt. absurd (omega (arith, lt))) h
   region_runs (it ∷ items) {n = n} {p = p} {ls = ls} {s = s} k h =
       let words = step_words mode f.w l it.item it.mask it.op in
       let more = region_words mode f.w l items in
-      let here = op_steps fit h0 d (puts more rest) mode it.mask k.2 (inside_later fit h0 h it.item k.0 k.1) it.op k.3 in
-      subst (λ es. RegionOutcome mode l f d a n (following_items p (it ∷ items)) (length (words ++ more)) ls es s rest (λ j. region_way f.names (it ∷ items) j a.memory)) (sym (puts-append words more rest))
-      (outcome_then (length (words ++ more)) (λ j b. item_way f.names it j a.memory b) (λ j. region_way f.names items j a.memory) (length-append words more) here (λ c new u le inside. region_runs items k.4 inside))
+      let here = outcome_near (first_comes f.names it items f.i) (op_steps fit h0 d (puts more rest) mode it.mask k.2 (inside_later fit h0 h it.item k.0 k.1) it.op k.3) in
+      subst (λ es. RegionOutcome mode l f d a n (following_items p (it ∷ items)) (length (words ++ more)) ls es s rest (λ j. region_way f.names (it ∷ items) j a.memory) (OneComesTo f.names (it ∷ items) Read f.i)) (sym (puts-append words more rest))
+      (outcome_then (length (words ++ more)) (λ j b. item_way f.names it j a.memory b) (λ j. region_way f.names items j a.memory) (length-append words more) here (λ c new u le inside. outcome_near (later_comes f.names it items f.i) (region_runs items k.4 inside)))

@@ -13,6 +13,7 @@ use Rattle.guest_types.specs.Lanes.{logic_at}
 use Rattle.guest_types.proofs.Predicates.{and_twice}
 use Rattle.kernel_tree.specs.declared.ops.Ty.{Ty}
 use Rattle.kernel_tree.specs.Wrap.{residue}
+use Rattle.machine_model.specs.declared.outcome.StopKind.TheVariants.{Read}
 use Rattle.machine_model.specs.InstructionTable.{Listed}
 use Rattle.machine_model.specs.Machine.{State, p_at, with_p, next}
 use Rattle.machine_model.proofs.StateSteps.{truths_put}
@@ -30,6 +31,7 @@ use Rattle.chunk_emit.specs.Registers.{Layout, z_of, p_of, IsValueUsed, IsTruthU
 use Rattle.chunk_emit.specs.ChunkCode.{vectors, puts}
 use Rattle.chunk_emit.specs.Chunk.{Setting, count_of, Holds}
 use Rattle.chunk_emit.specs.Fits.{Assigned, FitsMask, MakesValue, MakesTruth}
+use Rattle.chunk_emit.specs.StopPlaces.{ComesTo}
 use Rattle.vector_order.proofs.LaneValues.{value_same, value_other}
 use Rattle.vector_order.proofs.Terms.{truth_same, truth_other}
 use Rattle.first_fault.specs.Region.{Way, halted, way_of, item_way}
@@ -138,22 +140,22 @@ module _ {l : Layout} (fit : Assigned l) {f : Setting} {a : State} {p0 : ℕ} {t
   way_at op j b = item_way f.names (item p mask op) j a.memory b
 
   abbrev pub StepOutcome : Op → Type 0
-  StepOutcome op = RegionOutcome mode l f d a n (p + 1) (length (step_words mode f.w l p mask op)) ls (puts (step_words mode f.w l p mask op) rest) s rest (way_at op)
+  StepOutcome op = RegionOutcome mode l f d a n (p + 1) (length (step_words mode f.w l p mask op)) ls (puts (step_words mode f.w l p mask op) rest) s rest (way_at op) (ComesTo f.names op Read f.i)
 
   -- all lanes come through
-  pub all_come : {code : List DraftEntry} {most : ℕ} (new : ℕ → Lane → Lane) (v : State) (op : Op) → ((j : ℕ) (mem : Memory) (b : Lane) → op_effect op f.names p j (on_mask mask b) mem b ≡ Keeps (new j b)) → Leads d code s rest v most → Inside mode l f a n (p + 1) (λ j. new j (ls j)) v → RegionOutcome mode l f d a n (p + 1) most ls code s rest (way_at op)
+  pub all_come : {code : List DraftEntry} {most : ℕ} (new : ℕ → Lane → Lane) (v : State) (op : Op) → ((j : ℕ) (mem : Memory) (b : Lane) → op_effect op f.names p j (on_mask mask b) mem b ≡ Keeps (new j b)) → Leads d code s rest v most → Inside mode l f a n (p + 1) (λ j. new j (ls j)) v → RegionOutcome mode l f d a n (p + 1) most ls code s rest (way_at op) (ComesTo f.names op Read f.i)
   all_come new v op does leads ends = comes n (λ j. new j (ls j)) v (omega arith) (λ e en. ap (way_of (halted op)) (does (f.i + e) a.memory (ls (f.i + e)))) leads (λ lt. absurd (omega (arith, lt))) ends
 
   pub value_steps : (op : Op) (val : ℕ → Lane → ℤ) (ty : Ty) → makes_truth op ≡ false → made_type op ≡ Some ty → MakesValue l p ty → ((u : State) → Inside mode l f a n p ls u → OperandsRight (prefix f a n ls) l.registers u op)
       → ((j : ℕ) (mem : Memory) (b : Lane) → op_effect op f.names p j (on_mask mask b) mem b ≡ Keeps (with_value b p (val j b)))
       → step_words mode f.w l p mask op ≡ (if nat_lt p (l.z_last_use p) then narrow_words l mask (vectors (op_code f.w l.registers p m op)) else []) → StepOutcome op
   value_steps op val ty kind made_is makes operands does words =
-      subst (λ ws. RegionOutcome mode l f d a n (p + 1) (length ws) ls (puts ws rest) s rest (way_at op)) (sym words) (by (nat_lt p (l.z_last_use p)) refl)
+      subst (λ ws. RegionOutcome mode l f d a n (p + 1) (length ws) ls (puts ws rest) s rest (way_at op) (ComesTo f.names op Read f.i)) (sym words) (by (nat_lt p (l.z_last_use p)) refl)
     where
       value_is : (e : ℕ) → new_value (prefix f a n ls) op p mask e ≡ val (f.i + e) (ls (f.i + e))
       value_is e = ap (value_after p) (does (f.i + e) a.memory (ls (f.i + e))) ∙ value_same (ls (f.i + e)) p (val (f.i + e) (ls (f.i + e)))
 
-      by : (b : Bool) → nat_lt p (l.z_last_use p) ≡ b → RegionOutcome mode l f d a n (p + 1) (length (if b then narrow_words l mask (vectors (op_code f.w l.registers p m op)) else [])) ls (puts (if b then narrow_words l mask (vectors (op_code f.w l.registers p m op)) else []) rest) s rest (way_at op)
+      by : (b : Bool) → nat_lt p (l.z_last_use p) ≡ b → RegionOutcome mode l f d a n (p + 1) (length (if b then narrow_words l mask (vectors (op_code f.w l.registers p m op)) else [])) ls (puts (if b then narrow_words l mask (vectors (op_code f.w l.registers p m op)) else []) rest) s rest (way_at op) (ComesTo f.names op Read f.i)
       by true is_used =
           let code = op_code f.w l.registers p m op in
           let used : IsValueUsed l p = ltb-true p (l.z_last_use p) is_used in
@@ -201,12 +203,12 @@ module _ {l : Layout} (fit : Assigned l) {f : Setting} {a : State} {p0 : ℕ} {t
       → ((j : ℕ) (mem : Memory) (b : Lane) → op_effect op f.names p j (on_mask mask b) mem b ≡ Keeps (with_truth b p (val j b)))
       → step_words mode f.w l p mask op ≡ (if nat_lt p (l.p_last_use p) then narrow_words l mask (vectors (op_code f.w l.registers p m op)) else []) → StepOutcome op
   truth_steps op val kind makes operands does words =
-      subst (λ ws. RegionOutcome mode l f d a n (p + 1) (length ws) ls (puts ws rest) s rest (way_at op)) (sym words) (by (nat_lt p (l.p_last_use p)) refl)
+      subst (λ ws. RegionOutcome mode l f d a n (p + 1) (length ws) ls (puts ws rest) s rest (way_at op) (ComesTo f.names op Read f.i)) (sym words) (by (nat_lt p (l.p_last_use p)) refl)
     where
       truth_is : (e : ℕ) → new_truth (prefix f a n ls) op p mask e ≡ val (f.i + e) (ls (f.i + e))
       truth_is e = ap (truth_after p) (does (f.i + e) a.memory (ls (f.i + e))) ∙ truth_same (ls (f.i + e)) p (val (f.i + e) (ls (f.i + e)))
 
-      by : (b : Bool) → nat_lt p (l.p_last_use p) ≡ b → RegionOutcome mode l f d a n (p + 1) (length (if b then narrow_words l mask (vectors (op_code f.w l.registers p m op)) else [])) ls (puts (if b then narrow_words l mask (vectors (op_code f.w l.registers p m op)) else []) rest) s rest (way_at op)
+      by : (b : Bool) → nat_lt p (l.p_last_use p) ≡ b → RegionOutcome mode l f d a n (p + 1) (length (if b then narrow_words l mask (vectors (op_code f.w l.registers p m op)) else [])) ls (puts (if b then narrow_words l mask (vectors (op_code f.w l.registers p m op)) else []) rest) s rest (way_at op) (ComesTo f.names op Read f.i)
       by true is_used =
           let code = op_code f.w l.registers p m op in
           let used : IsTruthUsed l p = ltb-true p (l.p_last_use p) is_used in

@@ -15,7 +15,9 @@ use Rattle.kernel_tree.specs.declared.ops.Ty.TheVariants as ty
 use Rattle.kernel_tree.specs.Wrap.{bits_of, byte_count, log_bytes}
 use Rattle.kernel_meaning.specs.Operators.{word}
 use Rattle.kernel_meaning.specs.Eval.{address, read_value}
+use Rattle.kernel_meaning.proofs.Addresses.{address-below}
 use Rattle.kernel_meaning.proofs.Residues.{word-add}
+use Rattle.machine_model.specs.declared.outcome.StopKind.TheVariants.{Read}
 use Rattle.machine_model.specs.InstructionTable.{Listed}
 use Rattle.machine_model.specs.Machine.{State, x_at, p_at}
 use Rattle.machine_model.proofs.StateSteps.{x_put}
@@ -33,6 +35,8 @@ use Rattle.chunk_emit.specs.Registers.{Layout}
 use Rattle.chunk_emit.specs.ChunkCode.{with_index, index_of, dtype_of, puts}
 use Rattle.chunk_emit.specs.Chunk.{Setting, count_of, Holds}
 use Rattle.chunk_emit.specs.Fits.{Assigned, IsNear}
+use Rattle.chunk_emit.specs.StopPlaces.{ComesTo}
+use Rattle.chunk_emit.proofs.StopsAt.{fault_byte}
 use Rattle.chunk_emit.proofs.Indexes.{scratched}
 use Rattle.chunk_emit.proofs.LoadForms.{IsForm, is_form, bytes_power}
 use Rattle.chunk_emit.proofs.Loads.{read_lane, lane_value, read_of}
@@ -191,6 +195,10 @@ module _ {l : Layout} (fit : Assigned l) {f : Setting} {a : State} {p0 : ℕ} {t
 
     fault_is : (e : ℕ) → lane_fault form u.memory spot e ≡ fault (f.i + e)
     fault_is e = ap (λ mem. first_fault (can_read mem) (spot e) (width_bytes form.memory)) h.same.memory ∙ ap₂ (first_fault (can_read a.memory)) (spot_is e) is.memory
+
+    -- where the access of the first lane faults, it does so at a byte of its element
+    pub fault_near : (e z : ℕ) → f.i + e ≡ f.i → lane_fault form u.memory spot e ≡ Some z → ComesTo f.names (ops.Load array (Outer x) (Some ty) c) Read f.i z
+    fault_near e z same eq = (refl, fault_byte (can_read a.memory) (place f.i) (byte_count ty) z (address-below ty (nth_value f.names x) (pos f.i +ℤ c)) (ap fault (sym same) ∙ sym (fault_is e) ∙ eq))
 
     read_number : (e : ℕ) → number_at u.memory (spot e) (width_bytes form.memory) ≡ number (f.i + e)
     read_number e = ap (λ mem. number_at mem (spot e) (width_bytes form.memory)) h.same.memory ∙ ap₂ (number_at a.memory) (spot_is e) is.memory

@@ -5,6 +5,7 @@ use Rattle.guest_types.specs.Length.{width_bytes, lanes}
 use Rattle.guest_types.specs.Elements.{active, predicate}
 use Rattle.guest_types.specs.Lanes.{all_at}
 use Rattle.guest_types.proofs.AtWidths.{width_bytes-lanes}
+use Rattle.machine_model.specs.declared.outcome.StopKind.TheVariants.{Read}
 use Rattle.machine_model.specs.Machine.{State, p_at, with_ffr, next}
 use Rattle.machine_model.proofs.StateSteps.{truths_made, ffr_put}
 use Rattle.vector_order.specs.Orders.{Lanes}
@@ -14,6 +15,7 @@ use Rattle.chunk_emit.specs.Registers.{Layout, p_of}
 use Rattle.chunk_emit.specs.ChunkCode.{puts}
 use Rattle.chunk_emit.specs.Chunk.{Setting, chunk_of, ValueRight, Holds}
 use Rattle.chunk_emit.specs.Fits.{Assigned, following_items}
+use Rattle.chunk_emit.specs.StopPlaces.{OneComesTo}
 use Rattle.chunk_emit.proofs.ChunkStates.{lane_below_and}
 use Rattle.first_fault.specs.Region.{region_way}
 use Rattle.first_fault.specs.RegionCode.{Early, Single, exits_words, single_words}
@@ -63,10 +65,10 @@ module _ {l : Layout} (fit : Assigned l) {f : Setting} {p : ℕ} {t : Lanes} {s 
 
 pub exits_run : ExitsRun
 exits_run l f d rest items p t s fit k h =
-    subst (λ m. RegionOutcome Early l f d s f.n (following_items p items) (length (exits_words f.w l items)) t.lane (puts (exits_words f.w l items) rest) s rest (λ j. region_way f.names items j m)) h.memory
+    subst (λ m. RegionOutcome Early l f d s f.n (following_items p items) (length (exits_words f.w l items)) t.lane (puts (exits_words f.w l items) rest) s rest (λ j. region_way f.names items j m) (OneComesTo f.names items Read f.i)) h.memory
     (outcome_following (length (exits_words f.w l items)) (omega arith) (word_leads false refl refl) (region_runs fit h d rest Early items k (set_inside fit h h.top)))
 
 pub single_runs : SingleRuns
 single_runs l f d rest items p t s fit k h one =
-    subst (λ m. RegionOutcome Single l f d s f.n (following_items p items) (length (single_words f.w l items)) t.lane (puts (single_words f.w l items) rest) s rest (λ j. region_way f.names items j m)) h.memory
+    subst (λ m. RegionOutcome Single l f d s f.n (following_items p items) (length (single_words f.w l items)) t.lane (puts (single_words f.w l items) rest) s rest (λ j. region_way f.names items j m) (OneComesTo f.names items Read f.i)) h.memory
     (region_runs fit h d rest Single items k (first_inside fit h one h.top))

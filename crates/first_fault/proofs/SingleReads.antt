@@ -15,8 +15,8 @@ use Rattle.machine_model.specs.States.{IsState}
 use Rattle.machine_model.specs.VectorEffects.{do_vector, after_load}
 use Rattle.machine_model.proofs.StateSteps.{load_put}
 use Rattle.label_fix.specs.DraftRun.{DraftEntry, Laid}
-use Rattle.label_fix.specs.Stretches.{Stops}
-use Rattle.label_fix.proofs.StretchSteps.{put_stops}
+use Rattle.loop_form.specs.declared.loop_item.Operand.TheVariants.{Outer}
+use Rattle.loop_form.specs.LoopItems as ops
 use Rattle.vector_order.specs.Orders.{Lane, Lanes}
 use Rattle.vector_order.proofs.LaneValues.{value_same, value_other}
 use Rattle.vector_order.specs.Operands.{nth_value}
@@ -27,6 +27,8 @@ use Rattle.chunk_emit.specs.Registers.{Layout, z_of, p_of, IsValueUsed}
 use Rattle.chunk_emit.specs.ChunkCode.{load_word, puts}
 use Rattle.chunk_emit.specs.Chunk.{Setting, count_of, Holds}
 use Rattle.chunk_emit.specs.Fits.{Assigned, MakesValue}
+use Rattle.chunk_emit.specs.StopPlaces.{ComesTo, StopsAt}
+use Rattle.chunk_emit.proofs.StopsAt.{stop_at}
 use Rattle.chunk_emit.proofs.Indexes.{lane_place}
 use Rattle.chunk_emit.proofs.Loads.{only_wrote}
 use Rattle.first_fault.specs.RegionCode.{Mode, Early, Single}
@@ -81,9 +83,9 @@ module _ {l : Layout} (fit : Assigned l) {f : Setting} {a : State} {p0 : ℕ} {t
         ∙ lane_place ty (nth_value f.names x) c f.i e (x_or_sp u x) (x_at u r) single_read_base at_index
 
   -- a load that refuses
-  pub single_read_stops : {d : Laid} {rest : List DraftEntry} {i : Rattle.machine_model.specs.InstructionTable.Listed} {u : State} (o : Option ℕ) → is_some o ≡ true → (other : Rattle.guest_types.specs.LaneMemory.Loaded) → Rattle.label_fix.specs.DraftRun.effect i u ≡ after_load (or_fault (read_fault o) other) (z_of l p) u → Stops d (Rattle.label_fix.specs.DraftRun.Put i ∷ rest) u Read u.memory 1
-  single_read_stops None some other e = absurd cc
-  single_read_stops {u = u} (Some z) some other e = put_stops u.pc z e
+  pub single_read_stops : {d : Laid} {rest : List DraftEntry} {i : Rattle.machine_model.specs.InstructionTable.Listed} {u : State} {near : ℕ → Type 0} (o : Option ℕ) → is_some o ≡ true → (other : Rattle.guest_types.specs.LaneMemory.Loaded) → Rattle.label_fix.specs.DraftRun.effect i u ≡ after_load (or_fault (read_fault o) other) (z_of l p) u → ((z : ℕ) → o ≡ Some z → near z) → StopsAt d (Rattle.label_fix.specs.DraftRun.Put i ∷ rest) u Read u.memory 1 near
+  single_read_stops None some other e here = absurd cc
+  single_read_stops {u = u} (Some z) some other e here = stop_at u.pc z e (here z refl)
 
   module _ (d : Laid) (rest : List DraftEntry) {n : ℕ} {u : State} (h : Inside Single l f a n p ls u) (exact : PRight f.w (count_of f) (p_at u (mask_register l.registers mask)) (within n (mask_of (prefix f a n ls) mask))) (low : x < 8) (based : slice_index f.x x ≡ word (nth_value f.names x)) (r : ℕ) (at_index : x_at u r ≡ word (pos f.i +ℤ c)) where
     abbrev m : ℕ
@@ -114,7 +116,7 @@ module _ {l : Layout} (fit : Assigned l) {f : Setting} {a : State} {p0 : ℕ} {t
     single_load_does = refl
 
     abbrev Result : Type 0
-    Result = RegionOutcome Single l f d a n (p + 1) 1 ls (puts (Vector (load_word f.w ty (z_of l p) m x r) ∷ []) rest) u rest way
+    Result = RegionOutcome Single l f d a n (p + 1) 1 ls (puts (Vector (load_word f.w ty (z_of l p) m x r) ∷ []) rest) u rest way (ComesTo f.names (ops.Load array (Outer x) (Some ty) c) Read f.i)
 
     by : (o : Option ℕ) → first_true test count 0 ≡ o → First test count 0 o → Result
     by o eq (missing none) =
@@ -132,7 +134,7 @@ module _ {l : Layout} (fit : Assigned l) {f : Setting} {a : State} {p0 : ℕ} {t
         let vn : v < n = reads.below fit h0 p ls mask array x ty c wide h exact place (spot_is h low based r at_index) v (omega (arith, hi)) parts.0 in
         let same : f.i + v ≡ f.i = omega (arith, vn, h.alone refl) in
         stops (omega (arith, vn)) (ap (λ j. way j (ls j)) (sym same) ∙ reads.falls fit h0 p ls mask array x ty c wide h exact place (spot_is h low based r at_index) v vn yes')
-        (subst (λ mem. Stops d (puts (Vector (load_word f.w ty (z_of l p) m x r) ∷ []) rest) u Read mem 1) h.same.memory (single_read_stops (lane_fault form u.memory place v) parts.1 (record { z = made; ffr = u.ffr }) (single_load_does ∙ ap load_ends eq)))
+        (subst (λ mem. StopsAt d (puts (Vector (load_word f.w ty (z_of l p) m x r) ∷ []) rest) u Read mem 1 (ComesTo f.names (ops.Load array (Outer x) (Some ty) c) Read f.i)) h.same.memory (single_read_stops (lane_fault form u.memory place v) parts.1 (record { z = made; ffr = u.ffr }) (single_load_does ∙ ap load_ends eq) (λ z told. reads.fault_near fit h0 p ls mask array x ty c wide h exact place (spot_is h low based r at_index) v z same told)))
 
     pub single_reads : Result
     single_reads = by (first_true test count 0) refl (first_is test count 0)

@@ -16,9 +16,11 @@ use Rattle.vector_order.specs.Order.{Steady}
 use Rattle.first_fault.specs.Region.{Way, On, Broke, Fell, region_way}
 use Rattle.first_fault.specs.BreakRegion.{region_of}
 
--- an iteration that breaks, or faults, in the region does so in the scalar loop, and has stored nothing
+-- An iteration that breaks, or faults, in the region does so in the scalar loop, and has stored nothing. One that goes on does not
+-- break there: it ends, or faults in the rest.
 abbrev pub IsIteration : Way → Memory → BlockEnd Names → Type 0
-IsIteration (On l) m iteration_end = Unit {0}
+IsIteration (On l) m (ends.Broke after names) = ⊥
+IsIteration (On l) m _ = Unit {0}
 IsIteration Broke m (ends.Broke after names) = after ≡ m
 IsIteration Fell m (ends.Faulted after) = after ≡ m
 IsIteration _ m _ = ⊥

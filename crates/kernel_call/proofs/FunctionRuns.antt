@@ -24,7 +24,7 @@ use Rattle.label_fix.specs.Suppressions.{cuts}
 use Rattle.label_fix.proofs.PlacedRuns.{words_length}
 use Rattle.loop_code.specs.Runs.{HasArguments}
 use Rattle.promises.specs.Faithful as promises
-use Rattle.promises.specs.Faithful.{IsNearFault, Follows, end_steps}
+use Rattle.promises.specs.Faithful.{IsNearFault, IsNearAccess, Follows, end_steps}
 use Rattle.promises.specs.Reserved.{leaves_reserved}
 use Rattle.reserved_registers.specs.Alone.{AreAlone}
 use Rattle.reserved_registers.proofs.Entries.{after_put}
@@ -111,6 +111,7 @@ module _ (v : Saved) (saved : AreSaved v) (k : Program) (s t : State) (entries :
         kept = λ x low off far.
             h.kept x (λ near. far (subst (λ l. IsNearFault k (arguments s) (at_once k (arguments s) l) i x) (sym vl) near))
             ∙ byte_outside v s (s.sp - frame_size v) u m x saved (omega (arith, room)) low_sp low off;
+        near = λ chunks. subst (λ l. IsNearAccess k (arguments s) (at_once k (arguments s) l) i h.kind h.at) (sym vl) (h.near chunks);
       }
 
 -- a call of a function of the words of a draft that follows the scalar loop

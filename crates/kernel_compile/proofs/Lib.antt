@@ -8,10 +8,13 @@ pub mod AtVector
 pub mod MapStays
 pub mod Paces
 pub mod NearFaults
+pub mod NearAccesses
 pub mod VectorPlaced
 pub mod VectorJoin
 pub mod VectorFiles
 pub mod VectorEmitted
 mod SlowDrafts
+mod CountedWords
+mod WordExamples
 mod ReservedWords
 pub mod Tried

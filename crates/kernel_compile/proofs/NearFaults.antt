@@ -62,7 +62,7 @@ declared ps p t e = by (slice_get ps p) refl e
     by None f e = absurd cc
     by (Some q) f e = record { param = q; is = f; typed = array_shape q.shape t e }
 
-wrapped_twice : (w j : ℕ) → (w + j % 2 ^ 64) % 2 ^ 64 ≡ (w + j) % 2 ^ 64
+pub wrapped_twice : (w j : ℕ) → (w + j % 2 ^ 64) % 2 ^ 64 ≡ (w + j) % 2 ^ 64
 wrapped_twice w j = omega arith
 
 -- byte j of element i + c of an array

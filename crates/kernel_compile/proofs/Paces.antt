@@ -54,6 +54,10 @@ pub stop_count : {d : Laid} {c e : List DraftEntry} {s t : State} {most : ℕ} {
 unfolding stop_paced
 stop_count a b = refl
 
+pub stop_place : {d : Laid} {c e : List DraftEntry} {s t : State} {most : ℕ} {kind : StopKind} {m : Memory} {unit base : ℕ} (a : Goes d c s e t most) (b : StopsPaced d e t kind m unit base) → (stop_paced a b).at ≡ b.at
+unfolding stop_paced
+stop_place a b = refl
+
 -- ---- the bound
 
 -- a run within a pace that gives no more words has come to its end

@@ -1,5 +1,5 @@
 -- The words of a kernel's code do what the kernel says.
-use Rattle.std.proofs.Common.{◌≡◌, ℕ, ◌+◌, ◌-◌, ◌*◌, ◌<◌, ◌≤◌, ◌^◌, List, [], ◌++◌, append-nil, refl, sym, ap, ◌∙◌, subst, arith}
+use Rattle.std.proofs.Common.{◌≡◌, ℕ, false, ◌&&◌, ◌+◌, ◌-◌, ◌*◌, ◌<◌, ◌≤◌, ◌^◌, List, [], ◌++◌, append-nil, refl, sym, ap, ◌∙◌, subst, arith}
 use Rattle.std.specs.Prelude.{All}
 use Rattle.guest_types.specs.Memory.{Memory}
 use Rattle.machine_model.specs.Machine.{State}
@@ -8,6 +8,8 @@ use Rattle.kernel_tree.specs.Plain.{Program}
 use Rattle.kernel_meaning.specs.ScalarRun as scalar
 use Rattle.kernel_meaning.specs.ScalarRun.{begun, scalar_run}
 use Rattle.kernel_meaning.proofs.RunsFrom.{start_within, whole_run}
+use Rattle.dependence.specs.Bound.{is_vector, is_apart, runs_in_chunks}
+use Rattle.dependence.specs.Classes.{class_of}
 use Rattle.close_bound.specs.CloseBound.{iteration_steps, outside_steps}
 use Rattle.label_fix.specs.DraftRun.{DraftEntry, Laid, draft_run}
 use Rattle.label_fix.specs.Finished.{AreFit, size, words_of}
@@ -18,6 +20,7 @@ use Rattle.loop_code.specs.Kernel.{begin_code, scalar_code, begin_labels}
 use Rattle.loop_code.specs.Runs.{HasArguments, BeginRuns, ScalarRuns}
 use Rattle.scalar_words.specs.Iterations.{Comes, ends_so, faults_so}
 use Rattle.loop_code.proofs.Placed.{whole_once}
+use Rattle.vector_order.proofs.Streams.{true_false}
 use Rattle.promises.specs.Faithful.{Follows, CloseSlowFaithful, close_slow_steps}
 use Rattle.kernel_compile.specs.Drafted.{FollowsAnywhere}
 use Rattle.kernel_compile.proofs.DraftedFiles.{drafted_file}
@@ -29,14 +32,14 @@ comes_after {K = K} {G = G} le g (ends_so n e h) = ends_so n e (end_after (K * n
 comes_after {K = K} {G = G} le g (faults_so n kind e ok h) = faults_so n kind e ok (stop_after (K * n + G) (omega arith) g h)
 
 -- the outcome of a run of enough steps
-pub comes_follow : {D : Laid} {c : List DraftEntry} {s : State} {K F : ℕ} {r : scalar.Run} (k : Program) (args : List ℕ) (vl steps : ℕ) → K * begun r + F ≤ steps → Comes D c s K F 0 r → Follows k args vl r (draft_run D steps 0 c s)
-comes_follow {D = D} {c = c} {s = s} {K = K} {F = F} k args vl steps le (ends_so {bg = bg} n e h) =
+pub comes_follow : {D : Laid} {c : List DraftEntry} {s : State} {K F : ℕ} {r : scalar.Run} (k : Program) (args : List ℕ) (vl steps : ℕ) → runs_in_chunks k args ≡ false → K * begun r + F ≤ steps → Comes D c s K F 0 r → Follows k args vl r (draft_run D steps 0 c s)
+comes_follow {D = D} {c = c} {s = s} {K = K} {F = F} k args vl steps alone le (ends_so {bg = bg} n e h) =
     let z : bg ≡ n = omega (arith, e) in
     let p = ap (λ x. K * x) z in
     let w = h.within in
     let f : h.count + (steps - h.count) ≡ steps = omega (arith, le, p, w) in
     (0 + h.count, ap (λ j. draft_run D j 0 c s) (sym f) ∙ h.by (steps - h.count) 0)
-comes_follow {D = D} {c = c} {s = s} {K = K} {F = F} k args vl steps le (faults_so {m = m} {bg = bg} n kind e ok h) =
+comes_follow {D = D} {c = c} {s = s} {K = K} {F = F} k args vl steps alone le (faults_so {m = m} {bg = bg} n kind e ok h) =
     let z : bg ≡ n = omega (arith, e) in
     let p = ap (λ x. K * x) z in
     let w = h.within in
@@ -50,11 +53,16 @@ comes_follow {D = D} {c = c} {s = s} {K = K} {F = F} k args vl steps le (faults_
       steps = 0 + h.count;
       is = ap (λ j. draft_run D j 0 c s) (sym f) ∙ h.by (steps - h.count) 0;
       kept = λ address far. refl;
+      near = λ chunks. absurd (true_false (runs_in_chunks k args) chunks alone);
     }
 
 -- ---- from the first iteration on
 
-module _ (R : ℕ → ℕ) (k : Program) (begins : BeginRuns R k) (runs : ScalarRuns R k) where
+module _ (R : ℕ → ℕ) (k : Program) (scalar_class : is_vector (class_of k) ≡ false) (begins : BeginRuns R k) (runs : ScalarRuns R k) where
+  -- iterations are run one by one, whatever the arguments are
+  never_chunks : (args : List ℕ) → runs_in_chunks k args ≡ false
+  never_chunks args = ap (λ b. b && is_apart k args) scalar_class
+
   code_comes : (D : Laid) (n : ℕ) (args : List ℕ) (m : Memory) (s : State) → HasArguments args m s → Resolves D (begin_code R k 0 (scalar_code R k n [])) → Resolves D (scalar_code R k n [])
       → Comes D (begin_code R k 0 (scalar_code R k n [])) s (iteration_steps k) (outside_steps k) 0 (scalar_run k args m)
   code_comes D n args m s given all res =
@@ -69,7 +77,7 @@ module _ (R : ℕ → ℕ) (k : Program) (begins : BeginRuns R k) (runs : Scalar
       let code = begin_code R k 0 (scalar_code R k n []) in
       let c = code_comes D n args s.memory s given (resolves_in D code [] begun_by placed) (resolves_in D (scalar_code R k n []) front following placed) in
       let enough : iteration_steps k * begun (scalar_run k args s.memory) + outside_steps k ≤ steps = omega (arith, le) in
-      subst (λ es. Follows k args s.vl (scalar_run k args s.memory) (draft_run D steps 0 es s)) (sym begun_by) (comes_follow k args s.vl steps enough c)
+      subst (λ es. Follows k args s.vl (scalar_run k args s.memory) (draft_run D steps 0 es s)) (sym begun_by) (comes_follow k args s.vl steps (never_chunks args) enough c)
 
   -- and come to a file that does what the kernel says
   pub compiled : (labels n : ℕ) (entries front : List DraftEntry) (words : List ℕ) → entries ≡ front ++ scalar_code R k n [] → entries ≡ begin_code R k 0 (scalar_code R k n []) → Once entries → AreFit labels entries → size entries ≤ 65536 → words ≡ words_of entries → All (λ w. w < 2 ^ 32) words

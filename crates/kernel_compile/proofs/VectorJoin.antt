@@ -6,6 +6,7 @@ use Rattle.std.proofs.lemmas.Bool.{cases_lt}
 use Rattle.std.proofs.Math.Nat.{mul-le-mul_left, mul-le-mul_right}
 use Rattle.guest_types.specs.Length.{lanes}
 use Rattle.guest_types.specs.Memory.{Memory, IsMemory, byte_at, can_read}
+use Rattle.machine_model.specs.declared.outcome.StopKind.{StopKind}
 use Rattle.machine_model.specs.Machine.{State, jump}
 use Rattle.machine_model.specs.Run.{End, Stop, memory_left}
 use Rattle.machine_model.specs.States.{IsState}
@@ -43,11 +44,12 @@ use Rattle.vector_emit.proofs.FromBelow.{Ground, IsGround, most_lanes, limit}
 use Rattle.vector_emit.specs.VectorCode.{vector_code}
 use Rattle.vector_emit.specs.VectorRuns as vectors
 use Rattle.vector_emit.specs.VectorRuns.{Near, VectorRuns, edge_steps, vector_base, vector_unit, vector_most}
-use Rattle.promises.specs.Faithful.{Follows, IsNearFault, end_steps}
+use Rattle.promises.specs.Faithful.{Follows, IsNearFault, IsNearAccess, end_steps}
 use Rattle.kernel_compile.proofs.ScalarFaithful.{comes_after, comes_follow}
 use Rattle.kernel_compile.proofs.MapStays.{draft_map}
-use Rattle.kernel_compile.proofs.Paces.{end_paced, stop_paced, end_count, stop_count, paced_steps_are_enough}
+use Rattle.kernel_compile.proofs.Paces.{end_paced, stop_paced, end_count, stop_count, stop_place, paced_steps_are_enough}
 use Rattle.kernel_compile.proofs.NearFaults.{both_unmapped, elsewhere}
+use Rattle.kernel_compile.proofs.NearAccesses.{near_access}
 use Rattle.kernel_compile.proofs.AtLoop.{bases_held, bounded}
 use Rattle.kernel_compile.proofs.AtVector.{homes_low, at_same, has_loop, ground_of, is_ground}
 use Rattle.kernel_compile.proofs.VectorPlaced.{whole_code}
@@ -86,7 +88,7 @@ vector_ends_within d c s k args vl steps m r bg count le by =
 
 -- ---- a chunk that stops
 
-module _ (g : Ground) (is : IsGround g) (memory left faulted : Memory) (bg : ℕ) (bound : limit g ≡ slice_index g.args (bound_place g.kernel)) (near : Near g bg left faulted)
+module _ (g : Ground) (is : IsGround g) (memory left faulted : Memory) (bg : ℕ) {kind : StopKind} {at : ℕ} (bound : limit g ≡ slice_index g.args (bound_place g.kernel)) (near : Near g bg kind at left faulted)
     (high : (a : ℕ) → 2 ^ 64 ≤ a → byte_at left a ≡ byte_at faulted a) where
   kept_near : (a : ℕ) → (IsNearFault g.kernel g.args (most_lanes g) bg a → ⊥) → byte_at left a ≡ byte_at faulted a
   kept_near a far =
@@ -153,7 +155,7 @@ follows_chunk {g = g} {D = D} {c = c} {s = s} {vl = vl} {steps = steps} x (vecto
     let all = end_paced x.goes w in
     let few = in_steps x bg all.count steps le all.paced (let n = end_count x.goes w in let f = x.goes.within in omega (arith, n, f, most)) in
     vector_ends_within D c s g.kernel g.args vl steps left result bg all.count few all.by
-follows_chunk {g = g} {D = D} {c = c} {s = s} {t = t} {vl = vl} {steps = steps} {m = m} x (vectors.faults_so {m = faulted} {bg = bg} kind left access near w most) h le =
+follows_chunk {g = g} {D = D} {c = c} {s = s} {t = t} {vl = vl} {steps = steps} {m = m} x (vectors.faults_so {m = faulted} {bg = bg} kind left access w near most) h le =
     let all = stop_paced x.goes w in
     let few = in_steps x bg all.count steps le all.paced (let n = stop_count x.goes w in let f = x.goes.within in omega (arith, n, f, most)) in
     let f : all.count + (steps - all.count) ≡ steps = omega (arith, few) in
@@ -170,6 +172,7 @@ follows_chunk {g = g} {D = D} {c = c} {s = s} {t = t} {vl = vl} {steps = steps} 
           kept_near g x.is m left faulted bg x.bound near
           (λ a high. both_unmapped m left faulted a x.good high (ap (λ o. can_read (memory_left o) a) (sym stops) ∙ draft_map D steps 0 c s a ∙ ap (λ y. can_read y a) x.from) (fault_map a h ∙ ap (λ y. can_read y a) x.here))
           address (λ n. far (subst (λ L. IsNearFault g.kernel g.args L bg address) (sym (at_lanes x)) n));
+      near = λ chunks. subst (λ L. IsNearAccess g.kernel g.args L bg kind all.at) (sym (at_lanes x)) (subst (λ at. IsNearAccess g.kernel g.args (most_lanes g) bg kind at) (sym (stop_place x.goes w)) (near_access g x.is x.bound near));
     }
 
 -- ---- the code
@@ -247,7 +250,7 @@ module _ (k : Program) (a b c : Assignment) (j : IsJoined k a b c) where
       let entered = j.runs.entered D n1 (Place 0 ∷ guard_part R k a b n1 n2 n3) 0 h.names m pass.end is.scalar (start_within k.for_loop h.names) at in
       let comes : Comes D whole s (iteration_steps k) (reach_steps k + ending_steps k) 0 (scalar_run k args m) =
       subst (λ r. Comes D whole s (iteration_steps k) (reach_steps k + ending_steps k) 0 r) (whole_run k args m h.names h.starts) (comes_after (omega arith) there entered) in
-      comes_follow k args s.vl steps (scalar_suffices k args s.vl (begun (scalar_run k args m)) cut steps j.few (one_by_one k args j.vector not) le) comes
+      comes_follow k args s.vl steps (one_by_one k args j.vector not) (scalar_suffices k args s.vl (begun (scalar_run k args m)) cut steps j.few (one_by_one k args j.vector not) le) comes
 
   -- to the vector part, where they do
   on_follows : (labels n1 n2 n3 : ℕ) (D : Laid) (args : List ℕ) (m : Memory) (s : State) (steps : ℕ) → IsLaid (register_in c) k a b labels n1 n2 n3 D → HasArguments args m s → IsState s

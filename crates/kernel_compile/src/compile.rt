@@ -12,6 +12,7 @@ ghost use Rattle.promises.specs.Refusals.{too_many, IsRefusal};
 ghost use Rattle.promises.specs.OneExit.{HasOneExit};
 ghost use Rattle.promises.specs.Reserved.{LeavesReserved};
 ghost use Rattle.kernel_compile.specs.Drafted.{AreDrafted, FollowsClosely};
+ghost use Rattle.kernel_compile.specs.Words.{close_words};
 
 use crate::emit::{emit_scalar_code, emit_vector_code};
 use crate::registers::{scalar_registers, vector_registers};
@@ -36,6 +37,7 @@ pub fn compile_kernel(alloc: Global, kernel: &Checked) -> Result<Code, CompileFa
     ensures close { IfOk result (λ code. CloseFaithful (program kernel.now) (file_of code.words.items)) }
     ensures ends { IfOk result (λ code. FreeEnds (program kernel.now) (file_of code.words.items)) }
     ensures short { IfOk result (λ code. length code.words.items ≤ 1000 + 60 * size_of (program kernel.now)) }
+    ensures counted { IfOk result (λ code. length code.words.items ≤ close_words (program kernel.now)) }
     ensures reserved { IfOk result (λ code. All LeavesReserved code.words.items) }
     ensures one_exit { IfOk result (λ code. HasOneExit code.words.items) }
     ensures drafted { IfOk result (λ code. AreDrafted (FollowsClosely (program kernel.now)) code.words.items) }
@@ -53,6 +55,7 @@ fn words_of_class(alloc: Global, kernel: &Checked) -> Result<Vec<u32>, CompileFa
     ensures close { IfOk result (λ words. CloseFaithful (program kernel.now) (file_of words.items)) }
     ensures ends { IfOk result (λ words. FreeEnds (program kernel.now) (file_of words.items)) }
     ensures short { IfOk result (λ words. length words.items ≤ 1000 + 60 * size_of (program kernel.now)) }
+    ensures counted { IfOk result (λ words. length words.items ≤ close_words (program kernel.now)) }
     ensures reserved { IfOk result (λ words. All LeavesReserved words.items) }
     ensures one_exit { IfOk result (λ words. HasOneExit words.items) }
     ensures drafted { IfOk result (λ words. AreDrafted (FollowsClosely (program kernel.now)) words.items) }
@@ -70,6 +73,7 @@ fn scalar_words(alloc: Global, kernel: &Checked) -> Result<Vec<u32>, CompileFaul
     ensures close { IfOk result (λ words. CloseFaithful (program kernel.now) (file_of words.items)) }
     ensures ends { IfOk result (λ words. FreeEnds (program kernel.now) (file_of words.items)) }
     ensures short { IfOk result (λ words. length words.items ≤ 1000 + 60 * size_of (program kernel.now)) }
+    ensures counted { IfOk result (λ words. length words.items ≤ close_words (program kernel.now)) }
     ensures reserved { IfOk result (λ words. All LeavesReserved words.items) }
     ensures one_exit { IfOk result (λ words. HasOneExit words.items) }
     ensures drafted { IfOk result (λ words. AreDrafted (FollowsClosely (program kernel.now)) words.items) }
@@ -89,6 +93,7 @@ fn vector_words(alloc: Global, kernel: &Checked) -> Result<Vec<u32>, CompileFaul
     ensures close { IfOk result (λ words. CloseFaithful (program kernel.now) (file_of words.items)) }
     ensures ends { IfOk result (λ words. FreeEnds (program kernel.now) (file_of words.items)) }
     ensures short { IfOk result (λ words. length words.items ≤ 1000 + 60 * size_of (program kernel.now)) }
+    ensures counted { IfOk result (λ words. length words.items ≤ close_words (program kernel.now)) }
     ensures reserved { IfOk result (λ words. All LeavesReserved words.items) }
     ensures one_exit { IfOk result (λ words. HasOneExit words.items) }
     ensures drafted { IfOk result (λ words. AreDrafted (FollowsClosely (program kernel.now)) words.items) }

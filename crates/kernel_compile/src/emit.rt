@@ -1,17 +1,21 @@
 //! Emits the code of a kernel.
 
-ghost use Rattle.std.specs.Prelude.{◌≡◌, ◌+◌, ◌*◌, ◌^◌, ◌<◌, ◌≤◌, All, IfOk, length};
+ghost use Rattle.std.specs.Prelude.{◌≡◌, false, ◌+◌, ◌*◌, ◌^◌, ◌<◌, ◌≤◌, All, IfOk, length};
 ghost use Rattle.kernel_tree.specs.Items.{size_of};
 ghost use Rattle.reg_assign.specs.declared.interval.RegClass.TheVariants.{X, Z, P};
 ghost use Rattle.loop_form.specs.Registers.{FitsKernel};
 ghost use Rattle.loop_form.specs.View.{program};
 ghost use Rattle.machine_model.specs.Written.{file_of};
+ghost use Rattle.dependence.specs.Bound.{is_vector};
 ghost use Rattle.dependence.specs.Classes.{class_of};
 ghost use Rattle.dependence.specs.declared.reason.Class.TheVariants.{Vector};
+ghost use Rattle.close_bound.specs.CloseBound.{outside_steps, iteration_steps};
+ghost use Rattle.loop_code.specs.Loosening.{held_loosely};
 ghost use Rattle.promises.specs.Faithful.{FreeEnds, CloseFaithful, CloseSlowFaithful};
 ghost use Rattle.promises.specs.OneExit.{HasOneExit};
 ghost use Rattle.promises.specs.Reserved.{LeavesReserved};
 ghost use Rattle.kernel_compile.specs.Drafted.{AreDrafted, FollowsSlowly, FollowsClosely};
+ghost use Rattle.kernel_compile.specs.Words.{close_words};
 
 use kernel_tree::Checked;
 use label_fix::{BranchKind, Draft};
@@ -34,9 +38,12 @@ pub fn emit_scalar_code(
     kernel: &Checked,
     regs: &Assigned,
 ) -> Result<Vec<u32>, AllocError>
+    requires class { is_vector (class_of (program kernel.now)) ≡ false }
     requires fits { FitsKernel (program kernel.now) X regs.now }
     ensures faithful { IfOk result (λ words. CloseSlowFaithful (program kernel.now) (file_of words.items)) }
     ensures short { IfOk result (λ words. length words.items ≤ 1000 + 60 * size_of (program kernel.now)) }
+    ensures counted { let k = program kernel.now in
+        IfOk result (λ words. length words.items ≤ outside_steps k + iteration_steps k + 2 * length (held_loosely k) + 32) }
     ensures reserved { IfOk result (λ words. All LeavesReserved words.items) }
     ensures one_exit { IfOk result (λ words. HasOneExit words.items) }
     ensures drafted { IfOk result (λ words. AreDrafted (FollowsSlowly (program kernel.now)) words.items) }
@@ -70,6 +77,7 @@ pub fn emit_vector_code(
     ensures close { IfOk result (λ words. CloseFaithful (program facts.now.kernel.now) (file_of words.items)) }
     ensures ends { IfOk result (λ words. FreeEnds (program facts.now.kernel.now) (file_of words.items)) }
     ensures short { IfOk result (λ words. length words.items ≤ 1000 + 60 * size_of (program facts.now.kernel.now)) }
+    ensures counted { IfOk result (λ words. length words.items ≤ close_words (program facts.now.kernel.now)) }
     ensures reserved { IfOk result (λ words. All LeavesReserved words.items) }
     ensures one_exit { IfOk result (λ words. HasOneExit words.items) }
     ensures drafted { IfOk result (λ words. AreDrafted (FollowsClosely (program facts.now.kernel.now)) words.items) }

@@ -18,6 +18,7 @@ use Rattle.scalar_words.specs.Words.{copy_word, settle_word, word_code}
 use Rattle.value_code.specs.ItemWords.{index_word, store_code}
 use Rattle.value_code.specs.Code.{place_of, added_number, is_fused, right_side}
 use Rattle.loop_code.specs.Statements.{after_homes, block_labels, is_bare, put_code, placed_put, update_extent, update_settles, action_code, block_code, otherwise_code}
+use Rattle.loop_code.specs.Loosening.{held_loosely}
 use Rattle.loop_code.specs.LoopNumbers.{loop_layout}
 use Rattle.loop_code.specs.Loop.{answer_code, with_index, bare, enter_word, enter_code, settle_form, settle_code, back_code, loop_code}
 use Rattle.loop_code.proofs.SetupRuns.{numbers_words}
@@ -134,6 +135,18 @@ for_loop_words L hs s i (Some t) b n b2 o rest k e f h =
     let q = ap (λ i. answer_size i o) e in
     let r = ap (λ i. block_size i t.body) (e ∙ f) in
     le_of_le_of_le (omega (arith, q, r)) (loop_words L hs s t b n b2 o rest k h)
+
+-- a word for each parameter, four for each item of the accumulators, and one
+pub begin_close : (R : ℕ → ℕ) (k : Program) (n : ℕ) (rest : List DraftEntry) → size (begin_code R k n rest) ≤ 1 + length k.params + 4 * vars_size (loop_index k) k.vars + size rest
+begin_close R k n rest =
+    let q = ap (λ i. vars_size i k.vars) (param_index k) in
+    le_of_le_of_le (omega (arith, q)) (arguments_words 0 k.params _ _ (vars_words (layout_of_kernel R k) R (param_homes 0 k.params) (param_scope k) 0 (length k.params) n k.vars (zero_index rest) (suc (size rest)) (omega arith)))
+
+-- four words for each item of the loop and of the returned value, two for each name that is held loosely, and 40
+pub scalar_close : (R : ℕ → ℕ) (k : Program) (n : ℕ) (rest : List DraftEntry) → size (scalar_code R k n rest) ≤ 4 * for_loop_size k.for_loop + 4 * answer_size (loop_index k) k.answer + 2 * length (held_loosely k) + 40 + size rest
+scalar_close R k n rest =
+    let few = loading_words_le_36 R k in
+    le_of_le_of_le (omega (arith, few)) (for_loop_words (loop_layout R k) (kernel_homes R k) (var_scope k) (loop_index k) k.for_loop (loop_start k) n (loop_end k) k.answer rest (size rest) (scope_index k) refl (omega arith))
 
 pub begin_words : (R : ℕ → ℕ) (k : Program) (n : ℕ) (rest : List DraftEntry) → size (begin_code R k n rest) ≤ 40 + 8 * size_of k + size rest
 begin_words R k n rest =

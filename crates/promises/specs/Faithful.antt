@@ -1,9 +1,10 @@
 -- What a compiled file owes its kernel.
-use Rattle.std.specs.Prelude.{◌≡◌, ℕ, ◌+◌, ◌*◌, ◌<◌, ◌≤◌, ◌^◌, ℤ, pos, ◌+ℤ◌, ◌*ℤ◌, List, length, slice_get, slice_index, Some, Ok, All, Contains, true}
+use Rattle.std.specs.Prelude.{◌≡◌, ℕ, ◌+◌, ◌*◌, ◌<◌, ◌≤◌, ◌^◌, ℤ, pos, ◌+ℤ◌, ◌*ℤ◌, List, length, slice_get, slice_index, Option, Some, None, Ok, All, Contains, true}
 use Rattle.guest_types.specs.EarlyLoads.{StopList, never}
 use Rattle.guest_types.specs.Length.{IsLength}
 use Rattle.guest_types.specs.Memory.{Memory, IsMemory, DoNotMeet, byte_at, merged}
 use Rattle.machine_model.specs.declared.outcome.StopKind.{StopKind}
+use Rattle.machine_model.specs.declared.outcome.StopKind.TheVariants.{Read, Write}
 use Rattle.machine_model.specs.Load.{Image, load}
 use Rattle.machine_model.specs.Run.{Outcome, End, Stop, IsAccess, free_start, free_run, suppressed}
 use Rattle.kernel_tree.specs.declared.ops.Ty.{Ty}
@@ -14,9 +15,11 @@ use Rattle.kernel_meaning.specs.Operators.{word}
 use Rattle.kernel_meaning.specs.ScalarRun as scalar
 use Rattle.kernel_meaning.specs.ScalarRun.{begun, scalar_run}
 use Rattle.loop_form.specs.declared.stream.Stream.{Stream}
+use Rattle.loop_form.specs.declared.loop_item.Operand.TheVariants.{Outer}
+use Rattle.loop_form.specs.LoopItems.{Op, Load, Gather, Store, Item, loop_items_of}
 use Rattle.loop_form.specs.Streams.{streams_of}
 use Rattle.dependence.specs.Apart.{bound_place}
-use Rattle.dependence.specs.Bound.{at_once, steps_for, bound, slow_bound, free_bound}
+use Rattle.dependence.specs.Bound.{runs_in_chunks, at_once, steps_for, bound, slow_bound, free_bound}
 use Rattle.close_bound.specs.CloseBound.{outside_steps, iteration_steps, close_bound}
 
 -- what a run may be started with: at most eight words, pages that do not meet the image's, and a vector length
@@ -50,7 +53,37 @@ pub record IsNearFault (k : Program) (args : List ℕ) (L m address : ℕ) : Typ
   pub byte : j < byte_count type
   pub here : address ≡ byte_address type (slice_index args stream.param) stream.offset i j
 
--- A stop of kind Read or Write. Each byte is as the scalar loop left it at its fault, but for those near the fault.
+-- ---- where a run stops
+
+-- the address is of a byte of element e of an array
+abbrev pub IsElementByte : Ty → (base : ℕ) → (e : ℤ) → (address : ℕ) → Type 0
+IsElementByte type base e address = (j : ℕ) × (j < byte_count type) × (address ≡ word (pos base +ℤ pos (byte_count type) *ℤ e +ℤ pos j))
+
+-- an element below the reach of an index, or any where it has none
+abbrev pub IsWithinReach : Option ℕ → ℤ → Type 0
+IsWithinReach None e = Unit {0}
+IsWithinReach (Some n) e = (x : ℕ) × (x < n) × (e ≡ pos x)
+
+-- Iteration i comes to the byte at an address by an operation: that of an element which it reads, or stores. A read at a computed
+-- index comes to any element within its reach.
+abbrev pub Accesses : (args : List ℕ) → Op → StopKind → (i address : ℕ) → Type 0
+Accesses args (Load a (Outer p) (Some t) c) kind i address = (kind ≡ Read) × IsElementByte t (slice_index args p) (pos i +ℤ c) address
+Accesses args (Store a (Outer p) (Some t) c v) kind i address = (kind ≡ Write) × IsElementByte t (slice_index args p) (pos i +ℤ c) address
+Accesses args (Gather a (Outer p) (Some t) reach u x) kind i address = (kind ≡ Read) × (e : ℤ) × IsWithinReach reach e × IsElementByte t (slice_index args p) e address
+Accesses args _ kind i address = ⊥
+
+-- The address is of a byte that an iteration near a fault comes to: m iterations were begun, and L are run at once.
+pub record IsNearAccess (k : Program) (args : List ℕ) (L m : ℕ) (kind : StopKind) (address : ℕ) : Type 0 where
+  pub item : Item
+  pub listed : Contains (loop_items_of k) item
+  pub i : ℕ
+  pub from : m ≤ i + L
+  pub until : i + 1 < m + L
+  pub within : i < slice_index args (bound_place k)
+  pub accesses : Accesses args item.op kind i address
+
+-- A stop of kind Read or Write. Each byte is as the scalar loop left it at its fault, but for those near the fault. Where the
+-- iterations are run in chunks, it is at a byte that an iteration near the fault comes to.
 pub record Stops (k : Program) (args : List ℕ) (vl : ℕ) (memory : Memory) (m : ℕ) (outcome : Outcome) : Type 0 where
   pub kind : StopKind
   pub access : IsAccess kind
@@ -60,6 +93,7 @@ pub record Stops (k : Program) (args : List ℕ) (vl : ℕ) (memory : Memory) (m
   pub steps : ℕ
   pub is : outcome ≡ Stop kind pc at left steps
   pub kept : (address : ℕ) → (IsNearFault k args (at_once k args vl) m address → ⊥) → byte_at left address ≡ byte_at memory address
+  pub near : runs_in_chunks k args ≡ true → IsNearAccess k args (at_once k args vl) m kind at
 
 -- The machine ends with the memory and the result of the scalar loop where that ends, and stops where it faults. A run has
 -- one outcome, so it is the one exactly where the scalar loop is, and the other exactly where that is.

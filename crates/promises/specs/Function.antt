@@ -11,10 +11,10 @@ use Rattle.kernel_tree.specs.Plain.{Program}
 use Rattle.kernel_meaning.specs.ScalarRun as scalar
 use Rattle.kernel_meaning.specs.ScalarRun.{begun, scalar_run}
 use Rattle.label_fix.specs.Finished.{StandAt}
-use Rattle.dependence.specs.Bound.{at_once}
+use Rattle.dependence.specs.Bound.{runs_in_chunks, at_once}
 use Rattle.close_bound.specs.CloseBound.{close_bound}
 use Rattle.meaning_frame.specs.Accesses.{run_with}
-use Rattle.promises.specs.Faithful.{IsNearFault, end_steps}
+use Rattle.promises.specs.Faithful.{IsNearFault, IsNearAccess, end_steps}
 use Rattle.promises.specs.Reserved.{platform_register, frame_pointer, link_register}
 use Rattle.promises.specs.Saved.{Saved, doublewords, frame_size, call_steps, saved_by, kept_x, kept_z}
 
@@ -66,7 +66,7 @@ pub record Returns (v : Saved) (s : State) (most : ℕ) (m : Memory) (answer : �
   pub z : All (λ r. element 8 (z_at end r) 0 ≡ element 8 (z_at s r) 0) kept_z
 
 -- A stop of kind Read or Write within so many steps. Each byte outside the frame is as the scalar loop left it at its fault, but for
--- those near the fault.
+-- those near the fault. Where the iterations are run in chunks, it is at a byte that an iteration near the fault comes to.
 pub record Stops (v : Saved) (k : Program) (s : State) (most : ℕ) (memory : Memory) (m : ℕ) : Type 0 where
   pub kind : StopKind
   pub access : IsAccess kind
@@ -76,6 +76,7 @@ pub record Stops (v : Saved) (k : Program) (s : State) (most : ℕ) (memory : Me
   pub steps : ℕ
   pub is : run most 0 s ≡ Stop kind pc at left steps
   pub kept : (x : ℕ) → x < 2 ^ 64 → (InFrame v s x → ⊥) → (IsNearFault k (arguments s) (at_once k (arguments s) s.vl) m x → ⊥) → byte_at left x ≡ byte_at memory x
+  pub near : runs_in_chunks k (arguments s) ≡ true → IsNearAccess k (arguments s) (at_once k (arguments s) s.vl) m kind at
 
 abbrev pub Answers : Saved → Program → State → (most : ℕ) → scalar.Run → Type 0
 Answers v k s most (scalar.End memory result m) = Returns v s most memory result

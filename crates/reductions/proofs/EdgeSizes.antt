@@ -40,7 +40,7 @@ holds_few : (k : Program) (a : Assignment) (j : ℕ) (ts : List Throughout) (res
 holds_few k a j [] rest = omega arith
 holds_few k a j (t ∷ ts) rest = let here = hold_few k (slice_index a.registers j) t (holds_code k a (suc j) ts rest) in let more = holds_few k a (suc j) ts rest in omega (arith, here, more)
 
-start_few : (k : Program) (a : Assignment) (rest : List DraftEntry) → size (start_code k a rest) ≤ 1 + laid_all (throughout k Z) + size rest
+pub start_few : (k : Program) (a : Assignment) (rest : List DraftEntry) → size (start_code k a rest) ≤ 1 + laid_all (throughout k Z) + size rest
 start_few k a rest = let more = holds_few k a 0 (throughout k Z) rest in omega (arith, more)
 
 -- ---- after it
@@ -61,7 +61,7 @@ folds_few : (R : ℕ → ℕ) (k : Program) (a : Assignment) (j : ℕ) (ts : Lis
 folds_few R k a j [] rest = omega arith
 folds_few R k a j (t ∷ ts) rest = let here = one_few R k (slice_index a.registers j) t (folds_code R k a (suc j) ts rest) in let more = folds_few R k a (suc j) ts rest in omega (arith, here, more)
 
-fold_few : (R : ℕ → ℕ) (k : Program) (a : Assignment) (rest : List DraftEntry) → size (fold_code R k a rest) ≤ joined_all (throughout k Z) + size rest
+pub fold_few : (R : ℕ → ℕ) (k : Program) (a : Assignment) (rest : List DraftEntry) → size (fold_code R k a rest) ≤ joined_all (throughout k Z) + size rest
 fold_few R k a rest = folds_few R k a 0 (throughout k Z) rest
 
 -- ---- a draft that code was appended to

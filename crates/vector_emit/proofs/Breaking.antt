@@ -21,7 +21,8 @@ use Rattle.close_bound.specs.CloseBound.{pass_steps}
 use Rattle.chunk_emit.specs.ChunkCode.{puts}
 use Rattle.chunk_emit.specs.Head.{Ground, IsGround, AtHead, IndexHeld, layout, width, most_lanes, limit}
 use Rattle.first_fault.specs.BreakRegion.{is_loop_break}
-use Rattle.first_fault.proofs.Stretches.{stop_following}
+use Rattle.first_fault.specs.SuppressedLanes.{SuppressedOn}
+use Rattle.chunk_emit.proofs.StopsAt.{stop_at_following}
 use Rattle.chunk_pass.specs.Halts.{Breaks}
 use Rattle.chunk_pass.specs.Chunks.{items_of}
 use Rattle.chunk_pass.specs.PassCode.{chunk_words, iteration_words}
@@ -65,9 +66,9 @@ module _ (g : Ground) (ground : IsGround g) (breaks_loop : list_any is_loop_brea
     Runs i cur m s = Passing (loop_of g true d rest) head s i cur m
 
     -- where some lanes came through a chunk
-    chunk_pays : (i k cut whole : ℕ) (now : Memory) (names : Names) → 0 < k → k ≤ lanes_at g i → i ≤ limit g → cut ≤ whole → (k < lanes_at g i → LeftOut (iterate (var_scope g.kernel) g.for_loop (i + k) now names) cut)
+    chunk_pays : (i k cut whole : ℕ) (here : Type 0) (now : Memory) (names : Names) → 0 < k → k ≤ lanes_at g i → i ≤ limit g → cut ≤ whole → (k < lanes_at g i → LeftOut (iterate (var_scope g.kernel) g.for_loop (i + k) now names) cut here)
         → Pays (loop_of g true d rest) (has_lanes g ground) k whole (Stuck (loop_of g true d rest) (has_lanes g ground) (i + k) now names) 1
-    chunk_pays i k cut whole now names some le within more why =
+    chunk_pays i k cut whole here now names some le within more why =
         ⊎_elim
         (λ short. by_reason (why short))
         (λ all.
@@ -77,21 +78,22 @@ module _ (g : Ground) (ground : IsGround g) (breaks_loop : list_any is_loop_brea
         (cases_lt k (most_lanes g)))
         (cases_lt k (lanes_at g i))
       where
-        by_reason : LeftOut (iterate (var_scope g.kernel) g.for_loop (i + k) now names) cut → Pays (loop_of g true d rest) (has_lanes g ground) k whole (Stuck (loop_of g true d rest) (has_lanes g ground) (i + k) now names) 1
+        by_reason : LeftOut (iterate (var_scope g.kernel) g.for_loop (i + k) now names) cut here → Pays (loop_of g true d rest) (has_lanes g ground) k whole (Stuck (loop_of g true d rest) (has_lanes g ground) (i + k) now names) 1
         by_reason (breaks h) = pays_last some (inr (refl, inl h))
         by_reason (faults h) = pays_last some (inr (refl, inr h))
-        by_reason (suppressed lt) = pays_cut refl some (omega (arith, lt, more))
+        by_reason (suppressed lt on) = pays_cut refl some (omega (arith, lt, more))
 
     -- ---- after a chunk of which no lane came through
 
     module _ (i : ℕ) (cur : Names) (m : Memory) (s : State) (ih : (sum : List ℕ → ℕ → ℤ) (names : Names) (now : Memory) (t : State) → AtHead g (i + 1) names now sum t → Runs (i + 1) names now t) where
-      by_one_iteration : {cut : ℕ} {t : State} → i < limit g → Longer d head s alone t (chunk_most + 4) cut → LeftOut (iterate (var_scope g.kernel) g.for_loop i m cur) cut → Passes (λ iteration_end cut. Breaks iteration_end) g 1 i cur m d alone t after_iteration iteration_most → Runs i cur m s
+      by_one_iteration : {cut : ℕ} {here : Type 0} {t : State} → i < limit g → Longer d head s alone t (chunk_most + 4) cut → LeftOut (iterate (var_scope g.kernel) g.for_loop i m cur) cut here → Passes (λ iteration_end cut here. Breaks iteration_end) g 1 i cur m d alone t after_iteration iteration_most → Runs i cur m s
       by_one_iteration {cut = cut} lt lead reason (stops k j left faulted kind le fails lo hi access kept stop) =
           let c = chunk_fits g ground breaks_loop in
           let t = iteration_fits g ground breaks_loop in
-          stops_here (loop_of g true d rest) (has_lanes g ground) 2 k j faulted (stop_following (chunk_most + 4 + iteration_most) (omega arith) lead.leads stop) (omega (arith, c, t)) (omega arith) (omega arith) (omega (arith, lt, le)) lo hi fails
-          (stop_of g i k j left faulted kind (let l = has_lanes g ground in omega (arith, le, l)) (omega (arith, lt, le)) lo hi access kept)
-      by_one_iteration {cut = cut} lt lead reason (comes k now names sum end le goes iteration_lead why h top held_index) =
+          let here = stop_at_following (chunk_most + 4 + iteration_most) (omega arith) lead.leads stop in
+          stops_here (loop_of g true d rest) (has_lanes g ground) 2 k j faulted here.stop (omega (arith, c, t)) (omega arith) (omega arith) (omega (arith, lt, le)) lo hi fails
+          (stop_of g i k j left faulted kind (let l = has_lanes g ground in omega (arith, le, l)) (omega (arith, lt, le)) lo hi access kept here.near)
+      by_one_iteration {cut = cut} {here = here} lt lead reason (comes k now names sum end le goes iteration_lead why h top held_index) =
           ⊎_elim (λ none. broke (lanes_none d end k n tail h top none) none) (λ some. goes_on (lanes_back d end k n tail h top (omega (arith, some))) (omega (arith, some, le))) (cases_eq k 0)
         where
           both : Longer d head s after_iteration end (chunk_most + 4 + iteration_most) cut
@@ -108,10 +110,10 @@ module _ (g : Ground) (ground : IsGround g) (breaks_loop : list_any is_loop_brea
               leaves_here (loop_of g true d rest) (has_lanes g ground) 2 all.leads (omega (arith, fits)) (omega arith) (omega arith) (omega (arith, lt)) (inr (refl, same_place (λ i m ns. Breaks (iterate (var_scope g.kernel) g.for_loop i m ns)) place same.0 same.1 (why (omega (arith, none)))))
               (same_place (λ i m ns. HeadOf g i ns m x.end) place same.0 same.1 (record { sum = sum; head = x.head }))
 
-          cut_some : LeftOut (iterate (var_scope g.kernel) g.for_loop i m cur) cut → k ≡ 1 → 0 < both.leads.cut
+          cut_some : LeftOut (iterate (var_scope g.kernel) g.for_loop i m cur) cut here → k ≡ 1 → 0 < both.leads.cut
           cut_some (breaks h) one = let z = none_gone (var_scope g.kernel) g.for_loop k i m cur now names (inl h) goes in absurd (omega (arith, z, one))
           cut_some (faults h) one = let z = none_gone (var_scope g.kernel) g.for_loop k i m cur now names (inr h) goes in absurd (omega (arith, z, one))
-          cut_some (suppressed some) one = let more = both.more in omega (arith, some, more)
+          cut_some (suppressed some on) one = let more = both.more in omega (arith, some, more)
 
           goes_on : Tests g (i + k) names now sum d after_iteration end (following d n) 2 → k ≡ 1 → Runs i cur m s
           goes_on x one =
@@ -120,7 +122,7 @@ module _ (g : Ground) (ground : IsGround g) (breaks_loop : list_any is_loop_brea
               passes_on (loop_of g true d rest) (has_lanes g ground) 2 k all.leads (omega (arith, fits)) goes (pays_one refl all.more one)
               (subst (λ j. Runs j names now x.end) (sym place) (ih sum names now x.end (head_at place x.head)))
 
-      after_dry : {cut : ℕ} {sum : List ℕ → ℕ → ℤ} {t : State} → Longer d head s dry t (chunk_most + 2) cut → AtHead g i cur m sum t → IndexHeld g i t → (i < limit g → LeftOut (iterate (var_scope g.kernel) g.for_loop i m cur) cut) → Runs i cur m s
+      after_dry : {cut : ℕ} {here : Type 0} {sum : List ℕ → ℕ → ℤ} {t : State} → Longer d head s dry t (chunk_most + 2) cut → AtHead g i cur m sum t → IndexHeld g i t → (i < limit g → LeftOut (iterate (var_scope g.kernel) g.for_loop i m cur) cut here) → Runs i cur m s
       after_dry {sum = sum} {t = t} lead h held_index why = ⊎_elim ahead reached (cases_lt i (limit g))
         where
           reached : limit g ≤ i → Runs i cur m s
@@ -144,7 +146,7 @@ module _ (g : Ground) (ground : IsGround g) (breaks_loop : list_any is_loop_brea
     by_chunk : (fuel i : ℕ) (cur : Names) (m : Memory) (s : State) → limit g < i + suc fuel → i ≤ limit g → Later fuel → Passes LeftOut g (lanes_at g i) i cur m d head s after_chunk chunk_most → Runs i cur m s
     by_chunk fuel i cur m s less within ih (stops k j left faulted kind le fails lo hi access kept stop) =
         let c = chunk_fits g ground breaks_loop in
-        stops_here (loop_of g true d rest) (has_lanes g ground) 1 k j faulted stop (omega (arith, c)) (omega arith) (omega arith) (omega (arith, within, le)) lo hi fails (stop_of g i k j left faulted kind (omega (arith, le)) (omega (arith, within, le)) lo hi access kept)
+        stops_here (loop_of g true d rest) (has_lanes g ground) 1 k j faulted stop.stop (omega (arith, c)) (omega arith) (omega arith) (omega (arith, within, le)) lo hi fails (stop_of g i k j left faulted kind (omega (arith, le)) (omega (arith, within, le)) lo hi access kept stop.near)
     by_chunk fuel i cur m s less within ih (comes k now names sum end le goes lead why h top held_index) =
         ⊎_elim (λ none. dried (lanes_none d end k n dry h top none) none) (λ some. goes_on (lanes_back d end k n dry h top (omega (arith, some))) (omega (arith, some))) (cases_eq k 0)
       where
@@ -157,7 +159,7 @@ module _ (g : Ground) (ground : IsGround g) (breaks_loop : list_any is_loop_brea
         goes_on : Tests g (i + k) names now sum d after_chunk end (following d n) 2 → 0 < k → Runs i cur m s
         goes_on x some =
             let all = following_goes (chunk_most + 2) (omega arith) first (subst (λ es. Goes d after_chunk end es x.end 2) back x.goes) in
-            passes_on (loop_of g true d rest) (has_lanes g ground) 1 k all.leads (omega (arith, fits)) goes (chunk_pays i k lead.cut all.leads.cut now names some le within all.more why)
+            passes_on (loop_of g true d rest) (has_lanes g ground) 1 k all.leads (omega (arith, fits)) goes (chunk_pays i k lead.cut all.leads.cut (SuppressedOn (width g) lead k) now names some le within all.more why)
             (ih (i + k) names now sum x.end (omega (arith, less, some)) x.head)
 
         dried : Tests g (i + k) names now sum d after_chunk end dry 2 → k ≡ 0 → Runs i cur m s
@@ -166,7 +168,7 @@ module _ (g : Ground) (ground : IsGround g) (breaks_loop : list_any is_loop_brea
             let place : i + k ≡ i = omega (arith, none) in
             after_dry i cur m s (λ sum names now t h. ih (i + 1) names now sum t (omega (arith, less)) h) (following_goes (chunk_most + 2) (omega arith) first x.goes)
             (same_place (λ i m ns. AtHead g i ns m sum x.end) place same.0 same.1 x.head) (held_index_kept g i end x.end x.z held_index)
-            (λ lt. same_place (λ i m ns. LeftOut (iterate (var_scope g.kernel) g.for_loop i m ns) lead.cut) place same.0 same.1 (why (let l = has_lanes g ground in omega (arith, none, lt, l))))
+            (λ lt. same_place (λ i m ns. LeftOut (iterate (var_scope g.kernel) g.for_loop i m ns) lead.cut (SuppressedOn (width g) lead k)) place same.0 same.1 (why (let l = has_lanes g ground in omega (arith, none, lt, l))))
 
     follows : (fuel : ℕ) → Later fuel
     follows zero i cur m sum s less h = let within = h.between.within in absurd (omega (arith, less, within))

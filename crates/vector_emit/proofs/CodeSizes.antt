@@ -13,14 +13,16 @@ use Rattle.loop_form.specs.Lanes.{lane_width_of}
 use Rattle.loop_form.specs.LoopItems.{Item, loop_items_of}
 use Rattle.loop_form.specs.Needs.{throughout}
 use Rattle.dependence.specs.Apart.{bound_place}
-use Rattle.close_bound.specs.CloseBound.{has_break, items_steps, around_steps, laid_all, joined_all}
+use Rattle.close_bound.specs.CloseBound.{has_break, items_steps, around_steps, laid_all, joined_all, held_steps}
 use Rattle.close_bound.proofs.CloseBounds.{items_few, lanes_few, held_few}
 use Rattle.close_bound.proofs.LoopSizes.{all_items}
 use Rattle.chunk_emit.specs.ChunkCode.{puts}
 use Rattle.chunk_emit.specs.KernelLayout.{layout_of_loop}
 use Rattle.chunk_pass.specs.PassCode.{lanes_word, chunk_words, iteration_words, plain_words}
+use Rattle.reductions.specs.EdgeCode.{fold_code}
+use Rattle.reductions.proofs.EdgeSizes.{start_few, fold_few}
 use Rattle.reductions.proofs.StartCounts.{few_held}
-use Rattle.vector_emit.specs.VectorCode.{any_lane, is_long, turn_passes, times, words_by, passes_most, passes_by, passes_code}
+use Rattle.vector_emit.specs.VectorCode.{any_lane, is_long, turn_passes, times, words_by, passes_most, passes_by, passes_code, vector_code}
 use Rattle.vector_emit.proofs.PassSizes.{chunk_few, iteration_few, plain_few}
 
 size-puts : (is : List Listed) (rest : List DraftEntry) → size (puts is rest) ≡ length is + size rest
@@ -71,6 +73,15 @@ most_few k = by (has_break k)
     by false = let few = lanes_few (loop_items_of k) in let all = all_items k in omega (arith, few, all)
 
 -- ---- the whole
+
+-- the words of the passes, what is held laid and joined, and two
+pub vector_close : (R : ℕ → ℕ) (k : Program) (a b : Assignment) (scalar n : ℕ) (rest : List DraftEntry) → size (vector_code R k a b scalar n rest) ≤ 2 + held_steps (throughout k Z) + passes_most k + size rest
+vector_close R k a b scalar n rest =
+    let leave = fold_code R k a (Branch Always scalar ∷ rest) in
+    let start = start_few k a (passes_code k a b n leave) in
+    let passes = passes_few (has_break k) k a b (loop_items_of k) n leave in
+    let fold = fold_few R k a (Branch Always scalar ∷ rest) in
+    omega (arith, start, passes, fold)
 
 -- by the words of the start, of the passes and of the fold; a branch follows them
 pub vector_appended : (k : Program) (scalar : ℕ) (old started passed folded new : List DraftEntry) → size started ≤ size old + (1 + laid_all (throughout k Z)) → size passed ≤ size started + passes_most k → size folded ≤ size passed + joined_all (throughout k Z)

@@ -2,6 +2,7 @@
 use Rattle.std.proofs.Common.{◌≡◌, ◌≢◌, ℕ, ◌≤◌, List, [], refl, sym, ap, ◌∙◌, subst, arith}
 use Rattle.std.specs.Prelude.{ℤ, slice_index, slice_index_or}
 use Rattle.guest_types.specs.Memory.{Memory}
+use Rattle.machine_model.specs.declared.outcome.StopKind.{StopKind}
 use Rattle.guest_types.specs.Lanes.{all_at}
 use Rattle.guest_types.specs.Elements.{at}
 use Rattle.machine_model.specs.Machine.{State, x_at, p_at}
@@ -100,5 +101,5 @@ pub ground_at : {g : Ground} {i : ℕ} {cur : Names} {m : Memory} {sum : List �
 ground_at {g = g} {t = t} ground h k = ground_from g t.x ground (λ r le. k.x r (omega (arith, le)) (λ e. absurd (omega (arith, le, e))) ∙ h.x r (omega (arith, le)) (λ e. absurd (omega (arith, le, e))))
 
 -- a stop of that ground is one of the first
-pub near_from : {g : Ground} {xs : List ℕ} {bg : ℕ} {left faulted : Memory} → Near (from_x g xs) bg left faulted → Near g bg left faulted
-near_from n = record { i = n.i; k = n.k; few = n.few; within = n.within; from = n.from; until = n.until; kept = n.kept }
+pub near_from : {g : Ground} {xs : List ℕ} {bg at : ℕ} {kind : StopKind} {left faulted : Memory} → Near (from_x g xs) bg kind at left faulted → Near g bg kind at left faulted
+near_from n = record { i = n.i; k = n.k; few = n.few; within = n.within; from = n.from; until = n.until; kept = n.kept; comes = n.comes }

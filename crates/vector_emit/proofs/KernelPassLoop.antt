@@ -14,6 +14,8 @@ use Rattle.vector_order.specs.Elsewhere.{Elsewhere}
 use Rattle.close_bound.specs.CloseBound.{pass_steps}
 use Rattle.chunk_emit.specs.Head.{Ground, IsGround, AtHead, width, most_lanes, limit}
 use Rattle.first_fault.proofs.Stretches.{follow, follow-cut}
+use Rattle.chunk_emit.specs.StopPlaces.{SomeComesTo}
+use Rattle.chunk_pass.specs.Chunks.{items_of}
 use Rattle.vector_emit.specs.VectorRuns.{Near}
 use Rattle.vector_emit.proofs.Flags.{some_lanes}
 use Rattle.vector_emit.proofs.PassLoop.{Rounds}
@@ -23,10 +25,10 @@ pub record HeadOf (g : Ground) (i : ℕ) (cur : Names) (m : Memory) (s : State) 
   pub sum : List ℕ → ℕ → ℤ
   pub head : AtHead g i cur m sum s
 
--- a stop, where the scalar loop faults in iteration j
-pub record StopOf (g : Ground) (kind : StopKind) (j : ℕ) (left faulted : Memory) : Type 0 where
+-- a stop at an address, where the scalar loop faults in iteration j
+pub record StopOf (g : Ground) (kind : StopKind) (at j : ℕ) (left faulted : Memory) : Type 0 where
   pub access : IsAccess kind
-  pub near : Near g (j + 1) left faulted
+  pub near : Near g (j + 1) kind at left faulted
 
 abbrev pub loop_of : Ground → (breaks : Bool) → Laid → List DraftEntry → Rounds
 loop_of g b d rest = record {
@@ -43,8 +45,8 @@ loop_of g b d rest = record {
 }
 
 -- a stop within k lanes from iteration i on
-pub stop_of : (g : Ground) (i k j : ℕ) (left faulted : Memory) (kind : StopKind) → k ≤ most_lanes g → i + k ≤ limit g → i ≤ j → j < i + k → IsAccess kind → ((z : ℕ) → z < 2 ^ 64 → Elsewhere g.kernel g.args i k z → byte_at left z ≡ byte_at faulted z) → StopOf g kind j left faulted
-stop_of g i k j left faulted kind few within lo hi access kept = record { access = access; near = record { i = i; k = k; few = few; within = within; from = omega (arith, lo); until = omega (arith, hi); kept = kept } }
+pub stop_of : (g : Ground) (i k j : ℕ) (left faulted : Memory) (kind : StopKind) {at : ℕ} → k ≤ most_lanes g → i + k ≤ limit g → i ≤ j → j < i + k → IsAccess kind → ((z : ℕ) → z < 2 ^ 64 → Elsewhere g.kernel g.args i k z → byte_at left z ≡ byte_at faulted z) → SomeComesTo g.names (items_of g) i k kind at → StopOf g kind at j left faulted
+stop_of g i k j left faulted kind few within lo hi access kept comes = record { access = access; near = record { i = i; k = k; few = few; within = within; from = omega (arith, lo); until = omega (arith, hi); kept = kept; comes = comes } }
 
 pub has_lanes : (g : Ground) → IsGround g → 0 < most_lanes g
 has_lanes g ground = some_lanes g.vl (width g) ground.sized

@@ -219,7 +219,7 @@ module _ (g : Ground) (c : Assignment) (d : Laid) (scalar n : ℕ) (rest : List 
         (iterations_in_all (pass_steps g.kernel) (edge_steps g.kernel) j b.begun before.count count b.ends.count b.late (let f = before.within in let k = b.ends.within in let a = around in omega (arith, f, k, a)) few2))
     finish (stops k j left faulted kind count pc place within lo hi fails ends by pace few2) =
         subst Done (sym (loop_is 0 m g.names ∙ for_loop_fails (var_scope g.kernel) g.for_loop g.kernel.answer (limit g) k 0 m g.names faulted j refl within fails))
-        (follows.faults_so kind left ends.access (near_from ends.near) (record {
+        (follows.faults_so kind left ends.access (record {
           count = before.count + count;
           pc = pc;
           at = place;
@@ -229,6 +229,7 @@ module _ (g : Ground) (c : Assignment) (d : Laid) (scalar n : ℕ) (rest : List 
               ap (λ n. draft_run d n taken code s) e ∙ before.by (count + n) taken ∙ by n (taken + before.count) ∙ ap (Stop kind pc place left) f;
           paced = λ n below. whole breaks (most_lanes g) (pass_steps g.kernel) (edge_steps g.kernel) start_most end_most (has_lanes g ground) around before (j + 1) (j + ahead breaks) count (few_ahead breaks j) pace n (omega (arith, below));
         })
+        (near_from ends.near)
         (let le = iterations_in_all (pass_steps g.kernel) (edge_steps g.kernel) j (j + 1) before.count count 0 (omega arith) (let f = before.within in let a = around in omega (arith, f, a)) few2 in omega (arith, le)))
 
 pub vector_runs : VectorRuns

@@ -22,8 +22,8 @@ use Rattle.vector_emit.proofs.Iterations.{Halts, none_gone, fails_here}
 use Rattle.vector_emit.proofs.Paces.{Spends, ahead, in_place, in_iteration, in_two, in_stop, Paid, by_lanes, by_two, by_cut, by_last, by_one, spends_on, InIterations, last_iterations, in_iterations_on}
 
 -- A loop of the language as passes do it: whether it has a break, its bound, the lanes of a chunk, the words of a pass at most,
--- and the entries after the passes. `Head` holds of a state before a pass, `Ends` of a stop: the iteration that faults, and the memory that was left
--- and that of the scalar loop.
+-- and the entries after the passes. `Head` holds of a state before a pass, `Ends` of a stop: its kind and its address, the iteration
+-- that faults, and the memory that was left and that of the scalar loop.
 pub record Rounds : Type 1 where
   pub scope : Scope
   pub for_loop : PlainLoop
@@ -34,7 +34,7 @@ pub record Rounds : Type 1 where
   pub draft : Laid
   pub rest : List DraftEntry
   pub Head : ℕ → Names → Memory → State → Type 0
-  pub Ends : StopKind → ℕ → Memory → Memory → Type 0
+  pub Ends : StopKind → (at j : ℕ) → Memory → Memory → Type 0
 
 -- no iteration is left, or the next one breaks
 abbrev pub Late : Rounds → ℕ → Memory → Names → Type 0
@@ -45,7 +45,7 @@ Late w j m ns = (j ≡ w.limit) ⊎ ((w.breaks ≡ true) × Breaks (iterate w.sc
 pub data Passing (w : Rounds) (c : List DraftEntry) (s : State) (i : ℕ) (cur : Names) (m : Memory) : Type 0 where
   leaves : (k j : ℕ) (now : Memory) (names : Names) (end : State) (count : ℕ) → j ≡ i + k → j ≤ w.limit → iterations w.scope w.for_loop k i m cur ≡ Going now names → Late w j now names → w.Head j names now end
       → ((k taken : ℕ) → draft_run w.draft (count + k) taken c s ≡ draft_run w.draft k (taken + count) w.rest end) → ((n : ℕ) → n ≤ count → Spends w.breaks w.lanes w.unit i j n (cuts w.draft n c s)) → InIterations w.unit i j count → Passing w c s i cur m
-  stops : (k j : ℕ) (left faulted : Memory) (kind : StopKind) (count pc at : ℕ) → i + k ≤ w.limit → i ≤ j → j < i + k → iterations w.scope w.for_loop k i m cur ≡ Failed faulted j → w.Ends kind j left faulted
+  stops : (k j : ℕ) (left faulted : Memory) (kind : StopKind) (count pc at : ℕ) → i + k ≤ w.limit → i ≤ j → j < i + k → iterations w.scope w.for_loop k i m cur ≡ Failed faulted j → w.Ends kind at j left faulted
       → ((k taken : ℕ) → draft_run w.draft (count + k) taken c s ≡ Stop kind pc at left (taken + count)) → ((n : ℕ) → n ≤ count → Spends w.breaks w.lanes w.unit i (j + ahead w.breaks) n (cuts w.draft n c s)) → InIterations w.unit i j count
       → Passing w c s i cur m
 
@@ -61,7 +61,7 @@ module _ (w : Rounds) (some : 0 < w.lanes) where
       (last_iterations w.unit i i leads.count a (omega arith) small (let f = leads.within in omega (arith, few, f)))
 
   pub stops_here : {c : List DraftEntry} {s : State} {i : ℕ} {cur : Names} {m left : Memory} {kind : StopKind} {most : ℕ} (a k j : ℕ) (faulted : Memory) → (stop : Stops w.draft c s kind left most) → most ≤ w.unit * a → a ≤ spare w.breaks + ahead w.breaks → a ≤ 2
-      → i + k ≤ w.limit → i ≤ j → j < i + k → iterations w.scope w.for_loop k i m cur ≡ Failed faulted j → w.Ends kind j left faulted → Passing w c s i cur m
+      → i + k ≤ w.limit → i ≤ j → j < i + k → iterations w.scope w.for_loop k i m cur ≡ Failed faulted j → w.Ends kind stop.at j left faulted → Passing w c s i cur m
   stops_here {c = c} {s = s} {i = i} {left = left} {kind = kind} a k j faulted stop few spares small le lo hi fails ends =
       stops k j left faulted kind stop.count stop.pc stop.at le lo hi fails ends stop.by
       (λ n below. in_stop w.breaks w.lanes w.unit i j n (cuts w.draft n c s) a some lo spares (let f = stop.within in omega (arith, below, few, f)))

@@ -83,10 +83,10 @@ module _ (g : Ground) (ground : IsGround g) (breaks_loop : list_any is_loop_brea
     abbrev Later : ℕ → Type 0
     Later fuel = (i : ℕ) (cur : Names) (m : Memory) (sum : List ℕ → ℕ → ℤ) (s : State) → limit g < i + fuel → AtHead g i cur m sum s → i < limit g → IsTop (width g) (lanes_at g i) (p_at s 0) → Runs head i cur m s
 
-    by_pass : (fuel i : ℕ) (cur : Names) (m : Memory) (s : State) → limit g < i + suc fuel → i < limit g → Later fuel → Passes (λ iteration_end cut. ⊥) g (lanes_at g i) i cur m d head s after most → Runs head i cur m s
+    by_pass : (fuel i : ℕ) (cur : Names) (m : Memory) (s : State) → limit g < i + suc fuel → i < limit g → Later fuel → Passes (λ iteration_end cut here. ⊥) g (lanes_at g i) i cur m d head s after most → Runs head i cur m s
     by_pass fuel i cur m s less lt ih (stops k j left faulted kind le fails lo hi access kept stop) =
         let f = plain_fits g ground breaks_loop in
-        stops_here (loop_of g false d rest) (has_lanes g ground) 1 k j faulted stop (omega (arith, f)) (omega arith) (omega arith) (omega (arith, lt, le)) lo hi fails (stop_of g i k j left faulted kind (omega (arith, le)) (omega (arith, lt, le)) lo hi access kept)
+        stops_here (loop_of g false d rest) (has_lanes g ground) 1 k j faulted stop.stop (omega (arith, f)) (omega arith) (omega arith) (omega (arith, lt, le)) lo hi fails (stop_of g i k j left faulted kind (omega (arith, le)) (omega (arith, lt, le)) lo hi access kept stop.near)
     by_pass fuel i cur m s less lt ih (comes k now names sum end le goes lead why h top held_index) =
         ⊎_elim more over (cases_lt (i + k) (limit g))
       where
@@ -147,10 +147,10 @@ module _ (g : Ground) (ground : IsGround g) (breaks_loop : list_any is_loop_brea
         → AtHead g (i + most_lanes g) names now sum end → IsTop (width g) (most_lanes g) (p_at end 0) → Whole i cur m s es
     whole_stops : Runs (puts words es) i cur m s → Whole i cur m s es
 
-  whole_of : (i : ℕ) (cur : Names) (m : Memory) (s : State) (es : List DraftEntry) → i + most_lanes g ≤ limit g → Passes (λ iteration_end cut. ⊥) g (lanes_at g i) i cur m d (puts words es) s es most → Whole i cur m s es
+  whole_of : (i : ℕ) (cur : Names) (m : Memory) (s : State) (es : List DraftEntry) → i + most_lanes g ≤ limit g → Passes (λ iteration_end cut here. ⊥) g (lanes_at g i) i cur m d (puts words es) s es most → Whole i cur m s es
   whole_of i cur m s es room (stops k j left faulted kind le fails lo hi access kept stop) =
       let f = plain_fits g ground breaks_loop in
-      whole_stops (stops_here (loop_of g false d rest) (has_lanes g ground) 1 k j faulted stop (omega (arith, f)) (omega arith) (omega arith) (omega (arith, room, le)) lo hi fails (stop_of g i k j left faulted kind (omega (arith, le)) (omega (arith, room, le)) lo hi access kept))
+      whole_stops (stops_here (loop_of g false d rest) (has_lanes g ground) 1 k j faulted stop.stop (omega (arith, f)) (omega arith) (omega arith) (omega (arith, room, le)) lo hi fails (stop_of g i k j left faulted kind (omega (arith, le)) (omega (arith, room, le)) lo hi access kept stop.near))
   whole_of i cur m s es room (comes k now names sum end le goes lead why h top held_index) =
       let e : k ≡ most_lanes g = ⊎_elim (λ part. absurd (why part)) (λ ge. omega (arith, ge, le, room)) (cases_lt k (lanes_at g i)) in
       whole_comes now names sum end (subst (λ k. iterations (var_scope g.kernel) g.for_loop k i m cur ≡ Going now names) e goes) lead (head_at (ap (λ k. i + k) e) h) (subst (λ k. IsTop (width g) k (p_at end 0)) e top)

@@ -20,11 +20,13 @@ use Rattle.vector_order.specs.Elsewhere.{Elsewhere}
 use Rattle.scalar_words.specs.KernelRegisters.{register_in}
 use Rattle.scalar_words.specs.Iterations.{AtIteration, Comes}
 use Rattle.chunk_emit.specs.Head.{Ground, IsGround, most_lanes, limit}
+use Rattle.chunk_emit.specs.StopPlaces.{SomeComesTo}
+use Rattle.chunk_pass.specs.Chunks.{items_of}
 use Rattle.vector_emit.specs.VectorCode.{vector_code}
 
--- A stop of a chunk of k lanes from iteration i on, where the scalar loop's fault is in the last one of bg iterations: no byte
--- differs but those of elements that these lanes store.
-pub record Near (g : Ground) (bg : ℕ) (left faulted : Memory) : Type 0 where
+-- A stop at an address in a chunk of k lanes from iteration i on, where the scalar loop's fault is in the last one of bg iterations:
+-- no byte differs but those of elements that these lanes store, and the address is of a byte that one of these iterations comes to.
+pub record Near (g : Ground) (bg : ℕ) (kind : StopKind) (at : ℕ) (left faulted : Memory) : Type 0 where
   pub i : ℕ
   pub k : ℕ
   pub few : k ≤ most_lanes g
@@ -32,13 +34,14 @@ pub record Near (g : Ground) (bg : ℕ) (left faulted : Memory) : Type 0 where
   pub from : i < bg
   pub until : bg ≤ i + k
   pub kept : (z : ℕ) → z < 2 ^ 64 → Elsewhere g.kernel g.args i k z → byte_at left z ≡ byte_at faulted z
+  pub comes : SomeComesTo g.names (items_of g) i k kind at
 
 -- Where the scalar loop ends, the code does with its memory and result; where it faults, the code stops at a read or a write.
 -- Each is within a pace, whose base counts the iterations that were begun, and within `most` words, whatever free elements are
 -- suppressed.
 pub data Follows (g : Ground) (d : Laid) (c : List DraftEntry) (s : State) (unit : ℕ) (base most : ℕ → ℕ) : Run → Type 0 where
   ends_so : {m : Memory} {r bg : ℕ} → (end : EndsPaced d c s m r unit (base bg)) → end.count ≤ most bg → Follows g d c s unit base most (End m r bg)
-  faults_so : {m : Memory} {bg : ℕ} (kind : StopKind) (left : Memory) → IsAccess kind → Near g bg left m → (stop : StopsPaced d c s kind left unit (base bg)) → stop.count ≤ most bg
+  faults_so : {m : Memory} {bg : ℕ} (kind : StopKind) (left : Memory) → IsAccess kind → (stop : StopsPaced d c s kind left unit (base bg)) → Near g bg kind stop.at left m → stop.count ≤ most bg
       → Follows g d c s unit base most (Fault m bg)
 
 -- the words before and after the passes, and of the end of the run

@@ -10,6 +10,7 @@ use Rattle.dependence.specs.declared.reason.Class.{Class}
 use Rattle.dependence.specs.declared.reason.Class.TheVariants.{Vector, Scalar}
 use Rattle.dependence.specs.declared.reason.Why.{Why}
 use Rattle.kernel_compile.proofs.SlowDrafts.{slow_is_close}
+use Rattle.kernel_compile.proofs.CountedWords.{scalar_counted}
 use Rattle.kernel_compile.proofs.compile.scalar_words.Goals as goal
 
 why_scalar : (o : Class) → is_vector o ≡ false → (why : Why) × (o ≡ Scalar why)
@@ -24,6 +25,9 @@ pub returns-clause-close : goal.returns-clause-close
 returns-clause-close c =
     let why = why_scalar (class_of (program c.args.kernel.now)) c.requires in
     c.scalar_files.ensures.close (program c.args.kernel.now) (file_of c.in_ok-words.words.items) why.0 why.1 c.in_ok-words.ensures.faithful
+
+pub returns-clause-counted : goal.returns-clause-counted
+returns-clause-counted c = let n = c.in_ok-words.ensures.counted in scalar_counted (program c.args.kernel.now) c.requires (length c.in_ok-words.words.items) n
 
 pub returns-clause-ends : goal.returns-clause-ends
 returns-clause-ends c =

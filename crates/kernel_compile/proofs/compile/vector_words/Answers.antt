@@ -13,6 +13,7 @@ use Rattle.machine_model.specs.Written.{file_of}
 use Rattle.dependence.specs.Classes.{class_of}
 use Rattle.promises.specs.Faithful.{FreeEnds, CloseFaithful}
 use Rattle.kernel_compile.specs.Drafted.{AreDrafted, FollowsClosely}
+use Rattle.kernel_compile.specs.Words.{close_words}
 use Rattle.kernel_compile.proofs.compile.vector_words.Goals as goal
 
 pub emit_vector_code-requires : goal.emit_vector_code-requires
@@ -30,6 +31,7 @@ returns-in_err-regs c =
       close = IfOk-from_err _ _ failed;
       ends = IfOk-from_err _ _ failed;
       short = IfOk-from_err _ _ failed;
+      counted = IfOk-from_err _ _ failed;
       reserved = IfOk-from_err _ _ failed;
       one_exit = IfOk-from_err _ _ failed;
       drafted = IfOk-from_err _ _ failed;
@@ -44,6 +46,7 @@ returns-in_err-facts c =
       close = IfOk-from_err _ _ failed;
       ends = IfOk-from_err _ _ failed;
       short = IfOk-from_err _ _ failed;
+      counted = IfOk-from_err _ _ failed;
       reserved = IfOk-from_err _ _ failed;
       one_exit = IfOk-from_err _ _ failed;
       drafted = IfOk-from_err _ _ failed;
@@ -58,6 +61,7 @@ returns-in_err-words c =
       close = IfOk-from_err _ _ failed;
       ends = IfOk-from_err _ _ failed;
       short = IfOk-from_err _ _ failed;
+      counted = IfOk-from_err _ _ failed;
       reserved = IfOk-from_err _ _ failed;
       one_exit = IfOk-from_err _ _ failed;
       drafted = IfOk-from_err _ _ failed;
@@ -70,6 +74,7 @@ returns c = record {
   close = subst (λ (kernel : Checked). CloseFaithful (program kernel) (file_of c.in_ok-words.words.items)) c.in_ok-facts.ensures c.in_ok-words.ensures.close;
   ends = subst (λ (kernel : Checked). FreeEnds (program kernel) (file_of c.in_ok-words.words.items)) c.in_ok-facts.ensures c.in_ok-words.ensures.ends;
   short = subst (λ (kernel : Checked). length c.in_ok-words.words.items ≤ 1000 + 60 * size_of (program kernel)) c.in_ok-facts.ensures c.in_ok-words.ensures.short;
+  counted = subst (λ (kernel : Checked). length c.in_ok-words.words.items ≤ close_words (program kernel)) c.in_ok-facts.ensures c.in_ok-words.ensures.counted;
   reserved = c.in_ok-words.ensures.reserved;
   one_exit = c.in_ok-words.ensures.one_exit;
   drafted = subst (λ (kernel : Checked). AreDrafted (FollowsClosely (program kernel)) c.in_ok-words.words.items) c.in_ok-facts.ensures c.in_ok-words.ensures.drafted;

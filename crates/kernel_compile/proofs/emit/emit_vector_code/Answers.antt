@@ -6,12 +6,14 @@ use Rattle.kernel_tree.specs.Typing.{check_fault}
 use Rattle.kernel_tree.proofs.Spelled.{few_params}
 use Rattle.loop_form.specs.View.{program}
 use Rattle.machine_model.specs.Written.{file_of}
+use Rattle.label_fix.specs.Finished.{size}
 use Rattle.label_fix.proofs.PlacedRuns.{words_length}
 use Rattle.overlap_guard.proofs.Bound.{few-arrays}
 use Rattle.scalar_words.specs.KernelRegisters.{register_in}
 use Rattle.promises.specs.OneExit.{HasOneExit}
 use Rattle.promises.specs.Reserved.{LeavesReserved}
 use Rattle.reserved_registers.specs.Alone.{AreAlone}
+use Rattle.kernel_compile.proofs.CountedWords.{whole_size}
 use Rattle.kernel_compile.proofs.ReservedWords.{lanes_alone}
 use Rattle.kernel_compile.proofs.VectorJoin.{IsJoined}
 use Rattle.kernel_compile.proofs.VectorFiles.{Promised, vector_file, vector_followed}
@@ -129,6 +131,14 @@ returns-clause-short c =
     let n = ap length c.in_ok-words.ensures.words in
     omega (arith, few, n, words_length c.emit_vector.new.draft.entries)
 
+pub returns-clause-counted : goal.returns-clause-counted
+returns-clause-counted c =
+    let k = program c.args.facts.now.kernel.now in
+    let same = ap size (is_whole (drafts c)).all in
+    let few = whole_size (register_in c.args.regs.now.x) k c.args.regs.now.z c.args.regs.now.p c.branch-draft.new.self.labels c.place.new.self.labels c.guard.new.draft.labels c.requires.class in
+    let n = ap length c.in_ok-words.ensures.words in
+    omega (arith, same, few, n, words_length c.emit_vector.new.draft.entries)
+
 registers_are_joined : (c : goal.After-have_32_bits) → IsJoined (program c.args.facts.now.kernel.now) c.args.regs.now.z c.args.regs.now.p c.args.regs.now.x
 registers_are_joined c =
     let k = program c.args.facts.now.kernel.now in
@@ -193,39 +203,39 @@ returns-clause-drafted c =
 pub returns-in_err-vector : goal.returns-in_err-vector
 returns-in_err-vector c =
     let failed = c.from_residual.ensures.0 in
-    record { close = IfOk-from_err _ _ failed; ends = IfOk-from_err _ _ failed; short = IfOk-from_err _ _ failed; reserved = IfOk-from_err _ _ failed; one_exit = IfOk-from_err _ _ failed; drafted = IfOk-from_err _ _ failed }
+    record { close = IfOk-from_err _ _ failed; ends = IfOk-from_err _ _ failed; short = IfOk-from_err _ _ failed; counted = IfOk-from_err _ _ failed; reserved = IfOk-from_err _ _ failed; one_exit = IfOk-from_err _ _ failed; drafted = IfOk-from_err _ _ failed }
 
 pub returns-in_err-emit_begin : goal.returns-in_err-emit_begin
 returns-in_err-emit_begin c =
     let failed = c.from_residual-in_err-emit_begin.ensures.0 in
-    record { close = IfOk-from_err _ _ failed; ends = IfOk-from_err _ _ failed; short = IfOk-from_err _ _ failed; reserved = IfOk-from_err _ _ failed; one_exit = IfOk-from_err _ _ failed; drafted = IfOk-from_err _ _ failed }
+    record { close = IfOk-from_err _ _ failed; ends = IfOk-from_err _ _ failed; short = IfOk-from_err _ _ failed; counted = IfOk-from_err _ _ failed; reserved = IfOk-from_err _ _ failed; one_exit = IfOk-from_err _ _ failed; drafted = IfOk-from_err _ _ failed }
 
 pub returns-in_err-branch : goal.returns-in_err-branch
 returns-in_err-branch c =
     let failed = c.from_residual-in_err-branch.ensures.0 in
-    record { close = IfOk-from_err _ _ failed; ends = IfOk-from_err _ _ failed; short = IfOk-from_err _ _ failed; reserved = IfOk-from_err _ _ failed; one_exit = IfOk-from_err _ _ failed; drafted = IfOk-from_err _ _ failed }
+    record { close = IfOk-from_err _ _ failed; ends = IfOk-from_err _ _ failed; short = IfOk-from_err _ _ failed; counted = IfOk-from_err _ _ failed; reserved = IfOk-from_err _ _ failed; one_exit = IfOk-from_err _ _ failed; drafted = IfOk-from_err _ _ failed }
 
 pub returns-in_err-scalar : goal.returns-in_err-scalar
 returns-in_err-scalar c =
     let failed = c.from_residual-in_err-scalar.ensures.0 in
-    record { close = IfOk-from_err _ _ failed; ends = IfOk-from_err _ _ failed; short = IfOk-from_err _ _ failed; reserved = IfOk-from_err _ _ failed; one_exit = IfOk-from_err _ _ failed; drafted = IfOk-from_err _ _ failed }
+    record { close = IfOk-from_err _ _ failed; ends = IfOk-from_err _ _ failed; short = IfOk-from_err _ _ failed; counted = IfOk-from_err _ _ failed; reserved = IfOk-from_err _ _ failed; one_exit = IfOk-from_err _ _ failed; drafted = IfOk-from_err _ _ failed }
 
 pub returns-in_err-place : goal.returns-in_err-place
 returns-in_err-place c =
     let failed = c.from_residual-in_err-place.ensures.0 in
-    record { close = IfOk-from_err _ _ failed; ends = IfOk-from_err _ _ failed; short = IfOk-from_err _ _ failed; reserved = IfOk-from_err _ _ failed; one_exit = IfOk-from_err _ _ failed; drafted = IfOk-from_err _ _ failed }
+    record { close = IfOk-from_err _ _ failed; ends = IfOk-from_err _ _ failed; short = IfOk-from_err _ _ failed; counted = IfOk-from_err _ _ failed; reserved = IfOk-from_err _ _ failed; one_exit = IfOk-from_err _ _ failed; drafted = IfOk-from_err _ _ failed }
 
 pub returns-in_err-guard : goal.returns-in_err-guard
 returns-in_err-guard c =
     let failed = c.from_residual-in_err-guard.ensures.0 in
-    record { close = IfOk-from_err _ _ failed; ends = IfOk-from_err _ _ failed; short = IfOk-from_err _ _ failed; reserved = IfOk-from_err _ _ failed; one_exit = IfOk-from_err _ _ failed; drafted = IfOk-from_err _ _ failed }
+    record { close = IfOk-from_err _ _ failed; ends = IfOk-from_err _ _ failed; short = IfOk-from_err _ _ failed; counted = IfOk-from_err _ _ failed; reserved = IfOk-from_err _ _ failed; one_exit = IfOk-from_err _ _ failed; drafted = IfOk-from_err _ _ failed }
 
 pub returns-in_err-emit_vector : goal.returns-in_err-emit_vector
 returns-in_err-emit_vector c =
     let failed = c.from_residual-in_err-emit_vector.ensures.0 in
-    record { close = IfOk-from_err _ _ failed; ends = IfOk-from_err _ _ failed; short = IfOk-from_err _ _ failed; reserved = IfOk-from_err _ _ failed; one_exit = IfOk-from_err _ _ failed; drafted = IfOk-from_err _ _ failed }
+    record { close = IfOk-from_err _ _ failed; ends = IfOk-from_err _ _ failed; short = IfOk-from_err _ _ failed; counted = IfOk-from_err _ _ failed; reserved = IfOk-from_err _ _ failed; one_exit = IfOk-from_err _ _ failed; drafted = IfOk-from_err _ _ failed }
 
 pub returns-in_err-words : goal.returns-in_err-words
 returns-in_err-words c =
     let failed = c.from_residual-in_err-words.ensures.0 in
-    record { close = IfOk-from_err _ _ failed; ends = IfOk-from_err _ _ failed; short = IfOk-from_err _ _ failed; reserved = IfOk-from_err _ _ failed; one_exit = IfOk-from_err _ _ failed; drafted = IfOk-from_err _ _ failed }
+    record { close = IfOk-from_err _ _ failed; ends = IfOk-from_err _ _ failed; short = IfOk-from_err _ _ failed; counted = IfOk-from_err _ _ failed; reserved = IfOk-from_err _ _ failed; one_exit = IfOk-from_err _ _ failed; drafted = IfOk-from_err _ _ failed }
