@@ -10,6 +10,7 @@ use Rattle.loop_form.specs.Needs.{needs_of}
 use Rattle.promises.specs.declared.fault.CompileFault.{CompileFault}
 use Rattle.promises.specs.declared.fault.CompileFault.TheVariants as compiling
 use Rattle.promises.specs.Faithful.{FreeFaithful, FreeEnds, CloseFaithful}
+use Rattle.promises.specs.OneExit.{HasOneExit}
 use Rattle.promises.specs.Refusals.{too_many, need_in}
 use Rattle.promises.specs.Reserved.{LeavesReserved}
 use Rattle.refusals.specs.declared.refusal.Refusal.{Refusal}
@@ -43,12 +44,13 @@ of_compile (compiling.TooManyLive class need) = TooManyLive class need
 of_compile compiling.Memory = NoMemory
 
 -- The file has one segment, from 0x400000 on, of its headers and of at most so many words, each of which leaves X18, X29, X30 and SP
--- alone.
+-- alone. One of them is an exit call, and no other calls the system.
 pub record HasWords (most : ℕ) (file : List ℕ) : Type 0 where
   pub words : List ℕ
   pub few : length words ≤ most
   pub file_is : file ≡ file_of_words words
   pub reserved : All LeavesReserved words
+  pub one_exit : HasOneExit words
 
 -- The text is that of a sound kernel, and the file is faithful to it, whatever stop list a machine has: within the bound that counts
 -- chunks and the free elements that are suppressed, within the close one, and within the one that counts iterations alone.

@@ -24,8 +24,8 @@ use promises::CompileFault;
 use refusals::refusal::{Done, Refusal};
 use std::alloc::Global;
 
-// The refusal that a fault of the compiler is.
-fn of_compile(fault: CompileFault) -> Refusal
+/// The refusal that a fault of the compiler is.
+pub fn of_compile(fault: CompileFault) -> Refusal
     ensures { result ≡ of_compile fault }
 {
     match fault {

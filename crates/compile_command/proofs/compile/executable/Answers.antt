@@ -40,4 +40,5 @@ returns-clause-code c = record {
   few = c.in-Ok.ensures.short;
   file_is = c.in_ok-file.ensures.file ∙ ap file_of c.deref.ensures.value;
   reserved = c.in-Ok.ensures.reserved;
+  one_exit = c.in-Ok.ensures.one_exit;
 }
