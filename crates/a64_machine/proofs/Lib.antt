@@ -3,3 +3,5 @@ pub mod AddressForms
 pub mod Examples
 mod Replacing
 mod Nothing
+mod FlagCases
+mod AfterCompare

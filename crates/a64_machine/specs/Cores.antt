@@ -8,7 +8,10 @@ use Rattle.a64_code.specs.declared.A64.TheVariants.{Umov}
 use Rattle.machine_model.specs.Machine.{State}
 use Rattle.machine_model.specs.declared.outcome.Step.{Step}
 use Rattle.machine_model.specs.declared.outcome.Step.TheVariants.{Went, Ended, Stopped}
+use Rattle.machine_model.specs.Arithmetic.{flags_of}
 use Rattle.a64_machine.specs.declared.core_state.Core.{Core}
+use Rattle.a64_machine.specs.declared.core_state.FlagState.{FlagState}
+use Rattle.a64_machine.specs.declared.core_state.FlagState.TheVariants.{Bits, Compared}
 
 -- the parts of the state that A64 instructions leave alone
 pub record VectorState : Type 0 where
@@ -26,13 +29,18 @@ is_set number k = nat_eq (number / 2 ^ k % 2) 1
 abbrev pub flags_in : ℕ → Flags
 flags_in number = record { n = is_set number 3; z = is_set number 2; c = is_set number 1; v = is_set number 0 }
 
+-- the flags that are kept so
+abbrev pub flags_kept : FlagState → Flags
+flags_kept (Bits number) = flags_in number
+flags_kept (Compared left right) = flags_of left right
+
 abbrev pub state_of : Core → Memory → VectorState → State
 state_of core memory rest = record {
   memory = memory;
   pc = core.pc;
   x = core.x;
   sp = core.sp;
-  flags = flags_in core.nzcv;
+  flags = flags_kept core.nzcv;
   z = rest.z;
   p = rest.p;
   ffr = rest.ffr;

@@ -1,5 +1,5 @@
 -- What a prepared instruction does.
-use Rattle.std.specs.Prelude.{◌≡◌, ℕ, ◌*◌, ◌%◌, ◌^◌, not, nat_eq, bit_and, bit_or, bit_xor}
+use Rattle.std.specs.Prelude.{◌≡◌, ℕ, Option, Some, None, ◌*◌, ◌%◌, ◌^◌, not, nat_eq, bit_and, bit_or, bit_xor}
 use Rattle.guest_types.specs.Elements.{nzcv}
 use Rattle.a64_code.specs.View.{instruction_view}
 use Rattle.a64_code.specs.declared.A64.{A64}
@@ -15,7 +15,7 @@ use Rattle.machine_model.specs.OneStep.{does}
 use Rattle.a64_machine.specs.Cores.{is_set}
 use Rattle.a64_machine.specs.Accesses.{byte_access, access}
 use Rattle.a64_machine.specs.declared.prepared_form.Prepared.{Prepared}
-use Rattle.a64_machine.specs.declared.prepared_form.Prepared.TheVariants.{AddNumber, LessNumber, CompareNumber, Add, Subtract, Compare, Logical, Field, MultiplyAdd, Constant, Jump, JumpWhere, JumpAtZero, JumpElse, ByteAtRegister, ByteAtNumber, WideAtRegister, WideAtNumber}
+use Rattle.a64_machine.specs.declared.prepared_form.Prepared.TheVariants.{AddNumber, LessNumber, CompareNumber, Add, Subtract, Compare, Logical, Field, MultiplyAdd, Constant, Jump, JumpWhere, JumpAtZero, JumpElse, LessNumberJump, CompareNumberJump, CompareJump, ByteAtRegister, ByteAtNumber, WideAtRegister, WideAtNumber}
 
 abbrev pub logical : LogicalOp → ℕ → ℕ → ℕ
 logical logical_ops.And a b = bit_and a b
@@ -43,32 +43,29 @@ prepared_does (Jump place) s = Went (jump s place)
 prepared_does (JumpWhere taken place) s = jump_if (is_set taken (nzcv s.flags)) s place
 prepared_does (JumpAtZero rt place) s = jump_if (nat_eq (x_at s rt.number) 0) s place
 prepared_does (JumpElse rt place) s = jump_if (not (nat_eq (x_at s rt.number) 0)) s place
+prepared_does (LessNumberJump taken rd rn number place) s = write_with_flags s rd.number (x_at s rn.number) number
+prepared_does (CompareNumberJump taken rn number place) s = write_with_flags s 31 (x_at s rn.number) number
+prepared_does (CompareJump taken rn rm by place) s = write_with_flags s 31 (x_at s rn.number) (shifted_word 0 (x_at s rm.number) by.number)
 prepared_does (ByteAtRegister op rt rn rm) s = byte_access op s rt.number (sum (x_at s rn.number) (x_at s rm.number))
 prepared_does (ByteAtNumber op rt rn number) s = byte_access op s rt.number (sum (x_at s rn.number) number)
 prepared_does (WideAtRegister op rt rn rm by) s = access op s rt.number (sum (x_at s rn.number) (x_at s rm.number * 2 ^ by.number % 2 ^ 64))
 prepared_does (WideAtNumber op rt rn number) s = access op s rt.number (sum (x_at s rn.number) number)
 
+-- the branch of the word after it, where that may be done with it
+abbrev pub branch_after : Prepared → Option Prepared
+branch_after (LessNumberJump taken rd rn number place) = Some (JumpWhere taken place)
+branch_after (CompareNumberJump taken rn number place) = Some (JumpWhere taken place)
+branch_after (CompareJump taken rn rm by place) = Some (JumpWhere taken place)
+branch_after _ = None
+
+-- a prepared instruction and the branch after it go on, one after the other
+pub record BothGo (prepared : Prepared) (before after : State) : Type 0 where
+  pub branch : Prepared
+  pub is : branch_after prepared ≡ Some branch
+  pub middle : State
+  pub first : prepared_does prepared before ≡ Went middle
+  pub second : prepared_does branch middle ≡ Went after
+
 -- at this place a prepared instruction does what the instruction does
 abbrev pub IsReady : A64 → (pc : ℕ) → Prepared → Type 0
 IsReady word pc prepared = (s : State) → s.pc ≡ pc → does (Scalar (instruction_view word)) s ≡ prepared_does prepared s
-
--- it is no load and no store
-abbrev pub IsOnGeneral : Prepared → Type 0
-IsOnGeneral (AddNumber a b c) = Unit {0}
-IsOnGeneral (LessNumber a b c) = Unit {0}
-IsOnGeneral (CompareNumber a b) = Unit {0}
-IsOnGeneral (Add a b c d) = Unit {0}
-IsOnGeneral (Subtract a b c d) = Unit {0}
-IsOnGeneral (Compare a b c) = Unit {0}
-IsOnGeneral (Logical a b c d e) = Unit {0}
-IsOnGeneral (Field a b c d e) = Unit {0}
-IsOnGeneral (MultiplyAdd a b c d) = Unit {0}
-IsOnGeneral (Constant a b) = Unit {0}
-IsOnGeneral (Jump a) = Unit {0}
-IsOnGeneral (JumpWhere a b) = Unit {0}
-IsOnGeneral (JumpAtZero a b) = Unit {0}
-IsOnGeneral (JumpElse a b) = Unit {0}
-IsOnGeneral (ByteAtRegister a b c d) = ⊥
-IsOnGeneral (ByteAtNumber a b c d) = ⊥
-IsOnGeneral (WideAtRegister a b c d e) = ⊥
-IsOnGeneral (WideAtNumber a b c d) = ⊥

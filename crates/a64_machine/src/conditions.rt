@@ -4,8 +4,9 @@ ghost use Rattle.std.specs.Prelude.{◌≡◌, ◌<◌, ◌^◌};
 ghost use Rattle.guest_types.specs.Elements.{Flags, nzcv};
 ghost use Rattle.a64_code.specs.View.{cond_number};
 ghost use Rattle.machine_model.specs.Arithmetic.{flags_of, holds};
-ghost use Rattle.a64_machine.specs.Cores.{flags_in, is_set};
+ghost use Rattle.a64_machine.specs.Cores.{flags_in, flags_kept, is_set};
 
+use crate::core_state::FlagState;
 use a64_code::Cond;
 
 /// The flags as the lowest four bits of a number.
@@ -109,4 +110,43 @@ pub fn is_in(number: u16, bit: u8) -> bool
     ensures { result ≡ is_set number bit }
 {
     (number >> bit) & 1 == 1
+}
+
+/// Whether a bit of a number of 16 bits is 1 that the flags of one number less another are as a number. Four conditions are
+/// told from the numbers alone.
+#[inline(always)]
+pub fn is_after(left: u64, right: u64, among: u16) -> bool
+    ensures { result ≡ is_set among (nzcv (flags_of left right)) }
+{
+    match among {
+        0x0f0f => left != right,
+        0xf0f0 => left == right,
+        0x3333 => left < right,
+        0xcccc => left >= right,
+        _ => is_in(among, flag_bits(flags_of(left, right))),
+    }
+}
+
+impl FlagState {
+    /// The flags as the lowest four bits of a number.
+    #[inline(always)]
+    pub fn bits(self) -> u8
+        ensures { flags_in result ≡ flags_kept self }
+    {
+        match self {
+            FlagState::Bits(number) => number,
+            FlagState::Compared { left, right } => flags_of(left, right),
+        }
+    }
+
+    /// Whether bit k of a number of 16 bits is 1 where the flags are the number k.
+    #[inline(always)]
+    pub fn is_among(self, among: u16) -> bool
+        ensures { result ≡ is_set among (nzcv (flags_kept self)) }
+    {
+        match self {
+            FlagState::Bits(number) => is_in(among, flag_bits(number)),
+            FlagState::Compared { left, right } => is_after(left, right, among),
+        }
+    }
 }

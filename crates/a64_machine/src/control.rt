@@ -33,7 +33,7 @@ pub fn branch_conditional(core: &mut Core, cond: Cond, imm19: Bits<19>)
         act b_cond (cond_number cond ∷ imm19.number ∷ []) (state_of core.old memory rest)
         ≡ Went (state_of core.new memory rest) }
 {
-    let taken = holds(cond, core.nzcv);
+    let taken = holds(cond, core.nzcv.bits());
     let place = target(core.pc, 19, imm19.number);
     jump_if(core, taken, place);
 }

@@ -177,7 +177,7 @@ pub fn conditional_select(core: &mut Core, op: SelectOp, rd: Reg, rn: Reg, cond:
         act (select_name op) (rd.number ∷ rn.number ∷ cond_number cond ∷ rm.number ∷ []) (state_of core.old memory rest)
         ≡ Went (state_of core.new memory rest) }
 {
-    let chosen = holds(cond, core.nzcv);
+    let chosen = holds(cond, core.nzcv.bits());
     let yes = core.register(rn);
     let no = core.register(rm);
     match op {

@@ -21,9 +21,9 @@ mod writes;
 
 pub use accesses::refused;
 pub use conditions::flag_bits;
-pub use core_state::Core;
+pub use core_state::{Core, FlagState};
 pub use laws::flags_are_kept;
 pub use one_step::{a64_goes, a64_step};
 pub use prepared_form::{General, Prepared};
 pub use prepared_step::prepared_goes;
-pub use preparing::prepare;
+pub use preparing::{prepare, with_branch};

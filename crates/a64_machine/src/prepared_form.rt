@@ -100,6 +100,29 @@ pub enum Prepared {
         rt: General,
         place: u64,
     },
+    /// Rn less a number, and the flags, before a branch by them.
+    LessNumberJump {
+        taken: u16,
+        rd: General,
+        rn: General,
+        number: u32,
+        place: u64,
+    },
+    /// The flags of Rn less a number, before a branch by them.
+    CompareNumberJump {
+        taken: u16,
+        rn: General,
+        number: u32,
+        place: u64,
+    },
+    /// The flags of Rn less Rm shifted left, before a branch by them.
+    CompareJump {
+        taken: u16,
+        rn: General,
+        rm: General,
+        by: Bits<6>,
+        place: u64,
+    },
     /// A load or a store of one byte, at Rn plus Rm.
     ByteAtRegister {
         op: LoadStoreByteOp,

@@ -1,30 +1,22 @@
 //! One prepared instruction.
 
-ghost use Rattle.std.specs.Prelude.{◌≡◌, ◌+◌, ◌%◌, ◌^◌, slice_set};
+ghost use Rattle.std.specs.Prelude.{◌≡◌, ◌≢◌, ◌+◌, ◌%◌, ◌^◌, true, slice_set};
 ghost use Rattle.guest_types.specs.Memory.{Memory};
 ghost use Rattle.machine_model.specs.Machine.{Went};
 ghost use Rattle.machine_model.specs.Answers.{IsAnswer};
 ghost use Rattle.a64_machine.specs.Cores.{VectorState, state_of, said};
-ghost use Rattle.a64_machine.specs.Prepared.{prepared_does, logical, field};
+ghost use Rattle.machine_model.specs.Arithmetic.{difference};
+ghost use Rattle.a64_machine.specs.Prepared.{prepared_does, BothGo, logical, field};
 
 use crate::at_once::{byte_at_once, wide_at_once};
 use crate::bit_fields::{signed_field, unsigned_field};
-use crate::conditions::{flag_bits, is_in};
-use crate::core_state::Core;
+use crate::core_state::{Core, FlagState};
 use crate::prepared_form::{General, Prepared};
 use crate::writes::{jump_if, write_with_flags};
 use a64_code::{BitfieldOp, LogicalOp, Reg};
 use machine_model::outcome::Step;
 use paged_memory::pages::Pages;
 use word_rows::Bits;
-
-/// Register 31, which takes no write.
-#[inline(always)]
-fn none() -> Reg
-    ensures { result.number ≡ 31 }
-{
-    Reg::new(31)
-}
 
 /// Writes a register, and goes on to the next word.
 #[inline(always)]
@@ -35,6 +27,28 @@ fn write_general(core: &mut Core, rd: General, value: u64)
     core.go_on();
 }
 
+/// Register 31, which takes no write.
+#[inline(always)]
+fn none() -> Reg
+    ensures { result.number ≡ 31 }
+{
+    Reg::new(31)
+}
+
+/// Writes a difference and its flags, and goes on to the next word.
+#[inline(always)]
+fn write_difference(core: &mut Core, rd: General, left: u64, right: u64)
+    ensures { core.new ≡ record core.old {
+      x = slice_set core.old.x rd.number (difference left right);
+      nzcv = FlagState.Compared left right;
+      pc = (core.old.pc + 4) % 2 ^ 64;
+    } }
+{
+    core.set_general(rd, left.wrapping_sub(right));
+    core.nzcv = FlagState::Compared { left, right };
+    core.go_on();
+}
+
 #[inline(always)]
 fn less_number(core: &mut Core, rd: General, rn: General, number: u64)
     ensures { (memory : Memory) (rest : VectorState) →
@@ -42,7 +56,7 @@ fn less_number(core: &mut Core, rd: General, rn: General, number: u64)
         ≡ Went (state_of core.new memory rest) }
 {
     let left = core.general(rn);
-    write_with_flags(core, rd.register(), left, number);
+    write_difference(core, rd, left, number);
 }
 
 #[inline(always)]
@@ -96,8 +110,24 @@ fn jump_where(core: &mut Core, taken: u16, place: u64)
         prepared_does (Prepared.JumpWhere taken place) (state_of core.old memory rest)
         ≡ Went (state_of core.new memory rest) }
 {
-    let is_taken = is_in(taken, flag_bits(core.nzcv));
+    let is_taken = core.nzcv.is_among(taken);
     jump_if(core, is_taken, place);
+}
+
+/// A branch by the flags, where one step more may be done.
+#[inline(always)]
+fn jump_too(core: &mut Core, taken: u16, place: u64, more: &mut u64)
+    ensures one { more.new ≡ more.old → core.new ≡ core.old }
+    ensures two { more.new ≢ more.old → (memory : Memory) (rest : VectorState) →
+        prepared_does (Prepared.JumpWhere taken place) (state_of core.old memory rest)
+        ≡ Went (state_of core.new memory rest) }
+    ensures fewer { more.new ≢ more.old → more.new + 1 ≡ more.old }
+{
+    if *more == 0 {
+        return;
+    }
+    *more -= 1;
+    jump_where(core, taken, place);
 }
 
 #[inline(always)]
@@ -172,18 +202,23 @@ fn multiply_add(core: &mut Core, rd: General, rn: General, ra: Reg, rm: General)
     write_general(core, rd, value)
 }
 
-/// One prepared instruction: whether it goes on. Where it does not, its answer is left in `answer`. `L` names the loop that
-/// takes the step: each has a copy of its own, since a function of this size is put into its caller only where it has one.
+/// One prepared instruction: whether it goes on. Where it does not, its answer is left in `answer`. A comparison goes on by the
+/// branch of the word after it, where it has one, if one step `more` may be done. `L` names the loop that takes the step: each
+/// has a copy of its own, since a function of this size is put into its caller only where it has one.
 #[inline(always)]
 pub fn prepared_goes<L>(
     core: &mut Core,
     pages: &mut Pages,
     prepared: &Prepared,
+    more: &mut u64,
     answer: &mut Step,
 ) -> bool
-    ensures answer { (rest : VectorState) → let before = state_of core.old pages.old.memory rest in
+    ensures answer { (rest : VectorState) → more.new ≡ more.old → let before = state_of core.old pages.old.memory rest in
         IsAnswer (prepared_does prepared.now before) (said result answer.new) before
         (state_of core.new pages.new.memory rest) }
+    ensures both { (rest : VectorState) → more.new ≢ more.old → (result ≡ true) × BothGo prepared.now
+        (state_of core.old pages.old.memory rest) (state_of core.new pages.new.memory rest) }
+    ensures fewer { more.new ≢ more.old → more.new + 1 ≡ more.old }
     ensures past { pages.new.past ≡ pages.old.past }
 {
     match *prepared {
@@ -209,6 +244,38 @@ pub fn prepared_goes<L>(
         }
         Prepared::LessNumber { rd, rn, number } => {
             less_number(core, rd, rn, number);
+            true
+        }
+        Prepared::LessNumberJump {
+            taken,
+            rd,
+            rn,
+            number,
+            place,
+        } => {
+            less_number(core, rd, rn, u64::from(number));
+            jump_too(core, taken, place, more);
+            true
+        }
+        Prepared::CompareNumberJump {
+            taken,
+            rn,
+            number,
+            place,
+        } => {
+            compare_number(core, rn, u64::from(number));
+            jump_too(core, taken, place, more);
+            true
+        }
+        Prepared::CompareJump {
+            taken,
+            rn,
+            rm,
+            by,
+            place,
+        } => {
+            compare(core, rn, rm, by);
+            jump_too(core, taken, place, more);
             true
         }
         Prepared::JumpWhere { taken, place } => {

@@ -1,7 +1,8 @@
 //! A64 instructions are made ready for the places of their words.
 
-ghost use Rattle.std.specs.Prelude.{◌≡◌, ℕ, IfSome, MatchOption};
-ghost use Rattle.a64_machine.specs.Prepared.{IsReady};
+ghost use Rattle.std.specs.Prelude.{◌≡◌, ℕ, Some, is_none, IfSome, MatchOption};
+ghost use Rattle.machine_model.specs.Machine.{State};
+ghost use Rattle.a64_machine.specs.Prepared.{IsReady, prepared_does, branch_after};
 
 use crate::arithmetic::{moved, target};
 use crate::conditions::holding;
@@ -263,4 +264,75 @@ pub fn prepare(word: A64, pc: u64) -> Option<Prepared>
         return Some(prepared);
     }
     branch(word, pc)
+}
+
+impl Prepared {
+    /// Whether it is done without a branch of the word after it.
+    pub fn is_alone(&self) -> bool
+        ensures { result ≡ is_none (branch_after self.now) }
+    {
+        match self {
+            Prepared::LessNumberJump { .. } => false,
+            Prepared::CompareNumberJump { .. } => false,
+            Prepared::CompareJump { .. } => false,
+            _ => true,
+        }
+    }
+}
+
+/// A number of 64 bits as one of 32, where it is one.
+fn short(number: u64) -> Option<u32>
+    ensures { IfSome result (λ low. low ≡ number) }
+{
+    if number < 1 << 32 {
+        return Some(number as u32);
+    }
+    None
+}
+
+/// A comparison before a branch by the flags.
+fn before_jump(first: Prepared, taken: u16, place: u64) -> Option<Prepared>
+    ensures first { IfSome result (λ both. (s : State) → prepared_does both s ≡ prepared_does first s) }
+    ensures branch { IfSome result (λ both. branch_after both ≡ Some (Prepared.JumpWhere taken place)) }
+{
+    match first {
+        Prepared::LessNumber { rd, rn, number } => match short(number) {
+            Some(number) => Some(Prepared::LessNumberJump {
+                taken,
+                rd,
+                rn,
+                number,
+                place,
+            }),
+            None => None,
+        },
+        Prepared::CompareNumber { rn, number } => match short(number) {
+            Some(number) => Some(Prepared::CompareNumberJump {
+                taken,
+                rn,
+                number,
+                place,
+            }),
+            None => None,
+        },
+        Prepared::Compare { rn, rm, by } => Some(Prepared::CompareJump {
+            taken,
+            rn,
+            rm,
+            by,
+            place,
+        }),
+        _ => None,
+    }
+}
+
+/// A comparison with the branch by the flags of the word after it.
+pub fn with_branch(first: Prepared, branch: Prepared) -> Option<Prepared>
+    ensures first { IfSome result (λ both. (s : State) → prepared_does both s ≡ prepared_does first s) }
+    ensures branch { IfSome result (λ both. branch_after both ≡ Some branch) }
+{
+    match branch {
+        Prepared::JumpWhere { taken, place } => before_jump(first, taken, place),
+        _ => None,
+    }
 }

@@ -4,10 +4,9 @@ ghost use Rattle.std.specs.Prelude.{◌≡◌, ◌+◌, ◌%◌, ◌^◌, slice_
 ghost use Rattle.guest_types.specs.Memory.{Memory};
 ghost use Rattle.machine_model.specs.Arithmetic.{difference, flags_of};
 ghost use Rattle.machine_model.specs.Machine.{with_x_or_sp, next, jump};
-ghost use Rattle.a64_machine.specs.Cores.{VectorState, state_of, flags_in};
+ghost use Rattle.a64_machine.specs.Cores.{VectorState, state_of, flags_kept};
 
-use crate::conditions::flags_of;
-use crate::core_state::Core;
+use crate::core_state::{Core, FlagState};
 use a64_code::Reg;
 
 /// Writes a register, and goes on to the next word.
@@ -32,7 +31,7 @@ pub fn write_or_sp(core: &mut Core, rd: Reg, value: u64)
 /// Writes a difference and its flags, and goes on to the next word.
 #[inline(always)]
 pub fn write_with_flags(core: &mut Core, rd: Reg, left: u64, right: u64)
-    ensures flags { flags_in core.new.nzcv ≡ flags_of left right }
+    ensures flags { flags_kept core.new.nzcv ≡ flags_of left right }
     ensures value { core.new ≡ record core.old {
       x = slice_set core.old.x rd.number (difference left right);
       pc = (core.old.pc + 4) % 2 ^ 64;
@@ -40,7 +39,7 @@ pub fn write_with_flags(core: &mut Core, rd: Reg, left: u64, right: u64)
     } }
 {
     core.set_register(rd, left.wrapping_sub(right));
-    core.nzcv = flags_of(left, right);
+    core.nzcv = FlagState::Compared { left, right };
     core.go_on();
 }
 

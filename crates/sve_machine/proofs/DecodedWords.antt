@@ -1,6 +1,6 @@
 -- What is kept of words that were decoded stays right.
-use Rattle.std.proofs.Common.{◌≡◌, ℕ, ◌^◌, ◌<◌, ◌/◌, ◌%◌, Bool, true, false, List, get_or, length, Option, Some, None, refl, sym, ap, ap₂, ◌∙◌, subst, arith}
-use Rattle.std.specs.Prelude.{All, replicate, slice_set, IsTrue}
+use Rattle.std.proofs.Common.{◌≡◌, ℕ, ◌+◌, ◌^◌, ◌<◌, ◌/◌, ◌%◌, Bool, true, false, List, get_or, length, Option, Some, None, refl, sym, ap, ap₂, ◌∙◌, subst, arith}
+use Rattle.std.specs.Prelude.{All, IfSome, replicate, slice_set, IsTrue, is_none}
 use Rattle.std.proofs.lemmas.List.{get_or-set_same}
 use Rattle.std.proofs.lemmas.List.Elements.{All-replicate}
 use Rattle.guest_types.specs.Memory.{Memory, fetched}
@@ -9,17 +9,21 @@ use Rattle.machine_model.specs.declared.outcome.Step.TheVariants as answers
 use Rattle.machine_model.specs.declared.outcome.StopKind.{StopKind}
 use Rattle.machine_model.specs.declared.outcome.StopKind.TheVariants.{Fetch, Undefined}
 use Rattle.machine_model.specs.InstructionTable.{Listed}
-use Rattle.machine_model.specs.Machine.{State, Step, Stopped, memory_after}
+use Rattle.machine_model.specs.Machine.{State, Step, Went, Ended, Stopped, memory_after}
 use Rattle.machine_model.specs.OneStep.{step, does, do_word, reads_word}
 use Rattle.machine_model.specs.Answers.{IsAnswer}
 use Rattle.machine_model.proofs.MemoryStays.{step_code}
 use Rattle.a64_machine.specs.Cores.{said}
+use Rattle.a64_machine.specs.Prepared.{prepared_does, branch_after}
+use Rattle.a64_machine.specs.declared.prepared_form.Prepared.{Prepared}
+use Rattle.a64_machine.specs.declared.prepared_form.Prepared.TheVariants.{LessNumberJump, CompareNumberJump, CompareJump}
 use Rattle.sve_machine.specs.declared.decoded.CacheEntry.{CacheEntry}
 use Rattle.sve_machine.specs.declared.decoded.Decoded.{Decoded}
-use Rattle.sve_machine.specs.declared.decoded.Decoded.TheVariants.{Nowhere}
+use Rattle.sve_machine.specs.declared.decoded.Decoded.TheVariants.{Nowhere, Ready, Scalar, Vector}
 use Rattle.sve_machine.specs.declared.instruction.Instruction.{Instruction}
 use Rattle.sve_machine.specs.Listing.{view_of}
-use Rattle.sve_machine.specs.DecodedWords.{IsDecodedFrom, Holds, decoded_does}
+use Rattle.sve_machine.specs.DecodedWords.{IsDecodedFrom, Holds, HoldsAfter, IsAlone, DecodedBothGo, decoded_does}
+use Rattle.sve_machine.specs.View.{TwoGo}
 
 -- the word of an instruction does what the instruction does
 pub word_does : (word : ℕ) (i : Listed) (s : State) → reads_word word ≡ Some i → do_word (Some word) s ≡ does i s
@@ -38,8 +42,14 @@ left_same s t o (answers.Stopped stop) e = ap (λ x. memory_after x s) (sym e.0)
 pub same_code : (s t : State) (r : StepAnswer) → IsAnswer (step s) r s t → (a : ℕ) → a < 2 ^ 64 → fetched t.memory a ≡ fetched s.memory a
 same_code s t r e a lt = ap (λ m. fetched m a) (left_same s t (step s) r e) ∙ step_code s a lt
 
+after_from_same_words : (m n : Memory) (pc : ℕ) (k : Decoded) → ((a : ℕ) → a < 2 ^ 64 → fetched n a ≡ fetched m a) → HoldsAfter m pc k → HoldsAfter n pc k
+after_from_same_words m n pc Nowhere same h = tt
+after_from_same_words m n pc (Ready p) same h = λ branch is s at. ap (λ w. do_word w s) (same ((pc + 4) % 2 ^ 64) (omega arith)) ∙ h branch is s at
+after_from_same_words m n pc (Scalar w) same h = tt
+after_from_same_words m n pc (Vector w) same h = tt
+
 decoded_from_same_words : (m n : Memory) (e : CacheEntry) → ((a : ℕ) → a < 2 ^ 64 → fetched n a ≡ fetched m a) → IsDecodedFrom m e → IsDecodedFrom n e
-decoded_from_same_words m n e same k = (k.0, λ s at. ap (λ w. do_word w s) (same e.place k.0) ∙ k.1 s at)
+decoded_from_same_words m n e same k = (k.0, (λ s at. ap (λ w. do_word w s) (same e.place k.0) ∙ k.1.0 s at, after_from_same_words m n e.place e.decoded same k.1.1))
 
 pub all_still : (m n : Memory) (es : List CacheEntry) → ((a : ℕ) → a < 2 ^ 64 → fetched n a ≡ fetched m a) → All (IsDecodedFrom m) es → All (IsDecodedFrom n) es
 all_still m n es same h k d l = decoded_from_same_words m n (get_or es k d) same (h k d l)
@@ -48,11 +58,11 @@ abbrev nothing : CacheEntry
 nothing = record { place = 1; decoded = Nowhere }
 
 pub none_decoded : (m : Memory) (n : ℕ) → All (IsDecodedFrom m) (replicate n nothing)
-none_decoded m n = All-replicate (IsDecodedFrom m) n nothing (omega arith, λ s at. refl)
+none_decoded m n = All-replicate (IsDecodedFrom m) n nothing (omega arith, (λ s at. refl, tt))
 
 -- a step does what an entry holds
 pub step_by : (s t : State) (r : StepAnswer) (decoded : List CacheEntry) (i : ℕ) (d : CacheEntry) → ((x : CacheEntry) → Holds s.memory s.pc (get_or decoded i x)) → IsAnswer (decoded_does (get_or decoded i d).decoded s) r s t → IsAnswer (step s) r s t
-step_by s t r decoded i d found h = subst (λ o. IsAnswer o r s t) (sym (found d s refl)) h
+step_by s t r decoded i d found h = subst (λ o. IsAnswer o r s t) (sym ((found d).0 s refl)) h
 
 -- ---- a word that is looked up
 
@@ -91,3 +101,59 @@ stops_nowhere decoded went answer s k w a =
 
 pub ready_as : (i form : Instruction) (pc : ℕ) (decoded : Decoded) → i ≡ form → ((s : State) → s.pc ≡ pc → does (view_of form) s ≡ decoded_does decoded s) → (s : State) → s.pc ≡ pc → does (view_of i) s ≡ decoded_does decoded s
 ready_as i form pc decoded e h = subst (λ i. (s : State) → s.pc ≡ pc → does (view_of i) s ≡ decoded_does decoded s) (sym e) h
+
+-- ---- a comparison with the branch after it
+
+abbrev pc_after : Step → ℕ
+pc_after (Went s) = s.pc
+pc_after (Ended result) = 0
+pc_after (Stopped kind pc at memory) = 0
+
+-- what stands where the first of both went on
+record Between (s m : State) : Type 0 where
+  pub pc : m.pc ≡ (s.pc + 4) % 2 ^ 64
+  pub memory : m.memory ≡ s.memory
+
+branch_reached : (p branch : Prepared) (s m : State) → branch_after p ≡ Some branch → prepared_does p s ≡ Went m → Between s m
+branch_reached (LessNumberJump taken rd rn number place) branch s m is h = record { pc = sym (ap pc_after h); memory = sym (ap (λ o. memory_after o s) h) }
+branch_reached (CompareNumberJump taken rn number place) branch s m is h = record { pc = sym (ap pc_after h); memory = sym (ap (λ o. memory_after o s) h) }
+branch_reached (CompareJump taken rn rm by place) branch s m is h = record { pc = sym (ap pc_after h); memory = sym (ap (λ o. memory_after o s) h) }
+branch_reached other branch s m is h = absurd cc
+
+both_go : (s t : State) (k : Decoded) → ((u : State) → u.pc ≡ s.pc → do_word (fetched s.memory s.pc) u ≡ decoded_does k u) → HoldsAfter s.memory s.pc k → DecodedBothGo k s t → TwoGo s t
+both_go s t Nowhere here after b = absurd b
+both_go s t (Ready p) here after b =
+    let g = branch_reached p b.branch s b.middle b.is b.first in
+    record {
+      middle = b.middle;
+      first = here s refl ∙ b.first;
+      second = ap₂ (λ m a. do_word (fetched m a) b.middle) g.memory g.pc ∙ after b.branch b.is b.middle g.pc ∙ b.second;
+    }
+both_go s t (Scalar w) here after b = absurd b
+both_go s t (Vector w) here after b = absurd b
+
+-- two steps do what an entry holds and the branch after it
+pub two_by : (s t : State) (decoded : List CacheEntry) (i : ℕ) (d : CacheEntry) → ((x : CacheEntry) → Holds s.memory s.pc (get_or decoded i x)) → DecodedBothGo (get_or decoded i d).decoded s t → TwoGo s t
+two_by s t decoded i d found b = both_go s t (get_or decoded i d).decoded (found d).0 (found d).1 b
+
+-- the words are the same after two steps
+pub same_code_after_two : (s t : State) → TwoGo s t → (a : ℕ) → a < 2 ^ 64 → fetched t.memory a ≡ fetched s.memory a
+same_code_after_two s t g a lt = same_code g.middle t answers.Went g.second a lt ∙ same_code s g.middle answers.Went g.first a lt
+
+pub both_as : (decoded : Decoded) (p : Prepared) (before after : State) → decoded ≡ Ready p → DecodedBothGo (Ready p) before after → DecodedBothGo decoded before after
+both_as decoded p before after e h = subst (λ k. DecodedBothGo k before after) (sym e) h
+
+pub after_alone : (memory : Memory) (pc : ℕ) (k : Decoded) → IsAlone k → HoldsAfter memory pc k
+after_alone memory pc Nowhere h = tt
+after_alone memory pc (Ready p) h = λ branch is s at. let none : None ≡ Some branch = sym h ∙ is in absurd cc
+after_alone memory pc (Scalar w) h = tt
+after_alone memory pc (Vector w) h = tt
+
+pub after_joined : (memory : Memory) (pc next : ℕ) (both : Prepared) (found : Option Prepared) → next ≡ (pc + 4) % 2 ^ 64 → ((b : Prepared) → branch_after both ≡ Some b → found ≡ Some b) → IfSome found (λ p. (s : State) → s.pc ≡ next → do_word (fetched memory next) s ≡ prepared_does p s) → HoldsAfter memory pc (Ready both)
+after_joined memory pc next both found e has does branch is s at =
+    ap (λ a. do_word (fetched memory a) s) (sym e)
+    ∙ subst (λ o. IfSome o (λ p. (u : State) → u.pc ≡ next → do_word (fetched memory next) u ≡ prepared_does p u)) (has branch is) does s (at ∙ sym e)
+
+pub none_by_test : (o : Option Prepared) (t : Bool) → t ≡ is_none o → t ≡ true → o ≡ None
+none_by_test None t e h = refl
+none_by_test (Some p) t e h = let no : true ≡ false = sym h ∙ e in absurd cc

@@ -30,7 +30,7 @@ use Rattle.machine_model.specs.VectorEffects.{do_vector}
 use Rattle.machine_model.specs.States.{IsPredicate}
 use Rattle.machine_model.proofs.StateSteps.{truths_made, fills}
 use Rattle.machine_model.proofs.StateLaws.{logic_whole, brk_whole, pred_test-ext}
-use Rattle.a64_machine.specs.Cores.{VectorState, state_of, flags_in}
+use Rattle.a64_machine.specs.Cores.{VectorState, state_of, flags_kept}
 use Rattle.a64_machine.specs.declared.core_state.Core.{Core}
 use Rattle.sve_machine.specs.VectorStates.{z_of, p_of, put_p, put_ffr}
 use Rattle.sve_machine.specs.Rows.{logic_op, logic_flags, is_after, count_width, comparison}
@@ -100,7 +100,7 @@ bits_active m p is e = byte_active m e ∙ ap (λ o. bit o e) is
 
 -- ---- the state that is left
 
-pub tested_left : (core core2 : Core) (r : VectorState) (flags : Flags) → core2 ≡ record core { nzcv = core2.nzcv } → flags_in core2.nzcv ≡ flags → (memory : Memory) → with_flags (state_of core memory r) flags ≡ state_of core2 memory r
+pub tested_left : (core core2 : Core) (r : VectorState) (flags : Flags) → core2 ≡ record core { nzcv = core2.nzcv } → flags_kept core2.nzcv ≡ flags → (memory : Memory) → with_flags (state_of core memory r) flags ≡ state_of core2 memory r
 tested_left core core2 r flags kept is memory =
     ap (λ f. with_flags (state_of core memory r) f) (sym is) ∙ sym (ap (λ k. state_of k memory r) kept)
 
@@ -111,7 +111,7 @@ x_left core core2 r d v kept memory = sym (ap (λ k. state_of k memory r) kept)
 pub p_row : (name : Name) (numbers : List ℕ) (r r2 : VectorState) (d : ℕ) (bits out : List ℕ) → ((core : Core) (memory : Memory) → do_vector (row_of name numbers) (state_of core memory r) ≡ Went (next (with_p (state_of core memory r) d bits))) → r2 ≡ put_p r d out → out ≡ bits → Leaves name numbers r r2
 p_row name numbers r r2 d bits out here e is core memory = here core memory ∙ ap (λ x. Went (next (state_of core memory x))) (sym (e ∙ ap (put_p r d) is))
 
-pub tested_row : (name : Name) (numbers : List ℕ) (core core2 : Core) (r r2 : VectorState) (d : ℕ) (bits out : List ℕ) (flags : Flags) → ((memory : Memory) → do_vector (row_of name numbers) (state_of core memory r) ≡ Went (next (with_flags (with_p (state_of core memory r) d bits) flags))) → r2 ≡ put_p r d out → out ≡ bits → core2 ≡ record core { nzcv = core2.nzcv } → flags_in core2.nzcv ≡ flags → CoreLeaves name numbers core r core2 r2
+pub tested_row : (name : Name) (numbers : List ℕ) (core core2 : Core) (r r2 : VectorState) (d : ℕ) (bits out : List ℕ) (flags : Flags) → ((memory : Memory) → do_vector (row_of name numbers) (state_of core memory r) ≡ Went (next (with_flags (with_p (state_of core memory r) d bits) flags))) → r2 ≡ put_p r d out → out ≡ bits → core2 ≡ record core { nzcv = core2.nzcv } → flags_kept core2.nzcv ≡ flags → CoreLeaves name numbers core r core2 r2
 tested_row name numbers core core2 r r2 d bits out flags here e is kept fl memory =
     let left : r2 ≡ put_p r d bits = e ∙ ap (put_p r d) is in
     here memory
@@ -136,7 +136,7 @@ true_row pd size r r2 w out ew e is =
 pub false_row : (pd : ℕ) (r r2 : VectorState) (out : List ℕ) → r2 ≡ put_p r pd out → out ≡ predicate 1 all_at 0 → Leaves pfalse (pd ∷ []) r r2
 false_row pd r r2 out e is = p_row pfalse (pd ∷ []) r r2 pd (predicate 1 all_at 0) out (λ core memory. refl) e is
 
-pub while_row : (pd rn rm size : ℕ) (core core2 : Core) (r r2 : VectorState) (w : Width) (from to : ℕ) (out : List ℕ) → w ≡ width_of_size size → from ≡ x_of core rn → to ≡ x_of core rm → out ≡ predicate (width_bytes w) (while_at from to) (lanes r.vl w) → r2 ≡ put_p r pd out → core2 ≡ record core { nzcv = core2.nzcv } → flags_in core2.nzcv ≡ pred_test all_at (while_at from to) (lanes r.vl w) → CoreLeaves whilelo (pd ∷ rn ∷ rm ∷ size ∷ []) core r core2 r2
+pub while_row : (pd rn rm size : ℕ) (core core2 : Core) (r r2 : VectorState) (w : Width) (from to : ℕ) (out : List ℕ) → w ≡ width_of_size size → from ≡ x_of core rn → to ≡ x_of core rm → out ≡ predicate (width_bytes w) (while_at from to) (lanes r.vl w) → r2 ≡ put_p r pd out → core2 ≡ record core { nzcv = core2.nzcv } → flags_kept core2.nzcv ≡ pred_test all_at (while_at from to) (lanes r.vl w) → CoreLeaves whilelo (pd ∷ rn ∷ rm ∷ size ∷ []) core r core2 r2
 while_row pd rn rm size core core2 r r2 w from to out ew ef et eo e kept fl =
     let v = width_of_size size in
     let f = while_at (x_of core rn) (x_of core rm) in
@@ -145,23 +145,23 @@ while_row pd rn rm size core core2 r r2 w from to out ew ef et eo e kept fl =
     tested_row whilelo (pd ∷ rn ∷ rm ∷ size ∷ []) core core2 r r2 pd (predicate (width_bytes v) f (lanes r.vl v)) out (pred_test all_at f (lanes r.vl v)) (λ memory. refl) e is kept
     (fl ∙ ap (λ a. pred_test all_at (while_at from to) (lanes r.vl a)) ew ∙ ap₂ (λ a b. pred_test all_at (while_at a b) (lanes r.vl v)) ef et)
 
-pub test_row : (pn pg : ℕ) (core core2 : Core) (r : VectorState) (m out : List ℕ) → m ≡ p_of r pg → out ≡ p_of r pn → core2 ≡ record core { nzcv = core2.nzcv } → flags_in core2.nzcv ≡ pred_test (active B m) (active B out) (lanes r.vl B) → CoreLeaves ptest (pn ∷ pg ∷ []) core r core2 r
+pub test_row : (pn pg : ℕ) (core core2 : Core) (r : VectorState) (m out : List ℕ) → m ≡ p_of r pg → out ≡ p_of r pn → core2 ≡ record core { nzcv = core2.nzcv } → flags_kept core2.nzcv ≡ pred_test (active B m) (active B out) (lanes r.vl B) → CoreLeaves ptest (pn ∷ pg ∷ []) core r core2 r
 test_row pn pg core core2 r m out em eo kept fl memory =
     let flags = pred_test (bit (p_of r pg)) (bit (p_of r pn)) (lanes r.vl B) in
     let is = fl ∙ pred_test-ext (active B m) (bit (p_of r pg)) (active B out) (bit (p_of r pn)) (lanes r.vl B) (λ e lt. bits_active m (p_of r pg) em e) (λ e lt. bits_active out (p_of r pn) eo e) in
     ap (λ (s : State). Went (next s)) (tested_left core core2 r flags kept is memory)
 
-logic_here : (op : PredicateLogicalOp) (pd pn pg pm : ℕ) (core : Core) (r : VectorState) (memory : Memory) → let f = logic_at (logic_op op) (p_of r pg) (p_of r pn) (p_of r pm) in do_vector (row_of (pred_logic_name op) (pd ∷ pn ∷ pg ∷ pm ∷ [])) (state_of core memory r) ≡ Went (next (with_flags (with_p (state_of core memory r) pd (predicate 1 f (lanes r.vl B))) (logic_flags op (flags_in core.nzcv) (pred_test (bit (p_of r pg)) f (lanes r.vl B)))))
+logic_here : (op : PredicateLogicalOp) (pd pn pg pm : ℕ) (core : Core) (r : VectorState) (memory : Memory) → let f = logic_at (logic_op op) (p_of r pg) (p_of r pn) (p_of r pm) in do_vector (row_of (pred_logic_name op) (pd ∷ pn ∷ pg ∷ pm ∷ [])) (state_of core memory r) ≡ Went (next (with_flags (with_p (state_of core memory r) pd (predicate 1 f (lanes r.vl B))) (logic_flags op (flags_kept core.nzcv) (pred_test (bit (p_of r pg)) f (lanes r.vl B)))))
 logic_here predicate_logical_ops.And pd pn pg pm core r memory = refl
 logic_here other pd pn pg pm core r memory = refl
 
-pub logic_row : (op : PredicateLogicalOp) (pd pn pg pm : ℕ) (core core2 : Core) (r r2 : VectorState) (o : PredOp) (m out : List ℕ) → IsLength r.vl → o ≡ logic_op op → m ≡ p_of r pg → IsTruths r B (logic_at o (p_of r pg) (p_of r pn) (p_of r pm)) out → r2 ≡ put_p r pd out → core2 ≡ record core { nzcv = core2.nzcv } → flags_in core2.nzcv ≡ logic_flags op (flags_in core.nzcv) (pred_test (active B m) (active B out) (lanes r.vl B)) → CoreLeaves (pred_logic_name op) (pd ∷ pn ∷ pg ∷ pm ∷ []) core r core2 r2
+pub logic_row : (op : PredicateLogicalOp) (pd pn pg pm : ℕ) (core core2 : Core) (r r2 : VectorState) (o : PredOp) (m out : List ℕ) → IsLength r.vl → o ≡ logic_op op → m ≡ p_of r pg → IsTruths r B (logic_at o (p_of r pg) (p_of r pn) (p_of r pm)) out → r2 ≡ put_p r pd out → core2 ≡ record core { nzcv = core2.nzcv } → flags_kept core2.nzcv ≡ logic_flags op (flags_kept core.nzcv) (pred_test (active B m) (active B out) (lanes r.vl B)) → CoreLeaves (pred_logic_name op) (pd ∷ pn ∷ pg ∷ pm ∷ []) core r core2 r2
 logic_row op pd pn pg pm core core2 r r2 o m out sized eo em truths e kept fl =
     let f = logic_at (logic_op op) (p_of r pg) (p_of r pn) (p_of r pm) in
     let is : out ≡ predicate 1 f (lanes r.vl B) = truths.is ∙ ap (λ a. predicate 1 (logic_at a (p_of r pg) (p_of r pn) (p_of r pm)) (lanes r.vl B)) eo in
-    tested_row (pred_logic_name op) (pd ∷ pn ∷ pg ∷ pm ∷ []) core core2 r r2 pd (predicate 1 f (lanes r.vl B)) out (logic_flags op (flags_in core.nzcv) (pred_test (bit (p_of r pg)) f (lanes r.vl B)))
+    tested_row (pred_logic_name op) (pd ∷ pn ∷ pg ∷ pm ∷ []) core core2 r r2 pd (predicate 1 f (lanes r.vl B)) out (logic_flags op (flags_kept core.nzcv) (pred_test (bit (p_of r pg)) f (lanes r.vl B)))
     (λ memory. logic_here op pd pn pg pm core r memory) e is kept
-    (fl ∙ ap (logic_flags op (flags_in core.nzcv)) (flags_are r.vl B (bit (p_of r pg)) f m out sized is (λ i lt. bits_active m (p_of r pg) em i)))
+    (fl ∙ ap (logic_flags op (flags_kept core.nzcv)) (flags_are r.vl B (bit (p_of r pg)) f m out sized is (λ i lt. bits_active m (p_of r pg) em i)))
 
 break_here : (op : BreakOp) (pd pn pg : ℕ) (r : VectorState) (core : Core) (memory : Memory) → do_vector (row_of (break_form_name op) (pd ∷ pn ∷ pg ∷ [])) (state_of core memory r) ≡ Went (next (with_p (state_of core memory r) pd (predicate 1 (brk_at (is_after op) (p_of r pg) (p_of r pn)) (lanes r.vl B))))
 break_here break_ops.Brka pd pn pg r core memory = refl
@@ -208,7 +208,7 @@ compare_here : (op : VectorCompareOp) (pd zn pg zm size : ℕ) (core : Core) (r 
 compare_here vector_compare_ops.Hs pd zn pg zm size core r memory = refl
 compare_here other pd zn pg zm size core r memory = refl
 
-pub compare_row : (op : VectorCompareOp) (pd zn pg zm size : ℕ) (core core2 : Core) (r r2 : VectorState) (o : LaneCompare) (w : Width) (m out : List ℕ) → IsLength r.vl → o ≡ comparison op → w ≡ width_of_size size → m ≡ p_of r pg → IsTruths r w (compare_at o w (p_of r pg) (z_of r zn) (z_of r zm)) out → r2 ≡ put_p r pd out → core2 ≡ record core { nzcv = core2.nzcv } → flags_in core2.nzcv ≡ pred_test (active w m) (active w out) (lanes r.vl w) → CoreLeaves (compare_name op) (pd ∷ zn ∷ pg ∷ zm ∷ size ∷ []) core r core2 r2
+pub compare_row : (op : VectorCompareOp) (pd zn pg zm size : ℕ) (core core2 : Core) (r r2 : VectorState) (o : LaneCompare) (w : Width) (m out : List ℕ) → IsLength r.vl → o ≡ comparison op → w ≡ width_of_size size → m ≡ p_of r pg → IsTruths r w (compare_at o w (p_of r pg) (z_of r zn) (z_of r zm)) out → r2 ≡ put_p r pd out → core2 ≡ record core { nzcv = core2.nzcv } → flags_kept core2.nzcv ≡ pred_test (active w m) (active w out) (lanes r.vl w) → CoreLeaves (compare_name op) (pd ∷ zn ∷ pg ∷ zm ∷ size ∷ []) core r core2 r2
 compare_row op pd zn pg zm size core core2 r r2 o w m out sized eo ew em truths e kept fl =
     let v = width_of_size size in
     let f = compare_at (comparison op) v (p_of r pg) (z_of r zn) (z_of r zm) in

@@ -1,5 +1,6 @@
 -- What some steps leave, one after another.
-use Rattle.std.proofs.Common.{◌≡◌, ℕ, ◌+◌, ◌-◌, ◌<◌, Bool, true, false, [], ◌∷◌, Option, Some, None, refl, sym, ap, ◌∙◌, subst, arith}
+use Rattle.std.proofs.Common.{◌≡◌, ℕ, ◌+◌, ◌-◌, ◌<◌, ◌≤◌, Bool, true, false, [], ◌∷◌, Option, Some, None, refl, sym, ap, ◌∙◌, subst, arith, ⊎_elim}
+use Rattle.std.proofs.lemmas.Bool.{both_ways, cases_eq}
 use Rattle.machine_model.specs.declared.outcome.Step.{Step as StepAnswer}
 use Rattle.machine_model.specs.declared.outcome.Step.TheVariants as answers
 use Rattle.machine_model.specs.declared.outcome.Stop.{Stop as StopAnswer}
@@ -8,7 +9,7 @@ use Rattle.machine_model.specs.OneStep.{step}
 use Rattle.machine_model.specs.Run.{End, Stop, Spent, run, after_steps}
 use Rattle.machine_model.specs.Answers.{IsAnswer}
 use Rattle.machine_model.specs.Debugged.{View, CameTo, ending_by}
-use Rattle.machine_model.proofs.Runs.{leads_after, comes_to}
+use Rattle.machine_model.proofs.Runs.{leads_after, comes_to, after_more}
 use Rattle.machine_model.specs.Debugged.{RunLeaves, is_never}
 use Rattle.machine_model.specs.declared.outcome.Ending.{Ending}
 use Rattle.machine_model.specs.declared.outcome.Ending.TheVariants as endings
@@ -18,7 +19,7 @@ use Rattle.machine_model.specs.Answers.{outcome_of}
 use Rattle.machine_model.proofs.Quiet.{step_quiet, steps_quiet}
 use Rattle.guest_types.specs.EarlyLoads.{StopList, Listed, Each, never}
 use Rattle.a64_machine.specs.Cores.{said}
-use Rattle.sve_machine.specs.View.{Leaves, Last, outcome_at}
+use Rattle.sve_machine.specs.View.{Leaves, Last, TwoGo, outcome_at}
 
 -- ---- the outcome of a run
 
@@ -86,6 +87,44 @@ said_on o went answer s t e h = subst (λ w. IsAnswer o (said w answer) s t) e h
 
 pub said_else : (o : Step) (went : Bool) (answer : StepAnswer) (s t : State) → went ≡ false → answer ≡ answers.Went → IsAnswer o (said went answer) s t → o ≡ Went t
 said_else o went answer s t e is h = subst (λ a. IsAnswer o a s t) is (subst (λ w. IsAnswer o (said w answer) s t) e h)
+
+-- ---- a step with which another may be done
+
+-- as many are left, or one less
+pub no_more_than : (p q : ℕ) → ((p ≡ q → ⊥) → p + 1 ≡ q) → p ≤ q
+no_more_than p q fewer = ⊎_elim (λ (same : p ≡ q). at_most same) (λ other. below (fewer other)) (cases_eq p q)
+  where
+    at_most : p ≡ q → p ≤ q
+    at_most e = omega (arith, e)
+
+    below : p + 1 ≡ q → p ≤ q
+    below e = omega (arith, e)
+
+pub not_even_one : (p : ℕ) → ((p ≡ 0 → ⊥) → p + 1 ≡ 0) → p ≡ 0
+not_even_one p fewer = ⊎_elim (λ (same : p ≡ 0). same) (λ other. none (fewer other)) (cases_eq p 0)
+  where
+    none : p + 1 ≡ 0 → p ≡ 0
+    none e = omega (arith, e)
+
+pub same_unless_gone : {X : Type 0} (p q : ℕ) (went : Bool) → ((p ≡ q → ⊥) → (went ≡ true) × X) → went ≡ false → p ≡ q
+same_unless_gone p q went both e = ⊎_elim (λ (same : p ≡ q). same) (λ other. absurd (both_ways went e (both other).0)) (cases_eq p q)
+
+-- some steps and one more, or two more
+pub more_steps : (steps left p : ℕ) (start s t : State) (went : Bool) (answer : StepAnswer) → 0 < left → left ≤ steps → went ≡ true → after_steps (steps - left) start ≡ Some s → (p ≡ left - 1 → IsAnswer (step s) (said went answer) s t) → ((p ≡ left - 1 → ⊥) → p + 1 ≡ left - 1) → ((p ≡ left - 1 → ⊥) → (went ≡ true) × TwoGo s t) → after_steps (steps - p) start ≡ Some t
+more_steps steps left p start s t went answer some few e h answered fewer both = ⊎_elim one two (cases_eq p (left - 1))
+  where
+    one : p ≡ left - 1 → after_steps (steps - p) start ≡ Some t
+    one same =
+        let counted : steps - left + 1 ≡ steps - p = omega (arith, some, few, same) in
+        subst (λ n. after_steps n start ≡ Some t) counted (after_more (steps - left) start s t h (said_on (step s) went answer s t e (answered same)))
+
+    two : (p ≡ left - 1 → ⊥) → after_steps (steps - p) start ≡ Some t
+    two other =
+        let less = fewer other in
+        let counted : steps - left + 1 + 1 ≡ steps - p = omega (arith, some, few, less) in
+        let go = (both other).1 in
+        subst (λ n. after_steps n start ≡ Some t) counted
+        (after_more (steps - left + 1) start go.middle t (after_more (steps - left) start s go.middle h go.first) go.second)
 
 -- the last of some steps, which came to this answer
 pub last_is : (a : StepAnswer) (steps done : ℕ) (start last after : State) (went : Bool) (answer : StepAnswer) → done < steps → after_steps done start ≡ Some last → went ≡ false → answer ≡ a → IsAnswer (step last) (said went answer) last after → Last a steps (done + 1) start after

@@ -6,7 +6,7 @@ use Rattle.machine_model.specs.declared.outcome.Step.{Step as StepAnswer}
 use Rattle.machine_model.specs.declared.outcome.Step.TheVariants as answers
 use Rattle.machine_model.specs.declared.outcome.Outcome.{Outcome as OutcomeAnswer}
 use Rattle.machine_model.specs.declared.outcome.Outcome.TheVariants as outcomes
-use Rattle.machine_model.specs.Machine.{State}
+use Rattle.machine_model.specs.Machine.{State, Went}
 use Rattle.machine_model.specs.OneStep.{step}
 use Rattle.machine_model.specs.Run.{after_steps}
 use Rattle.machine_model.specs.Answers.{IsAnswer}
@@ -31,6 +31,12 @@ pub record Last (answer : StepAnswer) (steps done : ℕ) (before after : State) 
   pub last : State
   pub state : after_steps went before ≡ Some last
   pub answered : IsAnswer (step last) answer last after
+
+-- two steps go on, one after the other
+pub record TwoGo (before after : State) : Type 0 where
+  pub middle : State
+  pub first : step before ≡ Went middle
+  pub second : step middle ≡ Went after
 
 -- what at most so many steps leave, of which `done` were done
 abbrev pub Leaves : StepAnswer → (steps done : ℕ) → (before after : State) → Type 0

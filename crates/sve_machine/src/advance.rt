@@ -1,11 +1,11 @@
 //! Steps of the machine, one after another.
 
-ghost use Rattle.std.specs.Prelude.{◌≡◌, ◌-◌, ◌≤◌, All};
+ghost use Rattle.std.specs.Prelude.{◌≡◌, ◌≢◌, ◌+◌, ◌-◌, ◌≤◌, All, true};
 ghost use Rattle.machine_model.specs.OneStep.{step};
 ghost use Rattle.machine_model.specs.Answers.{IsAnswer};
 ghost use Rattle.a64_machine.specs.Cores.{state_of, said};
-ghost use Rattle.sve_machine.specs.DecodedWords.{IsDecodedFrom, decoded_does, IsOther};
-ghost use Rattle.sve_machine.specs.View.{Leaves};
+ghost use Rattle.sve_machine.specs.DecodedWords.{IsDecodedFrom, decoded_does, DecodedBothGo, IsOther};
+ghost use Rattle.sve_machine.specs.View.{Leaves, TwoGo};
 
 use crate::decoded::{CacheEntry, Decoded};
 use crate::look_up::{look_up, stop};
@@ -40,28 +40,65 @@ fn execute_other(
     }
 }
 
-// What is done by what was decoded: whether the step goes on, or else its answer.
+// What is done by what was decoded: whether the step goes on, or else its answer. A comparison goes on by the branch after
+// it, if one step `more` may be done.
 #[inline(always)]
 fn execute<L>(
     core: &mut Core,
     pages: &mut Pages,
     vectors: &mut Vectors,
     decoded: &Decoded,
+    more: &mut u64,
     answer: &mut Step,
 ) -> bool
-    ensures answer { let before = state_of core.old pages.old.memory vectors.old in
+    ensures answer { more.new ≡ more.old → let before = state_of core.old pages.old.memory vectors.old in
         IsAnswer (decoded_does decoded.now before) (said result answer.new) before
         (state_of core.new pages.new.memory vectors.new) }
+    ensures both { more.new ≢ more.old → (result ≡ true) × DecodedBothGo decoded.now
+        (state_of core.old pages.old.memory vectors.old) (state_of core.new pages.new.memory vectors.new) }
+    ensures fewer { more.new ≢ more.old → more.new + 1 ≡ more.old }
     ensures past { pages.new.past ≡ pages.old.past }
 {
     match decoded {
-        Decoded::Ready(prepared) => prepared_goes::<L>(core, pages, prepared, answer),
+        Decoded::Ready(prepared) => prepared_goes::<L>(core, pages, prepared, more, answer),
         _ => execute_other(core, pages, vectors, decoded, answer),
     }
 }
 
-/// One step: whether it goes on, or else its answer, with the place of its instruction. An answer of many bytes that is
-/// handed back would be copied at each step. `L` names the loop that takes the step (`prepared_goes`).
+/// One step: whether it goes on, or else its answer, with the place of its instruction. Where it is a comparison before a
+/// branch, the branch is done with it if one step `more` may be done. An answer of many bytes that is handed back would be
+/// copied at each step. `L` names the loop that takes the step (`prepared_goes`).
+#[inline(always)]
+fn advance_more<L>(
+    core: &mut Core,
+    pages: &mut Pages,
+    vectors: &mut Vectors,
+    decoded: &mut [CacheEntry; 1024],
+    place: &mut u64,
+    more: &mut u64,
+    answer: &mut Step,
+) -> bool
+    requires decoded { All (IsDecodedFrom pages.old.memory) decoded.old }
+    ensures answer { more.new ≡ more.old → let before = state_of core.old pages.old.memory vectors.old in
+        IsAnswer (step before) (said result answer.new) before (state_of core.new pages.new.memory vectors.new) }
+    ensures both { more.new ≢ more.old → (result ≡ true) × TwoGo
+        (state_of core.old pages.old.memory vectors.old) (state_of core.new pages.new.memory vectors.new) }
+    ensures fewer { more.new ≢ more.old → more.new + 1 ≡ more.old }
+    ensures few { more.new ≤ more.old }
+    ensures decoded { All (IsDecodedFrom pages.new.memory) decoded.new }
+    ensures place { place.new ≡ core.old.pc }
+    ensures past { pages.new.past ≡ pages.old.past }
+{
+    let pc = core.pc;
+    *place = pc;
+    if !look_up(pages, decoded, pc, answer) {
+        return false;
+    }
+    let entry = &decoded[(pc / 4 % 1024) as usize];
+    execute::<L>(core, pages, vectors, &entry.decoded, more, answer)
+}
+
+/// One step, alone.
 #[inline(always)]
 pub fn advance<L>(
     core: &mut Core,
@@ -78,13 +115,8 @@ pub fn advance<L>(
     ensures place { place.new ≡ core.old.pc }
     ensures past { pages.new.past ≡ pages.old.past }
 {
-    let pc = core.pc;
-    *place = pc;
-    if !look_up(pages, decoded, pc, answer) {
-        return false;
-    }
-    let entry = &decoded[(pc / 4 % 1024) as usize];
-    execute::<L>(core, pages, vectors, &entry.decoded, answer)
+    let mut more = 0;
+    advance_more::<L>(core, pages, vectors, decoded, place, &mut more, answer)
 }
 
 /// The loop of `go`.
@@ -114,7 +146,16 @@ pub fn go(
     let mut left = steps;
     while left > 0 {
         left -= 1;
-        if advance::<Within>(core, pages, vectors, decoded, &mut place, &mut answer) {
+        let went = advance_more::<Within>(
+            core,
+            pages,
+            vectors,
+            decoded,
+            &mut place,
+            &mut left,
+            &mut answer,
+        );
+        if went {
             continue;
         }
         match answer {

@@ -31,7 +31,7 @@ impl Debuggee for Machine {
     }
 
     fn nzcv(&self) -> u8 {
-        flag_bits(self.core().nzcv)
+        flag_bits(self.core().nzcv.bits())
     }
 
     fn x(&self, n: u32) -> u64 {

@@ -1,15 +1,17 @@
 //! The instruction at a place, by the words that were decoded.
 
-ghost use Rattle.std.specs.Prelude.{◌≡◌, ℕ, ◌/◌, ◌%◌, All, IsTrue, false, slice_index_or};
-ghost use Rattle.guest_types.specs.Memory.{Memory};
-ghost use Rattle.machine_model.specs.OneStep.{step};
+ghost use Rattle.std.specs.Prelude.{◌≡◌, ℕ, ◌+◌, ◌/◌, ◌%◌, ◌^◌, All, IsTrue, IfSome, Some, None, false, slice_index_or};
+ghost use Rattle.guest_types.specs.Memory.{Memory, fetched};
+ghost use Rattle.machine_model.specs.OneStep.{step, do_word};
 ghost use Rattle.machine_model.specs.Answers.{IsAnswer};
 ghost use Rattle.machine_model.specs.Machine.{State};
-ghost use Rattle.sve_machine.specs.DecodedWords.{IsDecodedFrom, Holds};
+ghost use Rattle.a64_machine.specs.Prepared.{prepared_does, branch_after};
+ghost use Rattle.sve_machine.specs.DecodedWords.{IsDecodedFrom, Holds, HoldsAfter, IsAlone, decoded_does};
 
 use crate::decoded::{CacheEntry, Decoded};
 use crate::decoding::decode;
 use crate::ready::ready;
+use a64_machine::{Prepared, with_branch};
 use machine_model::outcome::{Step, Stop, StopKind};
 use paged_memory::pages::Pages;
 
@@ -34,6 +36,58 @@ pub fn stop(kind: StopKind, pc: u64, at: u64, answer: &mut Step) -> bool
     false
 }
 
+// The prepared instruction of the word at a place, where there is one.
+fn prepared_at(pages: &Pages, pc: u64) -> Option<Prepared>
+    ensures { IfSome result (λ prepared. (s : State) → s.pc ≡ pc
+        → do_word (fetched pages.now.memory pc) s ≡ prepared_does prepared s) }
+{
+    let Some(word) = pages.fetch(pc) else {
+        return None;
+    };
+    let Some(instruction) = decode(word) else {
+        return None;
+    };
+    match ready(instruction, pc) {
+        Decoded::Ready(prepared) => Some(prepared),
+        _ => None,
+    }
+}
+
+// A prepared instruction with the branch of the word after it, where both may be done at once.
+fn joined(first: Prepared, next: Option<Prepared>) -> Prepared
+    requires { branch_after first ≡ None }
+    ensures same { (s : State) → prepared_does result s ≡ prepared_does first s }
+    ensures branch { (branch : Prepared) → branch_after result ≡ Some branch → next ≡ Some branch }
+{
+    let Some(branch) = next else {
+        return first;
+    };
+    match with_branch(first, branch) {
+        Some(both) => both,
+        None => first,
+    }
+}
+
+// The place of the word after one.
+fn next_place(pc: u64) -> u64
+    ensures { result ≡ (pc + 4) % 2 ^ 64 }
+{
+    pc.wrapping_add(4)
+}
+
+// What was made ready of a word, with the branch of the word after it, where both may be done at once.
+fn with_next(pages: &Pages, first: Decoded, pc: u64) -> Decoded
+    requires { IsAlone first }
+    ensures same { (s : State) → decoded_does result s ≡ decoded_does first s }
+    ensures after { HoldsAfter pages.now.memory pc result }
+{
+    let Decoded::Ready(prepared) = first else {
+        return first;
+    };
+    let next = prepared_at(pages, next_place(pc));
+    Decoded::Ready(joined(prepared, next))
+}
+
 /// Decodes the word at a place and keeps it: whether there is one, or else the answer there.
 #[cold]
 #[inline(never)]
@@ -52,7 +106,7 @@ fn fill(pages: &Pages, decoded: &mut [CacheEntry; 1024], pc: u64, answer: &mut S
         Some(instruction) => {
             decoded[(pc / 4 % 1024) as usize] = CacheEntry {
                 place: pc,
-                decoded: ready(instruction, pc),
+                decoded: with_next(pages, ready(instruction, pc), pc),
             };
             true
         }

@@ -8,7 +8,7 @@ use crate::history::History;
 use crate::look_up::no_words;
 use crate::snapshot::Snapshot;
 use crate::vectors::Vectors;
-use a64_machine::Core;
+use a64_machine::{Core, FlagState};
 use guest_types::length::Vl;
 use lane_memory::suppress::Suppress;
 use machine_model::outcome::{Ending, Outcome, Step};
@@ -85,7 +85,7 @@ impl Machine {
             x,
             sp: 0,
             pc: entry,
-            nzcv: 0,
+            nzcv: FlagState::Bits(0),
             vzero: 0,
         };
         Machine {

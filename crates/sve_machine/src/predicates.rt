@@ -5,13 +5,13 @@ ghost use Rattle.guest_types.specs.declared.length.Width.TheVariants.{B};
 ghost use Rattle.guest_types.specs.Length.{lanes};
 ghost use Rattle.guest_types.specs.Elements.{active, pred_test};
 ghost use Rattle.sve_code.specs.declared.Sve.{Sve};
-ghost use Rattle.a64_machine.specs.Cores.{flags_in};
+ghost use Rattle.a64_machine.specs.Cores.{flags_kept};
 ghost use Rattle.a64_machine.specs.declared.core_state.Core.{Core as CoreOf};
 ghost use Rattle.sve_machine.specs.Rows.{RowLeaves, logic_flags, is_after, count_width};
 
 use crate::operations::{comparison, logic_op, width_of};
 use crate::vectors::Vectors;
-use a64_machine::{Core, flags_are_kept};
+use a64_machine::{Core, FlagState, flags_are_kept};
 use guest_types::length::{Vl, Width};
 use guest_types::operation::PredOp;
 use guest_types::predicate::PReg;
@@ -28,12 +28,13 @@ use sve_code::{
 // Sets the flags by a predicate under a mask.
 #[inline(always)]
 fn set_flags(core: &mut Core, width: Width, vl: Vl, mask: &PReg, outcome: &PReg)
-    ensures flags { flags_in core.new.nzcv
+    ensures flags { flags_kept core.new.nzcv
         ≡ pred_test (active width mask.now.bits) (active width outcome.now.bits) (lanes vl width) }
     ensures kept { core.new ≡ record core.old { nzcv = core.new.nzcv } }
 {
     flags_are_kept();
-    core.nzcv = pred_test(width, vl, mask, outcome);
+    let bits = pred_test(width, vl, mask, outcome);
+    core.nzcv = FlagState::Bits(bits);
 }
 
 /// "PTRUE", with pattern ALL.
@@ -78,7 +79,7 @@ pub fn while_below(
     let mut out = PReg::none();
     let flags = while_lo_test(width, vl, from, to, &mut out);
     flags_are_kept();
-    core.nzcv = flags;
+    core.nzcv = FlagState::Bits(flags);
     vectors.set_p(pd.number, &out);
 }
 
@@ -96,8 +97,8 @@ pub fn test(core: &mut Core, vectors: &Vectors, pn: PredicateReg, pg: PredicateR
 // Sets the flags where the operation does.
 #[inline(always)]
 fn set_flags_by(core: &mut Core, op: PredicateLogicalOp, vl: Vl, mask: &PReg, outcome: &PReg)
-    ensures flags { flags_in core.new.nzcv
-        ≡ logic_flags op (flags_in core.old.nzcv)
+    ensures flags { flags_kept core.new.nzcv
+        ≡ logic_flags op (flags_kept core.old.nzcv)
         (pred_test (active B mask.now.bits) (active B outcome.now.bits) (lanes vl B)) }
     ensures kept { core.new ≡ record core.old { nzcv = core.new.nzcv } }
 {

@@ -1,29 +1,11 @@
-use Rattle.std.proofs.Common.{◌≡◌, ℕ, Bool, true, false, refl, sym, ap, ◌∙◌}
+use Rattle.std.proofs.Common.{◌≡◌, ℕ, refl, sym, ap, ◌∙◌}
 use Rattle.a64_code.specs.View.{cond_number}
 use Rattle.a64_code.specs.declared.Cond.{Cond}
 use Rattle.guest_types.specs.Elements.{Flags, nzcv}
 use Rattle.machine_model.specs.Arithmetic.{holds}
 use Rattle.a64_machine.specs.Cores.{is_set}
+use Rattle.a64_machine.proofs.FlagCases.{both, each}
 use Rattle.a64_machine.proofs.conditions.holding.Goals as goal
-
-abbrev flags : (n z c v : Bool) → Flags
-flags n z c v = record { n = n; z = z; c = c; v = v }
-
--- a fact of both truths
-record Both (P : Bool → Type 0) : Type 0 where
-  pub yes : P true
-  pub no : P false
-
-both : {P : Bool → Type 0} → P true → P false → Both P
-both y n = record { yes = y; no = n }
-
-either : {P : Bool → Type 0} → Both P → (b : Bool) → P b
-either p true = p.yes
-either p false = p.no
-
--- what is so of each of the sixteen is so of all
-each : (P : Flags → Type 0) → Both (λ n. Both (λ z. Both (λ c. Both (λ v. P (flags n z c v))))) → (n z c v : Bool) → P (flags n z c v)
-each P p n z c v = either (either (either (either p n) z) c) v
 
 -- a number has the bits of the flags by which a condition holds
 abbrev IsHolding : (cond mask : ℕ) → Flags → Type 0

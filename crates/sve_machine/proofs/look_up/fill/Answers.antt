@@ -10,8 +10,8 @@ pub returns-in-Some-decode-clause-decoded : goal.returns-in-Some-decode-clause-d
 returns-in-Some-decode-clause-decoded c =
     let word = sym c.fetch.ensures ∙ c.in-Some.is in
     let reads = sym c.decode.ensures ∙ ap (option_map view_of) c.in-Some-decode.is in
-    All-set (IsDecodedFrom c.args.pages.now.memory) c.args.decoded.now (c.args.pc / 4 % 1024) (record { place = c.args.pc; decoded = c.ready.result })
-    (c.ranges.pc.fits, decoded_slot_does c.args.pages.now.memory c.args.pc c.in-Some.word (view_of c.in-Some-decode.instruction) c.ready.result word reads c.ready.ensures)
+    All-set (IsDecodedFrom c.args.pages.now.memory) c.args.decoded.now (c.args.pc / 4 % 1024) (record { place = c.args.pc; decoded = c.with_next.result })
+    (c.ranges.pc.fits, (λ s at. decoded_slot_does c.args.pages.now.memory c.args.pc c.in-Some.word (view_of c.in-Some-decode.instruction) c.ready.result word reads c.ready.ensures.same s at ∙ sym (c.with_next.ensures.same s), c.with_next.ensures.after))
     c.requires.decoded
 
 pub returns-in_default : goal.returns-in_default
@@ -31,9 +31,9 @@ pub returns-in-Some-decode-clause-found : goal.returns-in-Some-decode-clause-fou
 returns-in-Some-decode-clause-found c d t =
     let word = sym c.fetch.ensures ∙ c.in-Some.is in
     let reads = sym c.decode.ensures ∙ ap (option_map view_of) c.in-Some-decode.is in
-    found_there c.args.pages.now.memory c.args.pc c.args.decoded.now (c.args.pc / 4 % 1024) (record { place = c.args.pc; decoded = c.ready.result }) d
+    found_there c.args.pages.now.memory c.args.pc c.args.decoded.now (c.args.pc / 4 % 1024) (record { place = c.args.pc; decoded = c.with_next.result }) d
     (in_entries c.args.pc _ c.told-decoded)
-    (decoded_slot_does c.args.pages.now.memory c.args.pc c.in-Some.word (view_of c.in-Some-decode.instruction) c.ready.result word reads c.ready.ensures)
+    (λ s at. decoded_slot_does c.args.pages.now.memory c.args.pc c.in-Some.word (view_of c.in-Some-decode.instruction) c.ready.result word reads c.ready.ensures.same s at ∙ sym (c.with_next.ensures.same s), c.with_next.ensures.after)
 
 pub returns-in-Some-decode-clause-stopped : goal.returns-in-Some-decode-clause-stopped
 returns-in-Some-decode-clause-stopped c s e m p = not_found true e refl
@@ -44,3 +44,6 @@ returns-in-None c = record {
   found = λ d t. not_found c.stop-in-None.result c.stop-in-None.ensures.found t;
   stopped = λ s e m p. undefined c.args.pages.now.memory c.args.pc c.in-Some.word c.from.result c.stop-in-None.new.answer s c.stop-in-None.ensures.answer c.from.ensures (sym c.fetch.ensures ∙ c.in-Some.is) (sym c.decode.ensures ∙ ap (option_map view_of) c.in-None.is) m p;
 }
+
+pub with_next-requires : goal.with_next-requires
+with_next-requires c = c.ready.ensures.alone

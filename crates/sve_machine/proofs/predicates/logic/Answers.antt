@@ -2,7 +2,7 @@ use Rattle.std.proofs.Common.{ap, ◌∙◌}
 use Rattle.guest_types.specs.declared.length.Width.TheVariants.{B}
 use Rattle.guest_types.specs.Length.{lanes}
 use Rattle.guest_types.specs.Elements.{active, pred_test}
-use Rattle.a64_machine.specs.Cores.{flags_in}
+use Rattle.a64_machine.specs.Cores.{flags_kept}
 use Rattle.sve_machine.specs.Rows.{logic_flags}
 use Rattle.sve_machine.proofs.PredicateRows.{logic_are, logic_row}
 use Rattle.sve_machine.proofs.predicates.logic.Goals as goal
@@ -19,4 +19,4 @@ returns c =
     c.vl-vl.ensures.sized c.logic_op-operation.ensures c.p-mask.ensures.value
     (logic_are r c.logic_op-operation.result c.args.operands.pg.number c.args.operands.pn.number c.args.operands.pm.number c.p-mask.result.now.bits c.p-left.result.now.bits c.p-right.result.now.bits c.logic_into.new.out.bits (record { value = c.p-mask.ensures.value; shape = c.p-mask.ensures.shape; sized = c.p-mask.ensures.sized }) (record { value = c.p-left.ensures.value; shape = c.p-left.ensures.shape; sized = c.p-left.ensures.sized }) (record { value = c.p-right.ensures.value; shape = c.p-right.ensures.shape; sized = c.p-right.ensures.sized }) c.logic_into.ensures)
     c.set_p.ensures c.set_flags_by.ensures.kept
-    (c.set_flags_by.ensures.flags ∙ ap (λ n. logic_flags c.args.operands.op (flags_in c.args.core.now.nzcv) (pred_test (active B c.p-mask.result.now.bits) (active B c.logic_into.new.out.bits) (lanes n B))) c.vl-vl.ensures.value)
+    (c.set_flags_by.ensures.flags ∙ ap (λ n. logic_flags c.args.operands.op (flags_kept c.args.core.now.nzcv) (pred_test (active B c.p-mask.result.now.bits) (active B c.logic_into.new.out.bits) (lanes n B))) c.vl-vl.ensures.value)
