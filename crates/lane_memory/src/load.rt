@@ -131,11 +131,14 @@ fn load_any(
 {
     let reading = Reading::new(load.row, load.base, load.index);
     let lanes = vl.lanes(reading.element) as usize;
-    let masked = Masked { reading, pg, lanes };
     match load.mode {
         LoadMode::Plain => load_plain(pages, reading, pg, lanes, out),
-        LoadMode::FirstFault => load_first_fault(pages, &masked, ffr, stops, out),
+        LoadMode::FirstFault => {
+            let masked = Masked { reading, pg, lanes };
+            load_first_fault(pages, &masked, ffr, stops, out)
+        }
         LoadMode::NonFault => {
+            let masked = Masked { reading, pg, lanes };
             load_early(pages, &masked, 0, ffr, stops, out);
             Ok(())
         }
