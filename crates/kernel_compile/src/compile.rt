@@ -3,6 +3,7 @@
 ghost use Rattle.std.specs.Prelude.{◌≡◌, ◌+◌, ◌*◌, ◌≤◌, None, false, All, IfErr, IfOk, OnOk, length};
 ghost use Rattle.kernel_tree.specs.Items.{size_of};
 ghost use Rattle.loop_form.specs.View.{program};
+ghost use Rattle.loop_lists.specs.ItemLists.{AreItems};
 ghost use Rattle.machine_model.specs.Written.{file_of};
 ghost use Rattle.dependence.specs.Bound.{is_vector};
 ghost use Rattle.dependence.specs.Classes.{class_of};
@@ -15,13 +16,13 @@ ghost use Rattle.kernel_compile.specs.Drafted.{AreDrafted, FollowsClosely};
 ghost use Rattle.kernel_compile.specs.Words.{close_words};
 
 use crate::emit::{emit_scalar_code, emit_vector_code};
+use crate::laws;
 use crate::registers::{scalar_registers, vector_registers};
 use dependence::reason::Class;
 use kernel_tree::Checked;
-use kernel_tree::laws::few_params;
-use loop_class::class;
-use loop_lists::loop_facts;
-use promises::{CompileFault, faithful_files, scalar_files};
+use loop_class::class_by;
+use loop_lists::{Items, list_items, loop_facts_by};
+use promises::CompileFault;
 use std::alloc::Global;
 
 /// The words of a compiled kernel, in their order from the first to be executed.
@@ -44,8 +45,8 @@ pub fn compile_kernel(alloc: Global, kernel: &Checked) -> Result<Code, CompileFa
     ensures enough { OnOk result (too_many (program kernel.now) ≡ None) }
     ensures refusal { IfErr result (IsRefusal (program kernel.now)) }
 {
-    few_params(kernel);
-    faithful_files();
+    laws::few_params(kernel);
+    laws::faithful_files();
     let words = words_of_class(alloc, kernel)?;
     Ok(Code { words })
 }
@@ -62,14 +63,20 @@ fn words_of_class(alloc: Global, kernel: &Checked) -> Result<Vec<u32>, CompileFa
     ensures enough { OnOk result (too_many (program kernel.now) ≡ None) }
     ensures refusal { IfErr result (IsRefusal (program kernel.now)) }
 {
-    match class(kernel) {
-        Class::Vector => vector_words(alloc, kernel),
-        Class::Scalar { .. } => scalar_words(alloc, kernel),
+    let items = list_items(kernel);
+    match class_by(kernel, &items.looped) {
+        Class::Vector => vector_words(alloc, kernel, &items),
+        Class::Scalar { .. } => scalar_words(alloc, kernel, &items),
     }
 }
 
-fn scalar_words(alloc: Global, kernel: &Checked) -> Result<Vec<u32>, CompileFault>
-    requires { is_vector (class_of (program kernel.now)) ≡ false }
+fn scalar_words(
+    alloc: Global,
+    kernel: &Checked,
+    items: &Items<'_>,
+) -> Result<Vec<u32>, CompileFault>
+    requires items { AreItems (program kernel.now) items.now }
+    requires class { is_vector (class_of (program kernel.now)) ≡ false }
     ensures close { IfOk result (λ words. CloseFaithful (program kernel.now) (file_of words.items)) }
     ensures ends { IfOk result (λ words. FreeEnds (program kernel.now) (file_of words.items)) }
     ensures short { IfOk result (λ words. length words.items ≤ 1000 + 60 * size_of (program kernel.now)) }
@@ -80,16 +87,21 @@ fn scalar_words(alloc: Global, kernel: &Checked) -> Result<Vec<u32>, CompileFaul
     ensures enough { OnOk result (too_many (program kernel.now) ≡ None) }
     ensures refusal { IfErr result (IsRefusal (program kernel.now)) }
 {
-    few_params(kernel);
-    faithful_files();
-    scalar_files();
-    let regs = scalar_registers(alloc, kernel)?;
-    let words = emit_scalar_code(alloc, kernel, &regs)?;
+    laws::few_params(kernel);
+    laws::faithful_files();
+    laws::scalar_files();
+    let regs = scalar_registers(alloc, kernel, items)?;
+    let words = emit_scalar_code(alloc, kernel, &items.all, &regs)?;
     Ok(words)
 }
 
-fn vector_words(alloc: Global, kernel: &Checked) -> Result<Vec<u32>, CompileFault>
-    requires { class_of (program kernel.now) ≡ Vector }
+fn vector_words(
+    alloc: Global,
+    kernel: &Checked,
+    items: &Items<'_>,
+) -> Result<Vec<u32>, CompileFault>
+    requires items { AreItems (program kernel.now) items.now }
+    requires class { class_of (program kernel.now) ≡ Vector }
     ensures close { IfOk result (λ words. CloseFaithful (program kernel.now) (file_of words.items)) }
     ensures ends { IfOk result (λ words. FreeEnds (program kernel.now) (file_of words.items)) }
     ensures short { IfOk result (λ words. length words.items ≤ 1000 + 60 * size_of (program kernel.now)) }
@@ -100,8 +112,8 @@ fn vector_words(alloc: Global, kernel: &Checked) -> Result<Vec<u32>, CompileFaul
     ensures enough { OnOk result (too_many (program kernel.now) ≡ None) }
     ensures refusal { IfErr result (IsRefusal (program kernel.now)) }
 {
-    let regs = vector_registers(alloc, kernel)?;
-    let facts = loop_facts(alloc, kernel)?;
-    let words = emit_vector_code(alloc, &facts, &regs)?;
+    let regs = vector_registers(alloc, kernel, items)?;
+    let facts = loop_facts_by(alloc, kernel, items)?;
+    let words = emit_vector_code(alloc, &items.looped, &facts, &regs)?;
     Ok(words)
 }

@@ -3,6 +3,7 @@
 
 mod compile;
 mod emit;
+mod laws;
 mod registers;
 
 pub use compile::{Code, compile_kernel};

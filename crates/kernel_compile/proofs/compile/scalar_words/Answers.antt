@@ -23,7 +23,7 @@ few kernel h = h
 
 pub returns-clause-close : goal.returns-clause-close
 returns-clause-close c =
-    let why = why_scalar (class_of (program c.args.kernel.now)) c.requires in
+    let why = why_scalar (class_of (program c.args.kernel.now)) c.requires.class in
     c.scalar_files.ensures.close (program c.args.kernel.now) (file_of c.in_ok-words.words.items) why.0 why.1 c.in_ok-words.ensures.faithful
 
 pub returns-clause-counted : goal.returns-clause-counted
@@ -33,11 +33,11 @@ pub returns-clause-ends : goal.returns-clause-ends
 returns-clause-ends c =
     let k = program c.args.kernel.now in
     let file = file_of c.in_ok-words.words.items in
-    let why = why_scalar (class_of k) c.requires in
+    let why = why_scalar (class_of k) c.requires.class in
     c.faithful_files.ensures.ends k file (c.scalar_files.ensures.slow k file why.0 why.1 (few c.args.kernel.now c.few_params.ensures) c.in_ok-words.ensures.faithful)
 
 pub returns-clause-drafted : goal.returns-clause-drafted
 returns-clause-drafted c =
     let k = program c.args.kernel.now in
-    let why = why_scalar (class_of k) c.requires in
+    let why = why_scalar (class_of k) c.requires.class in
     slow_is_close k c.in_ok-words.words.items why.0 why.1 (few c.args.kernel.now c.few_params.ensures) c.in_ok-words.ensures.drafted

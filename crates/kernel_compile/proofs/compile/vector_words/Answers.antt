@@ -1,6 +1,7 @@
 use Rattle.std.proofs.Common.{◌≤◌, ◌+◌, ◌*◌, length, ap, sym, ◌∙◌, subst}
 use Rattle.std.proofs.lemmas.Result.{IfOk-from_err}
 use Rattle.kernel_tree.specs.Items.{size_of}
+use Rattle.loop_form.specs.Entries.{loop_entries}
 use Rattle.loop_form.specs.Registers.{FitsKernel}
 use Rattle.reg_assign.specs.declared.interval.RegClass.TheVariants.{Z, P, X}
 use Rattle.promises.specs.declared.fault.CompileFault.TheVariants.{Memory}
@@ -8,7 +9,7 @@ use Rattle.promises.specs.Refusals.{IsRefusal}
 use Rattle.guest_types.proofs.Errors.{on_error}
 use Rattle.kernel_compile.proofs.Tried.{on_fault}
 use Rattle.kernel_tree.specs.declared.checked.Checked.{Checked}
-use Rattle.loop_form.specs.View.{program}
+use Rattle.loop_form.specs.View.{program, entries_view}
 use Rattle.machine_model.specs.Written.{file_of}
 use Rattle.dependence.specs.Classes.{class_of}
 use Rattle.promises.specs.Faithful.{FreeEnds, CloseFaithful}
@@ -18,7 +19,8 @@ use Rattle.kernel_compile.proofs.compile.vector_words.Goals as goal
 
 pub emit_vector_code-requires : goal.emit_vector_code-requires
 emit_vector_code-requires c = record {
-  class = ap (λ (kernel : Checked). class_of (program kernel)) c.in_ok-facts.ensures ∙ c.requires;
+  items = ap entries_view c.deref.ensures.0 ∙ c.requires.items.1 ∙ ap (λ (kernel : Checked). loop_entries (program kernel)) (sym c.in_ok-facts.ensures);
+  class = ap (λ (kernel : Checked). class_of (program kernel)) c.in_ok-facts.ensures ∙ c.requires.class;
   vectors = subst (λ (kernel : Checked). FitsKernel (program kernel) Z c.in_ok-regs.regs.z) (sym c.in_ok-facts.ensures) c.in_ok-regs.ensures.vectors;
   predicates = subst (λ (kernel : Checked). FitsKernel (program kernel) P c.in_ok-regs.regs.p) (sym c.in_ok-facts.ensures) c.in_ok-regs.ensures.predicates;
   scalars = subst (λ (kernel : Checked). FitsKernel (program kernel) X c.in_ok-regs.regs.x) (sym c.in_ok-facts.ensures) c.in_ok-regs.ensures.scalars;

@@ -61,8 +61,8 @@ place-requires c = record {
   given = omega (arith, c.in_ok-vector.ensures.next, c.in_ok-vector.ensures.count, c.in_ok-emit_begin.ensures.emits.labels, c.in_ok-branch.ensures.labels, c.in_ok-scalar.ensures.emits.labels);
 }
 
-pub guard-requires : goal.guard-requires
-guard-requires c = record { failed = label_placed (program c.args.facts.now.kernel.now) _ _ _ _ c.in_ok-scalar.ensures.entry c.in_ok-scalar.ensures.emits.labels c.in_ok-place.ensures.labels }
+pub guard_by-requires : goal.guard_by-requires
+guard_by-requires c = record { items = c.requires.items; failed = label_placed (program c.args.facts.now.kernel.now) _ _ _ _ c.in_ok-scalar.ensures.entry c.in_ok-scalar.ensures.emits.labels c.in_ok-place.ensures.labels }
 
 pub emit_vector-requires : goal.emit_vector-requires
 emit_vector-requires c = record {
@@ -70,15 +70,15 @@ emit_vector-requires c = record {
   vectors = c.requires.vectors;
   predicates = c.requires.predicates;
   scalars = c.requires.scalars;
-  given = label_given (program c.args.facts.now.kernel.now) _ _ _ _ _ c.in_ok-scalar.ensures.entry c.in_ok-scalar.ensures.emits.labels c.in_ok-place.ensures.labels c.in_ok-guard.ensures.emits.labels;
+  given = label_given (program c.args.facts.now.kernel.now) _ _ _ _ _ c.in_ok-scalar.ensures.entry c.in_ok-scalar.ensures.emits.labels c.in_ok-place.ensures.labels c.in_ok-guard_by.ensures.emits.labels;
 }
 
 pub finish-requires : goal.finish-requires
 finish-requires c =
     let k = program c.args.facts.now.kernel.now in
     let R = register_in c.args.regs.now.x in
-    let d : Emitted R k c.args.regs.now.z c.args.regs.now.p c.in_ok-vector.vector c.in_ok-scalar.field-0.at_iteration c.new-draft.result.labels c.label.new.self.labels c.emit_begin.new.draft.labels c.branch-draft.new.self.labels c.emit_scalar.new.draft.labels c.place.new.self.labels c.guard.new.draft.labels
-    c.new-draft.result.entries c.label.new.self.entries c.emit_begin.new.draft.entries c.branch-draft.new.self.entries c.emit_scalar.new.draft.entries c.place.new.self.entries c.guard.new.draft.entries c.emit_vector.new.draft.entries =
+    let d : Emitted R k c.args.regs.now.z c.args.regs.now.p c.in_ok-vector.vector c.in_ok-scalar.field-0.at_iteration c.new-draft.result.labels c.label.new.self.labels c.emit_begin.new.draft.labels c.branch-draft.new.self.labels c.emit_scalar.new.draft.labels c.place.new.self.labels c.guard_by.new.draft.labels
+    c.new-draft.result.entries c.label.new.self.entries c.emit_begin.new.draft.entries c.branch-draft.new.self.entries c.emit_scalar.new.draft.entries c.place.new.self.entries c.guard_by.new.draft.entries c.emit_vector.new.draft.entries =
     record {
       none = c.new-draft.ensures.entries;
       first = c.new-draft.ensures.labels;
@@ -94,16 +94,16 @@ finish-requires c =
       loop = c.in_ok-scalar.ensures.emits.code;
       placed = c.in_ok-place.ensures.labels;
       place = c.in_ok-place.ensures.code;
-      guarded = c.in_ok-guard.ensures.emits.labels;
-      guard = c.in_ok-guard.ensures.emits.code;
+      guarded = c.in_ok-guard_by.ensures.emits.labels;
+      guard = c.in_ok-guard_by.ensures.emits.code;
       lanes = c.in_ok-emit_vector.ensures.emits.code;
     } in
-    let few = vector_code_words_le d c.in_ok-emit_begin.ensures.words c.in_ok-scalar.ensures.words c.in_ok-guard.ensures.words c.in_ok-emit_vector.ensures.words in
+    let few = vector_code_words_le d c.in_ok-emit_begin.ensures.words c.in_ok-scalar.ensures.words c.in_ok-guard_by.ensures.words c.in_ok-emit_vector.ensures.words in
     record { few = omega (arith, few, c.few_items.ensures.size) }
 
 -- the drafts, one after another
 drafts : (c : goal.After-have_32_bits)
-    → Emitted (register_in c.args.regs.now.x) (program c.args.facts.now.kernel.now) c.args.regs.now.z c.args.regs.now.p c.in_ok-vector.vector c.in_ok-scalar.field-0.at_iteration c.new-draft.result.labels c.label.new.self.labels c.emit_begin.new.draft.labels c.branch-draft.new.self.labels c.emit_scalar.new.draft.labels c.place.new.self.labels c.guard.new.draft.labels c.new-draft.result.entries c.label.new.self.entries c.emit_begin.new.draft.entries c.branch-draft.new.self.entries c.emit_scalar.new.draft.entries c.place.new.self.entries c.guard.new.draft.entries c.emit_vector.new.draft.entries
+    → Emitted (register_in c.args.regs.now.x) (program c.args.facts.now.kernel.now) c.args.regs.now.z c.args.regs.now.p c.in_ok-vector.vector c.in_ok-scalar.field-0.at_iteration c.new-draft.result.labels c.label.new.self.labels c.emit_begin.new.draft.labels c.branch-draft.new.self.labels c.emit_scalar.new.draft.labels c.place.new.self.labels c.guard_by.new.draft.labels c.new-draft.result.entries c.label.new.self.entries c.emit_begin.new.draft.entries c.branch-draft.new.self.entries c.emit_scalar.new.draft.entries c.place.new.self.entries c.guard_by.new.draft.entries c.emit_vector.new.draft.entries
 drafts c = record {
   none = c.new-draft.ensures.entries;
   first = c.new-draft.ensures.labels;
@@ -119,15 +119,15 @@ drafts c = record {
   loop = c.in_ok-scalar.ensures.emits.code;
   placed = c.in_ok-place.ensures.labels;
   place = c.in_ok-place.ensures.code;
-  guarded = c.in_ok-guard.ensures.emits.labels;
-  guard = c.in_ok-guard.ensures.emits.code;
+  guarded = c.in_ok-guard_by.ensures.emits.labels;
+  guard = c.in_ok-guard_by.ensures.emits.code;
   lanes = c.in_ok-emit_vector.ensures.emits.code;
 }
 
 pub returns-clause-short : goal.returns-clause-short
 returns-clause-short c =
     let k = program c.args.facts.now.kernel.now in
-    let few = vector_code_words_le (drafts c) c.in_ok-emit_begin.ensures.words c.in_ok-scalar.ensures.words c.in_ok-guard.ensures.words c.in_ok-emit_vector.ensures.words in
+    let few = vector_code_words_le (drafts c) c.in_ok-emit_begin.ensures.words c.in_ok-scalar.ensures.words c.in_ok-guard_by.ensures.words c.in_ok-emit_vector.ensures.words in
     let n = ap length c.in_ok-words.ensures.words in
     omega (arith, few, n, words_length c.emit_vector.new.draft.entries)
 
@@ -135,7 +135,7 @@ pub returns-clause-counted : goal.returns-clause-counted
 returns-clause-counted c =
     let k = program c.args.facts.now.kernel.now in
     let same = ap size (is_whole (drafts c)).all in
-    let few = whole_size (register_in c.args.regs.now.x) k c.args.regs.now.z c.args.regs.now.p c.branch-draft.new.self.labels c.place.new.self.labels c.guard.new.draft.labels c.requires.class in
+    let few = whole_size (register_in c.args.regs.now.x) k c.args.regs.now.z c.args.regs.now.p c.branch-draft.new.self.labels c.place.new.self.labels c.guard_by.new.draft.labels c.requires.class in
     let n = ap length c.in_ok-words.ensures.words in
     omega (arith, same, few, n, words_length c.emit_vector.new.draft.entries)
 
@@ -161,7 +161,7 @@ registers_are_joined c =
 promised : (c : goal.After-have_32_bits) → Promised (program c.args.facts.now.kernel.now) (file_of c.in_ok-words.words.items)
 promised c =
     let k = program c.args.facts.now.kernel.now in
-    let few = vector_code_words_le (drafts c) c.in_ok-emit_begin.ensures.words c.in_ok-scalar.ensures.words c.in_ok-guard.ensures.words c.in_ok-emit_vector.ensures.words in
+    let few = vector_code_words_le (drafts c) c.in_ok-emit_begin.ensures.words c.in_ok-scalar.ensures.words c.in_ok-guard_by.ensures.words c.in_ok-emit_vector.ensures.words in
     let small : All (λ w. w < 2 ^ 32) c.in_ok-words.words.items = subst (λ ws. All (λ w. w < 2 ^ 32) ws) c.deref-3.ensures.value c.have_32_bits.ensures in
     vector_file k c.args.regs.now.z c.args.regs.now.p c.args.regs.now.x c.emit_vector.new.draft.labels _ _ _ c.emit_vector.new.draft.entries c.in_ok-words.words.items (registers_are_joined c) (is_whole (drafts c)) c.in_ok-words.ensures.fit (omega (arith, few, c.few_items.ensures.size)) c.in_ok-words.ensures.words small
 
@@ -175,7 +175,7 @@ returns-clause-ends c = (promised c).ends
 alone : (c : goal.After-have_32_bits) → AreAlone 1 c.emit_vector.new.draft.entries
 alone c =
     let scalar = c.in_ok-scalar.field-0.at_iteration in
-    lanes_alone (drafts c) (c.scalar_code_leaves.ensures.begin c.label.new.self.labels) (c.scalar_code_leaves.ensures.scalar c.branch-draft.new.self.labels) (c.guard_leaves.ensures (program c.args.facts.now.kernel.now) scalar c.place.new.self.labels) (c.vector_code_leaves.ensures c.args.regs.now.z c.args.regs.now.p scalar c.guard.new.draft.labels)
+    lanes_alone (drafts c) (c.scalar_code_leaves.ensures.begin c.label.new.self.labels) (c.scalar_code_leaves.ensures.scalar c.branch-draft.new.self.labels) (c.guard_leaves.ensures (program c.args.facts.now.kernel.now) scalar c.place.new.self.labels) (c.vector_code_leaves.ensures c.args.regs.now.z c.args.regs.now.p scalar c.guard_by.new.draft.labels)
 
 pub returns-clause-reserved : goal.returns-clause-reserved
 returns-clause-reserved c = subst (λ ws. All LeavesReserved ws) (sym c.in_ok-words.ensures.words) (c.words_leave.ensures c.emit_vector.new.draft.labels 1 c.emit_vector.new.draft.entries c.in_ok-words.ensures.fit (alone c))
@@ -186,7 +186,7 @@ returns-clause-one_exit c = subst HasOneExit (sym c.in_ok-words.ensures.words) (
 pub returns-clause-drafted : goal.returns-clause-drafted
 returns-clause-drafted c =
     let k = program c.args.facts.now.kernel.now in
-    let few = vector_code_words_le (drafts c) c.in_ok-emit_begin.ensures.words c.in_ok-scalar.ensures.words c.in_ok-guard.ensures.words c.in_ok-emit_vector.ensures.words in
+    let few = vector_code_words_le (drafts c) c.in_ok-emit_begin.ensures.words c.in_ok-scalar.ensures.words c.in_ok-guard_by.ensures.words c.in_ok-emit_vector.ensures.words in
     let follows = vector_followed k c.args.regs.now.z c.args.regs.now.p c.args.regs.now.x c.emit_vector.new.draft.labels _ _ _ c.emit_vector.new.draft.entries (registers_are_joined c) (is_whole (drafts c)) c.in_ok-words.ensures.fit in
     record {
       entries = c.emit_vector.new.draft.entries;
@@ -225,9 +225,9 @@ returns-in_err-place c =
     let failed = c.from_residual-in_err-place.ensures.0 in
     record { close = IfOk-from_err _ _ failed; ends = IfOk-from_err _ _ failed; short = IfOk-from_err _ _ failed; counted = IfOk-from_err _ _ failed; reserved = IfOk-from_err _ _ failed; one_exit = IfOk-from_err _ _ failed; drafted = IfOk-from_err _ _ failed }
 
-pub returns-in_err-guard : goal.returns-in_err-guard
-returns-in_err-guard c =
-    let failed = c.from_residual-in_err-guard.ensures.0 in
+pub returns-in_err-guard_by : goal.returns-in_err-guard_by
+returns-in_err-guard_by c =
+    let failed = c.from_residual-in_err-guard_by.ensures.0 in
     record { close = IfOk-from_err _ _ failed; ends = IfOk-from_err _ _ failed; short = IfOk-from_err _ _ failed; counted = IfOk-from_err _ _ failed; reserved = IfOk-from_err _ _ failed; one_exit = IfOk-from_err _ _ failed; drafted = IfOk-from_err _ _ failed }
 
 pub returns-in_err-emit_vector : goal.returns-in_err-emit_vector

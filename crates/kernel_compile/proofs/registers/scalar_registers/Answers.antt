@@ -12,6 +12,6 @@ returns c =
     let k = program c.args.kernel.now in
     record {
       fits = c.class_registers.ensures.fits;
-      enough = on_ok_weaker c.class_registers.result (λ e. scalar_enough k c.requires e) c.class_registers.ensures.enough;
-      refusal = on_fault_too (IsRefusalIn (needs_of k) (X ∷ [])) (IsRefusal k) c.class_registers.result (λ fault h. scalar_refused k fault c.requires h) c.class_registers.ensures.refusal;
+      enough = on_ok_weaker c.class_registers.result (λ e. scalar_enough k c.requires.class e) c.class_registers.ensures.enough;
+      refusal = on_fault_too (IsRefusalIn (needs_of k) (X ∷ [])) (IsRefusal k) c.class_registers.result (λ fault h. scalar_refused k fault c.requires.class h) c.class_registers.ensures.refusal;
     }

@@ -15,7 +15,7 @@ returns-in_err-z c =
       predicates = IfOk-from_err _ _ failed;
       scalars = IfOk-from_err _ _ failed;
       enough = on_error _ _ failed;
-      refusal = on_fault (IsRefusal k) fault _ c.from_residual.ensures.1 (refused_at_z k fault c.requires c.in_err-z.ensures.refusal);
+      refusal = on_fault (IsRefusal k) fault _ c.from_residual.ensures.1 (refused_at_z k fault c.requires.class c.in_err-z.ensures.refusal);
     }
 
 pub returns-in_err-p : goal.returns-in_err-p
@@ -28,7 +28,7 @@ returns-in_err-p c =
       predicates = IfOk-from_err _ _ failed;
       scalars = IfOk-from_err _ _ failed;
       enough = on_error _ _ failed;
-      refusal = on_fault (IsRefusal k) fault _ c.from_residual-in_err-p.ensures.1 (refused_at_p k fault c.requires c.in_ok-z.ensures.enough c.in_err-p.ensures.refusal);
+      refusal = on_fault (IsRefusal k) fault _ c.from_residual-in_err-p.ensures.1 (refused_at_p k fault c.requires.class c.in_ok-z.ensures.enough c.in_err-p.ensures.refusal);
     }
 
 pub returns-in_err-x : goal.returns-in_err-x
@@ -41,7 +41,7 @@ returns-in_err-x c =
       predicates = IfOk-from_err _ _ failed;
       scalars = IfOk-from_err _ _ failed;
       enough = on_error _ _ failed;
-      refusal = on_fault (IsRefusal k) fault _ c.from_residual-in_err-x.ensures.1 (refused_at_x k fault c.requires c.in_ok-z.ensures.enough c.in_ok-p.ensures.enough c.in_err-x.ensures.refusal);
+      refusal = on_fault (IsRefusal k) fault _ c.from_residual-in_err-x.ensures.1 (refused_at_x k fault c.requires.class c.in_ok-z.ensures.enough c.in_ok-p.ensures.enough c.in_err-x.ensures.refusal);
     }
 
 pub returns : goal.returns
@@ -49,6 +49,6 @@ returns c = record {
   vectors = c.in_ok-z.ensures.fits;
   predicates = c.in_ok-p.ensures.fits;
   scalars = c.in_ok-x.ensures.fits;
-  enough = vector_enough (program c.args.kernel.now) c.requires c.in_ok-z.ensures.enough c.in_ok-p.ensures.enough c.in_ok-x.ensures.enough;
+  enough = vector_enough (program c.args.kernel.now) c.requires.class c.in_ok-z.ensures.enough c.in_ok-p.ensures.enough c.in_ok-x.ensures.enough;
   refusal = tt;
 }
