@@ -27,7 +27,7 @@ returns-clause-close c =
     c.scalar_files.ensures.close (program c.args.kernel.now) (file_of c.in_ok-words.words.items) why.0 why.1 c.in_ok-words.ensures.faithful
 
 pub returns-clause-counted : goal.returns-clause-counted
-returns-clause-counted c = let n = c.in_ok-words.ensures.counted in scalar_counted (program c.args.kernel.now) c.requires (length c.in_ok-words.words.items) n
+returns-clause-counted c = let n = c.in_ok-words.ensures.counted in scalar_counted (program c.args.kernel.now) c.requires.class (length c.in_ok-words.words.items) n
 
 pub returns-clause-ends : goal.returns-clause-ends
 returns-clause-ends c =
