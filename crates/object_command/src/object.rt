@@ -4,7 +4,7 @@ ghost use Rattle.command_answers.specs.Requests.{Asks, IsOk, Read, Write};
 ghost use Rattle.command_answers.specs.Answer.{IsFileAnswer, IsKept, Unwritten, answer_of};
 ghost use Rattle.command_answers.specs.Reads.{ChangesOnly};
 ghost use Rattle.command_answers.specs.Works.{WhereExpected, ended};
-ghost use Rattle.compile_command.specs.Compiles.{CompileExpects, ExpectsCompile, IsOfCompile, RefusesCompile, compiled, of_compile};
+ghost use Rattle.compile_command.specs.Compiles.{CompileExpects, ExpectsCompile, IsOfCompile, RefusesCompile, compiled};
 ghost use Rattle.io_edges.specs.Files.{Rose, content};
 ghost use Rattle.kernel_commands.specs.Commands.{RefusesText};
 ghost use Rattle.kernel_tree.specs.Checked.{kernel_of};
@@ -13,25 +13,15 @@ ghost use Rattle.object_command.specs.Objects.{HoldsFunction, IsObjectOf, Object
 ghost use Rattle.std.specs.Prelude.{◌≡◌, ◌≢◌, ◌∷◌, [], Err, IfErr, IfOk, IfSome, IsSome, IsTrue, OnOk};
 
 use command_answers::files::read_file;
+use compile_command::compile::of_compile;
 use io_edges::files::Files;
 use kernel_call::kernel_function;
 use kernel_front::accept;
 use kernel_tree::Checked;
 use loop_form::laws::few_items;
 use object_file::write_object;
-use promises::CompileFault;
 use refusals::refusal::{Done, Refusal};
 use std::alloc::Global;
-
-// The refusal that a fault of the compiler is.
-fn of_compile(fault: CompileFault) -> Refusal
-    ensures { result ≡ of_compile fault }
-{
-    match fault {
-        CompileFault::TooManyLive { class, need } => Refusal::TooManyLive { class, need },
-        CompileFault::Memory => Refusal::Memory,
-    }
-}
 
 // The object of a kernel.
 fn made(alloc: Global, kernel: &Checked) -> Result<Vec<u8>, Refusal>
