@@ -114,6 +114,7 @@ function listen() {
   const on = (id, kind, work) => $(id).addEventListener(kind, (event) => guarded(() => work(event)));
   on("example", "change", (event) => pick(EXAMPLES[event.target.value]));
   $("text").addEventListener("input", kernelTyped);
+  listenToListing();
   document.addEventListener("selectionchange", caretMoved);
   on("layout", "click", () => (($("text").value = laidOut($("text").value)), kernelChanged()));
   $("map").addEventListener("input", () => later(callChanged));

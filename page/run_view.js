@@ -8,6 +8,7 @@ function showState(steps, from) {
   if (!model.run || !model.film) return;
   model.stand(steps, from);
   const { states, last, next, isEnd } = model;
+  wholeListing();
   model.rows.forEach((it) => it.element.classList.remove("next", "done"));
   if (last) last.element.classList.add("done");
   if (next) next.element.classList.add("next");

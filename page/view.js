@@ -17,7 +17,7 @@ const made = (tag, attributes = {}, ...inner) => {
 const said = (text) => text.split("*").map((it) => it.replaceAll(PRODUCT, "*")).map((it, n) => (n % 2 ? made("b", {}, it) : it));
 
 // The page's state: the model, and what the views keep.
-const S = { model: null, marks: [], lit: null, cost: null };
+const S = { model: null, marks: [], lit: null, cost: null, unshown: [] };
 
 function paint(text, marks) {
   const edges = new Set([0, text.length]), tokens = tokensOf(text), spans = [];
